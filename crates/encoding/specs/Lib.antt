@@ -1,0 +1,8 @@
+pub mod Width
+pub mod Literal
+pub mod Variables
+pub mod Counter
+pub mod Clauses
+pub mod Fill
+pub mod Examples
+pub mod Facts

@@ -1,0 +1,10 @@
+-- Bools: `So`, conjunction and disjunction
+-- Tests: all, any, allTo, anyTo, by places and over appended, mapped and joined lists
+-- Tables: lengths and elements of tab, each and keep; sums
+-- First: the first number that passes
+-- Growing: a growing row of sets of the numbers 1 to n rests within n steps
+pub mod Bools
+pub mod Tests
+pub mod Tables
+pub mod First
+pub mod Growing

@@ -1,0 +1,48 @@
+-- Computed facts about the definitions of this crate: a wrong definition breaks one of them.
+-- Assumes nothing.
+use Prim.Native.Nat.{ℕ, zero, suc}
+use mathlib.Core.Path.{_≡_, refl}
+use mathlib.Core.Bool.{true, false, So, false≢true}
+use mathlib.Core.List.{[], _∷_, map}
+use Rattle.lists.specs.Lists.{tab}
+use Rattle.meaning.specs.Program.{wellFormed}
+use Rattle.meaning.specs.Stage.{reduct, stage, Stable, level, levelIn, differ}
+use Rattle.meaning.specs.Samples.{setOf, program, rule, fact, ring, lecture, selfNegating, blocked}
+
+-- document 001's example: the levels of its atoms are 1, 2 and 3, and the fourth has none
+lecture-levels : tab 4 (level lecture (setOf (1 ∷ 2 ∷ 3 ∷ []))) ≡ 1 ∷ 2 ∷ 3 ∷ 0 ∷ []
+unfolding levelIn stage reduct
+lecture-levels = refl
+
+-- atom 2 is in the reduct's stages although the rule for 1 is not kept
+blocked-levels : tab 2 (level blocked (setOf (2 ∷ []))) ≡ 0 ∷ 1 ∷ []
+unfolding levelIn stage reduct
+blocked-levels = refl
+
+-- a set may lack an atom of its least model, or hold one too many: both tell, and the smallest atom is named
+spots : differ fact (setOf []) ∷ differ ring (setOf (1 ∷ 2 ∷ [])) ∷ differ ring (setOf []) ∷ differ selfNegating (setOf []) ∷ differ selfNegating (setOf (1 ∷ [])) ∷ []
+    ≡ 1 ∷ 1 ∷ 0 ∷ 1 ∷ 1 ∷ []
+unfolding differ stage reduct
+spots = refl
+
+-- the empty set is no stable model of a fact: it lacks the fact
+empty-lacks-fact : Stable fact (setOf []) → ⊥
+unfolding stage reduct
+empty-lacks-fact s = false≢true (s .closed 1 (1, refl))
+
+-- an atom that no rule gives is in no stable model
+unfounded-one : Stable (program 1 []) (setOf (1 ∷ [])) → ⊥
+unfolding stage reduct
+unfounded-one s = let u = s .founded 1 refl in none (u .0) (u .1)
+  where
+    none : (i : ℕ) → So (stage (reduct (program 1 []) (setOf (1 ∷ []))) i 1) → ⊥
+    none zero t = false≢true t
+    none (suc i) t = false≢true t
+
+-- the atoms of a well-formed program are 1 to n, in heads and in both lists
+ranges : map wellFormed
+    (program 1 (rule 0 [] [] ∷ []) ∷ program 1 (rule 2 [] [] ∷ []) ∷ program 1 (rule 1 (2 ∷ []) [] ∷ [])
+      ∷ program 1 (rule 1 [] (0 ∷ []) ∷ []) ∷ lecture ∷ [])
+    ≡ false ∷ false ∷ false ∷ false ∷ true ∷ []
+unfolding wellFormed
+ranges = refl

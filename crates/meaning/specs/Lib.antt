@@ -1,0 +1,5 @@
+pub mod Program
+pub mod Stage
+pub mod Numbering
+pub mod Samples
+pub mod Facts

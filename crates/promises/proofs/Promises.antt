@@ -1,0 +1,220 @@
+-- What is proved, in one file: each statement in full, a plain sentence above it, and the name of its proof.
+-- What a statement names is found in the specs/ folders of the crates that the `use` lines give.
+--   1  Meaning: least models, stable models and level numbers (document 01, "Meaning"; document 001)
+--   2  Encoding: width, variables and clauses (document 01, "Variables" and "Clauses, in order")
+--   3  Demand 3 for assignments: stable models and satisfying assignments correspond, one to one
+--   4  Document 01's examples and wrong turns
+-- Nothing is assumed: a hypothesis of a statement is met by every well-formed program.
+use Prim.Native.Nat.{ℕ, zero, suc, _+_, _-_, _*_, _^_, _%_, _≤_, _<_}
+use mathlib.Core.Path.{_≡_}
+use mathlib.Core.Logic.{_↔_}
+use mathlib.Core.Bool.{Bool, true, false, not, So}
+use mathlib.Core.List.{List, [], _∷_, map}
+use lib.Count.{leadingZeros}
+use lib.Dec.{eqb, ltb}
+use lib.ListN.{length}
+use Rattle.lists.specs.Lists.{all, joined}
+use Rattle.meaning.specs.Program.{Program, Atoms, isAtom, wellFormed}
+use Rattle.meaning.specs.Stage.{Definite, reduct, InUnion, Stable, FirstStage, leastModel, level, differ}
+use Rattle.meaning.specs.Numbering.{IsModel, LevelNumbering}
+use Rattle.meaning.specs.Samples.{setOf, program, fact, ring, loop}
+use Rattle.meaning.proofs.LeastModel.{union-model, union-least}
+use Rattle.meaning.proofs.Decided.{least-model-iff, stable-atom, headless-false}
+use Rattle.meaning.proofs.Decided as Decided
+use Rattle.encoding.specs.Width.{IsWidth, bitsFor, width, tableWidth}
+use Rattle.encoding.specs.Literal.{Literal, var, −_, Clause, Assignment, valueOf, allTrue, within, occurs}
+use Rattle.encoding.specs.Counter.{value, chain, successor}
+use Rattle.encoding.specs.Clauses.{sizes, group1, group2, clauses, variables, clauseCount}
+use Rattle.encoding.specs.Fill.{fill, trueAtoms, counter}
+use Rattle.encoding.specs.Examples.{Example, computed, examples}
+use Rattle.encoding.specs.Examples as Ex
+use Rattle.encoding.specs.Facts as Facts
+use Rattle.encoding.proofs.WrongTurns as Wrong
+use Rattle.encoding.proofs.WrongTurns.{unlimited, uncounted, one, two, zeroed, free}
+use Rattle.theory.specs.Code.{whole, reductOf, clausesOf, variablesOf, fillOf}
+use Rattle.theory.proofs.Counters.{chain-iff, successor-iff}
+use Rattle.theory.proofs.Widths.{width-is, width-unique, width-table, width-zeros, width-enough}
+use Rattle.theory.proofs.Counts.{count-whole}
+use Rattle.theory.proofs.LevelNumberings.{stable-level-numbering, level-numbering-stable, level-numbering-unique}
+use Rattle.theory.proofs.Whole.{reduct-whole, clauses-whole, variables-whole, fill-whole}
+use Rattle.theory.proofs.Base as Base
+
+-- ---- 1 Meaning
+
+pub record LeastModel (D : List Definite) : Type 1 where
+  -- the union of the stages is a model of the rules
+  pub model : IsModel D (InUnion D)
+  -- and is contained in every model of them
+  pub least : (X : ℕ → Type 0) → IsModel D X → (a : ℕ) → InUnion D a → X a
+
+pub least-model : (D : List Definite) → LeastModel D
+least-model D = record { model = union-model D; least = union-least D }
+
+pub record Stability (P : Program) (M : Atoms) : Type 0 where
+  -- n stages suffice: an atom is in the computed least model exactly if it is in the union of the stages
+  pub computed-in-n : (a : ℕ) → So (leastModel P M a) ↔ InUnion (reduct P M) a
+  -- a set of atoms is stable exactly if no atom tells it from the least model
+  pub decided : ((a : ℕ) → So (M a) → So (isAtom (P .atoms) a)) → (differ P M ≡ 0) ↔ Stable P M
+  -- where one does, `differ`, the spot of verdict 18, is the smallest such atom
+  pub differs : zero < differ P M → M (differ P M) ≡ leastModel P M (differ P M) → ⊥
+  pub agrees-before : (a : ℕ) → suc a < differ P M → M (suc a) ≡ leastModel P M (suc a)
+  -- a stable model holds atoms alone
+  pub atoms-alone : Stable P M → (a : ℕ) → So (M a) → So (isAtom (P .atoms) a)
+  -- an atom that heads no rule is false
+  pub headless : Stable P M → (a : ℕ) → So (all (λ r. not (eqb (r .head) a)) (P .rules)) → M a ≡ false
+
+pub stability : (P : Program) → So (wellFormed P) → (M : Atoms) → Stability P M
+stability P form M =
+    record {
+      computed-in-n = least-model-iff P form M;
+      decided = Decided.decided P form M;
+      differs = Decided.differ-at P form M;
+      agrees-before = Decided.differ-before P form M;
+      atoms-alone = stable-atom P form M;
+      headless = headless-false P form M }
+
+pub record LevelNumbers (P : Program) (M : Atoms) : Type 0 where
+  -- the level number of an atom of M is the first stage that holds it, document 001's #a
+  pub first-stage : (a : ℕ) → So (M a) → FirstStage (reduct P M) a (level P M a)
+  -- any other number has level 0
+  pub others : (a : ℕ) → M a ≡ false → level P M a ≡ 0
+  -- a level is at most n
+  pub at-most : (a : ℕ) → level P M a ≤ P .atoms
+  -- the level numbers are a level numbering in document 001's sense
+  pub numbering : LevelNumbering P M (level P M)
+  -- and the only one
+  pub only : (ℓ : ℕ → ℕ) → LevelNumbering P M ℓ → (a : ℕ) → So (M a) → ℓ a ≡ level P M a
+
+pub level-numbers : (P : Program) → So (wellFormed P) → (M : Atoms) → Stable P M → LevelNumbers P M
+level-numbers P form M s =
+    record {
+      first-stage = Base.level-number P form M s;
+      others = Base.level-false P form M s;
+      at-most = Base.level-at-most P form M s;
+      numbering = stable-level-numbering P form M s;
+      only = level-numbering-unique P form M }
+
+-- a set with a level numbering in document 001's sense is a stable model
+pub numbered : (P : Program) → So (wellFormed P) → (M : Atoms) (ℓ : ℕ → ℕ) → LevelNumbering P M ℓ → Stable P M
+numbered = level-numbering-stable
+
+-- ---- 2 Encoding
+
+pub record Width (n : ℕ) : Type 0 where
+  -- the width is the smallest w with 2^w at least n + 2, and no other number is
+  pub smallest : IsWidth n (width n)
+  pub no-other : (w : ℕ) → IsWidth n w → w ≡ width n
+  -- for up to 126 atoms it is the table's
+  pub by-table : n ≤ 126 → width n ≡ tableWidth n
+  -- and it is what the leading zeros of n + 1 leave of b bits
+  pub by-zeros : (b : ℕ) → n + 1 < 2 ^ b → width n ≡ b - leadingZeros b (n + 1)
+
+pub widths : (n : ℕ) → Width n
+widths n =
+    record {
+      smallest = width-is n;
+      no-other = λ w i. width-unique n w (width n) i (width-is n);
+      by-table = width-table n;
+      by-zeros = λ b. width-zeros b n }
+
+-- a chain of group 5, over any width: its clauses are true exactly if each z i compares the lowest i bits of x and y
+pub chains : (A : Assignment) (w : ℕ) (z x y : ℕ → ℕ)
+    → So (allTrue A (chain w z x y)) ↔ ((i : ℕ) → i < w → A (z (suc i)) ≡ ltb (value (λ j. A (x j)) (suc i)) (value (λ j. A (y j)) (suc i)))
+chains = chain-iff
+
+-- the successor of group 4, over any width: its clauses are true exactly if u is v + 1 modulo 2^w
+pub successors : (A : Assignment) (w : ℕ) (u v : ℕ → ℕ)
+    → So (allTrue A (successor w u v)) ↔ (value (λ j. A (u j)) w ≡ (value (λ j. A (v j)) w + 1) % 2 ^ w)
+successors = successor-iff
+
+pub record ClauseList (P : Program) (w : ℕ) : Type 0 where
+  -- document 01's formula is the number of clauses
+  pub counted : length (clauses P w) ≡ clauseCount P w
+  -- no clause names a variable that is 0 or above V
+  pub no-other-variable : So (within (variables P w) (clauses P w))
+  -- and every variable from 1 to V occurs
+  pub every-variable : (v : ℕ) → zero < v → v ≤ variables P w → So (occurs v (clauses P w))
+  -- the definitions with open atoms and pairs inside components, over which the theory is proved, are document 01's where there is no
+  -- open atom and every pair is inside
+  pub same-clauses : clausesOf (whole P w) ≡ clauses P w
+  pub same-variables : variablesOf (whole P w) ≡ variables P w
+  pub same-reduct : (M : Atoms) → reductOf (whole P w) M ≡ reduct P M
+  pub same-fill : (M : Atoms) → fillOf (whole P w) M ≡ fill P w M
+
+pub clause-list-at : (P : Program) (w : ℕ) → So (wellFormed P) → P .atoms + 2 ≤ 2 ^ w → ClauseList P w
+clause-list-at P w form wide =
+    record {
+      counted = count-whole P w form wide;
+      no-other-variable = Base.clauses-within P w form wide;
+      every-variable = Base.each-occurs P w form wide;
+      same-clauses = clauses-whole P w;
+      same-variables = variables-whole P w;
+      same-reduct = reduct-whole P w;
+      same-fill = fill-whole P w }
+
+-- for every well-formed program, with document 01's width
+pub clause-list : (P : Program) → So (wellFormed P) → ClauseList P (width (P .atoms))
+clause-list P form = clause-list-at P (width (P .atoms)) form (width-enough (P .atoms))
+
+-- ---- 3 Demand 3, for assignments: lists of V values
+
+pub record Demand3 (P : Program) (w : ℕ) : Type 0 where
+  -- a list of V values makes every clause true exactly if its true atoms are a stable model and it is the filled-out list of that model
+  pub exactly : (bs : List Bool) → length bs ≡ variables P w
+      → So (allTrue (valueOf bs) (clauses P w)) ↔ (Stable P (trueAtoms P bs) × (bs ≡ fill P w (trueAtoms P bs)))
+  -- then the counter of each atom is its level number, 0 for a false atom
+  pub counters : (bs : List Bool) → So (allTrue (valueOf bs) (clauses P w))
+      → (a : ℕ) → So (isAtom (P .atoms) a) → counter (sizes P w) (valueOf bs) a ≡ level P (trueAtoms P bs) a
+  -- every stable model has its list: the filled-out one has V values, makes every clause true, and its true atoms are the model
+  pub filled : (M : Atoms) → Stable P M
+      → (length (fill P w M) ≡ variables P w) × So (allTrue (valueOf (fill P w M)) (clauses P w)) × (trueAtoms P (fill P w M) ≡ M)
+  -- two lists that make every clause true and have the same true atoms are equal
+  pub one-each : (bs cs : List Bool) → length bs ≡ variables P w → length cs ≡ variables P w
+      → So (allTrue (valueOf bs) (clauses P w)) → So (allTrue (valueOf cs) (clauses P w)) → trueAtoms P bs ≡ trueAtoms P cs → bs ≡ cs
+
+-- for every well-formed program and every width with room for n + 2 values
+pub demand3-at : (P : Program) (w : ℕ) → So (wellFormed P) → P .atoms + 2 ≤ 2 ^ w → Demand3 P w
+demand3-at P w form wide =
+    record {
+      exactly = Base.exactly P w form wide;
+      counters = Base.counter-is-level P w form wide;
+      filled = λ M s. (Base.fill-length P w form wide M, Base.fill-true P w form wide M s, Base.fill-has P w form wide M s);
+      one-each = Base.one-list P w form wide }
+
+-- for every well-formed program, with document 01's width: nothing is left to assume
+pub demand3 : (P : Program) → So (wellFormed P) → Demand3 P (width (P .atoms))
+demand3 P form = demand3-at P (width (P .atoms)) form (width-enough (P .atoms))
+
+-- ---- 4 Examples and wrong turns
+
+-- document 01's starred examples, with every V, C, level, set and spot that it gives, computed from the definitions
+pub starred : map computed examples ≡ examples
+starred = Ex.examples-hold
+
+-- the clauses that the writer prints for the fact, in document 01's order
+pub fact-clauses : clauses fact 2
+    ≡ (var 2 ∷ []) ∷ (var 1 ∷ − 2 ∷ []) ∷ (− 1 ∷ var 2 ∷ []) ∷ (var 1 ∷ − 4 ∷ []) ∷ (var 1 ∷ − 5 ∷ []) ∷ (− 6 ∷ − 4 ∷ []) ∷ (var 6 ∷ var 4 ∷ [])
+      ∷ (var 4 ∷ − 7 ∷ var 5 ∷ []) ∷ (var 4 ∷ var 7 ∷ − 5 ∷ []) ∷ (− 4 ∷ − 7 ∷ − 5 ∷ []) ∷ (− 4 ∷ var 7 ∷ var 5 ∷ []) ∷ (− 3 ∷ var 2 ∷ [])
+      ∷ (var 3 ∷ − 2 ∷ []) ∷ (− 2 ∷ var 4 ∷ []) ∷ (− 2 ∷ − 5 ∷ []) ∷ (− 1 ∷ var 3 ∷ []) ∷ []
+fact-clauses = Facts.fact-clauses
+
+pub record WrongTurns : Type 0 where
+  -- the width for n + 1 values and the one of document 000 are 1 for one atom, and document 01's is 2
+  pub widths : bitsFor (1 + 1) ∷ bitsFor (2 * 1) ∷ width 1 ∷ [] ≡ 1 ∷ 1 ∷ 2 ∷ []
+  -- at width 1 "1; 1 from 1" loses its model: no list of values makes every clause true
+  pub narrow-loses : (bs : List Bool) → length bs ≡ variables loop 1 → allTrue (valueOf bs) (clauses loop 1) ≡ false
+  -- groups 1 and 2 alone accept the ring with both atoms, which is not stable: spot 1
+  pub completion : (allTrue (valueOf (true ∷ true ∷ true ∷ true ∷ [])) (joined (group1 ring 2 ∷ group2 ring 2 ∷ [])) ≡ true) × (differ ring (setOf (1 ∷ 2 ∷ [])) ≡ 1)
+  -- without group 6's last clauses the fact's model has the counters 1 and 2
+  pub many-numberings : map (λ bs. allTrue (valueOf bs) (unlimited fact 2)) (one ∷ two ∷ []) ≡ true ∷ true ∷ []
+  -- without group 3 the empty set has the counters 0 and 1
+  pub many-assignments : map (λ bs. allTrue (valueOf bs) (uncounted (program 1 []) 2)) (zeroed ∷ free ∷ []) ≡ true ∷ true ∷ []
+
+pub wrong-turns : WrongTurns
+wrong-turns =
+    record {
+      widths = Wrong.narrow-widths;
+      narrow-loses = Wrong.narrow-loses;
+      completion = Wrong.completion-accepts-ring;
+      many-numberings = Wrong.many-numberings;
+      many-assignments = Wrong.many-assignments }
