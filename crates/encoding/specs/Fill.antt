@@ -40,7 +40,7 @@ chainBits S ps ℓ k =
 unfoldable pub fillWith : Sizes → (ℕ → Rule) → (ℕ → List ℕ) → List Pair → Atoms → (ℕ → ℕ) → List Bool
 fillWith S rule inner ps M ℓ =
     joined
-    ( tab (S .n) M
+    (tab (S .n) M
     ∷ tab (S .m) (λ r. bodyTrue M (rule r))
     ∷ tab (S .m) (λ r. founds M ℓ (rule r) (inner r))
     ∷ levelBits S ℓ

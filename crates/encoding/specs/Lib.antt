@@ -4,5 +4,3 @@ pub mod Variables
 pub mod Counter
 pub mod Clauses
 pub mod Fill
-pub mod Examples
-pub mod Facts

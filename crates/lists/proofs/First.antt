@@ -1,7 +1,7 @@
 -- The first number that passes: 0 exactly if none does, and else it passes and none before it does. A greatest element of a list.
 -- Assumes nothing.
 use Prim.Native.Nat.{ℕ, zero, suc, _≤_, _<_}
-use native.Mathlib.Nat.{not-suc-le-zero, le-of-suc-le-suc, eq-or-lt-of-le, suc-ne-zero, le-refl, le-trans, le-of-lt}
+use native.Mathlib.Nat.{not-suc-le-zero, le-of-suc-le-suc, suc-ne-zero, le-refl, le-trans, le-of-lt}
 use native.Mathlib.Omega.{arith}
 use mathlib.Core.Path.{_≡_, refl, sym, _∙_, subst}
 use mathlib.Core.Logic.{⊎-elim}
@@ -43,17 +43,6 @@ pub first-le : (n : ℕ) (p : ℕ → Bool) (i : ℕ) → i < n → So (p (suc i
 first-le n p i h t =
     ⊎-elim (λ (l : first n p ≤ suc i). l)
     (λ (l : suc i < first n p). absurd (false≢true (sym (first-is n p .none-before i l) ∙ t))) (le-or-lt (first n p) (suc i))
-
--- a number that passes and has none before it is the first one
-pub first-unique : (n : ℕ) (p : ℕ → Bool) (i : ℕ) → i < n → So (p (suc i)) → ((j : ℕ) → j < i → p (suc j) ≡ false) → first n p ≡ suc i
-first-unique n p i h t none = go (first n p) refl (first-pos n p i h t) (first-le n p i h t)
-  where
-    go : (f : ℕ) → first n p ≡ f → zero < f → f ≤ suc i → f ≡ suc i
-    go zero e z l = absurd (not-suc-le-zero z)
-    go (suc f) e z l =
-        ⊎-elim (λ (q : suc f ≡ suc i). q)
-        (λ (q : suc f < suc i). absurd (false≢true (sym (none f (omega arith)) ∙ subst (λ (k : ℕ). So (p k)) e (first-is n p .passes (subst (λ (k : ℕ). zero < k) (sym e) z)))))
-        (eq-or-lt-of-le l)
 
 -- none passes
 pub first-none : (n : ℕ) (p : ℕ → Bool) → ((i : ℕ) → i < n → p (suc i) ≡ false) → first n p ≡ zero

@@ -103,11 +103,11 @@ module _ {A : Type 0} where
   getD-each (suc n) f d i j h g =
       ⊎-elim
       (λ (e : i ≡ n).
-        ap (λ (k : ℕ). getD (each n f ++ f (suc n)) (k + j) d) (ap (λ (k : ℕ). sum k (λ r. length (f r))) e ∙ sym (length-each n f))
-        ∙ getD-append-add (each n f) (f (suc n)) j d ∙ ap (λ (k : ℕ). getD (f (suc k)) j d) (sym e))
+      ap (λ (k : ℕ). getD (each n f ++ f (suc n)) (k + j) d) (ap (λ (k : ℕ). sum k (λ r. length (f r))) e ∙ sym (length-each n f))
+      ∙ getD-append-add (each n f) (f (suc n)) j d ∙ ap (λ (k : ℕ). getD (f (suc k)) j d) (sym e))
       (λ (l : i < n).
-        List·getD-append (each n f) (f (suc n)) d (sum i (λ r. length (f r)) + j)
-        (omega (arith, sum-mono n (λ r. length (f r)) i l, length-each n f)) ∙ getD-each n f d i j l g)
+      List·getD-append (each n f) (f (suc n)) d (sum i (λ r. length (f r)) + j)
+      (omega (arith, sum-mono n (λ r. length (f r)) i l, length-each n f)) ∙ getD-each n f d i j l g)
       (eq-or-lt-of-le (le-of-suc-le-suc h))
 
   -- rows of one length: element j of row i stands at i times the length, and j

@@ -2,4 +2,3 @@ pub mod Program
 pub mod Stage
 pub mod Numbering
 pub mod Samples
-pub mod Facts

@@ -18,17 +18,17 @@ use Rattle.meaning.specs.Program.{Program, Atoms, isAtom, wellFormed}
 use Rattle.meaning.specs.Stage.{Definite, reduct, InUnion, Stable, FirstStage, leastModel, level, differ}
 use Rattle.meaning.specs.Numbering.{IsModel, LevelNumbering}
 use Rattle.meaning.specs.Samples.{setOf, program, fact, ring, loop}
-use Rattle.meaning.proofs.LeastModel.{union-model, union-least}
-use Rattle.meaning.proofs.Decided.{least-model-iff, stable-atom, headless-false}
-use Rattle.meaning.proofs.Decided as Decided
+use Rattle.theory.proofs.LeastModel.{union-model, union-least, first-stage-unique}
+use Rattle.theory.proofs.Decided.{least-model-iff, stable-atom, headless-false}
+use Rattle.theory.proofs.Decided as Decided
 use Rattle.encoding.specs.Width.{IsWidth, bitsFor, width, tableWidth}
-use Rattle.encoding.specs.Literal.{Literal, var, −_, Clause, Assignment, valueOf, allTrue, within, occurs}
+use Rattle.encoding.specs.Literal.{var, −_, Assignment, valueOf, allTrue, within, occurs}
 use Rattle.encoding.specs.Counter.{value, chain, successor}
 use Rattle.encoding.specs.Clauses.{sizes, group1, group2, clauses, variables, clauseCount}
 use Rattle.encoding.specs.Fill.{fill, trueAtoms, counter}
-use Rattle.encoding.specs.Examples.{Example, computed, examples}
-use Rattle.encoding.specs.Examples as Ex
-use Rattle.encoding.specs.Facts as Facts
+use Rattle.encoding.proofs.Examples.{computed, examples}
+use Rattle.encoding.proofs.Examples as Ex
+use Rattle.encoding.proofs.Computed as Computed
 use Rattle.encoding.proofs.WrongTurns as Wrong
 use Rattle.encoding.proofs.WrongTurns.{unlimited, uncounted, one, two, zeroed, free}
 use Rattle.theory.specs.Code.{whole, reductOf, clausesOf, variablesOf, fillOf}
@@ -56,6 +56,7 @@ pub record Stability (P : Program) (M : Atoms) : Type 0 where
   -- a set of atoms is stable exactly if no atom tells it from the least model
   pub decided : ((a : ℕ) → So (M a) → So (isAtom (P .atoms) a)) → (differ P M ≡ 0) ↔ Stable P M
   -- where one does, `differ`, the spot of verdict 18, is the smallest such atom
+  pub an-atom : differ P M ≤ P .atoms
   pub differs : zero < differ P M → M (differ P M) ≡ leastModel P M (differ P M) → ⊥
   pub agrees-before : (a : ℕ) → suc a < differ P M → M (suc a) ≡ leastModel P M (suc a)
   -- a stable model holds atoms alone
@@ -68,14 +69,18 @@ stability P form M =
     record {
       computed-in-n = least-model-iff P form M;
       decided = Decided.decided P form M;
+      an-atom = Decided.differ-le P form M;
       differs = Decided.differ-at P form M;
       agrees-before = Decided.differ-before P form M;
       atoms-alone = stable-atom P form M;
-      headless = headless-false P form M }
+      headless = headless-false P form M;
+    }
 
 pub record LevelNumbers (P : Program) (M : Atoms) : Type 0 where
   -- the level number of an atom of M is the first stage that holds it, document 001's #a
   pub first-stage : (a : ℕ) → So (M a) → FirstStage (reduct P M) a (level P M a)
+  -- no other stage is the first
+  pub only-first : (a i : ℕ) → So (M a) → FirstStage (reduct P M) a i → i ≡ level P M a
   -- any other number has level 0
   pub others : (a : ℕ) → M a ≡ false → level P M a ≡ 0
   -- a level is at most n
@@ -89,10 +94,12 @@ pub level-numbers : (P : Program) → So (wellFormed P) → (M : Atoms) → Stab
 level-numbers P form M s =
     record {
       first-stage = Base.level-number P form M s;
+      only-first = λ a i t f. first-stage-unique (reduct P M) a i (level P M a) f (Base.level-number P form M s a t);
       others = Base.level-false P form M s;
       at-most = Base.level-at-most P form M s;
       numbering = stable-level-numbering P form M s;
-      only = level-numbering-unique P form M }
+      only = level-numbering-unique P form M;
+    }
 
 -- a set with a level numbering in document 001's sense is a stable model
 pub numbered : (P : Program) → So (wellFormed P) → (M : Atoms) (ℓ : ℕ → ℕ) → LevelNumbering P M ℓ → Stable P M
@@ -115,7 +122,8 @@ widths n =
       smallest = width-is n;
       no-other = λ w i. width-unique n w (width n) i (width-is n);
       by-table = width-table n;
-      by-zeros = λ b. width-zeros b n }
+      by-zeros = λ b. width-zeros b n;
+    }
 
 -- a chain of group 5, over any width: its clauses are true exactly if each z i compares the lowest i bits of x and y
 pub chains : (A : Assignment) (w : ℕ) (z x y : ℕ → ℕ)
@@ -150,7 +158,8 @@ clause-list-at P w form wide =
       same-clauses = clauses-whole P w;
       same-variables = variables-whole P w;
       same-reduct = reduct-whole P w;
-      same-fill = fill-whole P w }
+      same-fill = fill-whole P w;
+    }
 
 -- for every well-formed program, with document 01's width
 pub clause-list : (P : Program) → So (wellFormed P) → ClauseList P (width (P .atoms))
@@ -179,7 +188,8 @@ demand3-at P w form wide =
       exactly = Base.exactly P w form wide;
       counters = Base.counter-is-level P w form wide;
       filled = λ M s. (Base.fill-length P w form wide M, Base.fill-true P w form wide M s, Base.fill-has P w form wide M s);
-      one-each = Base.one-list P w form wide }
+      one-each = Base.one-list P w form wide;
+    }
 
 -- for every well-formed program, with document 01's width: nothing is left to assume
 pub demand3 : (P : Program) → So (wellFormed P) → Demand3 P (width (P .atoms))
@@ -194,27 +204,37 @@ starred = Ex.examples-hold
 -- the clauses that the writer prints for the fact, in document 01's order
 pub fact-clauses : clauses fact 2
     ≡ (var 2 ∷ []) ∷ (var 1 ∷ − 2 ∷ []) ∷ (− 1 ∷ var 2 ∷ []) ∷ (var 1 ∷ − 4 ∷ []) ∷ (var 1 ∷ − 5 ∷ []) ∷ (− 6 ∷ − 4 ∷ []) ∷ (var 6 ∷ var 4 ∷ [])
-      ∷ (var 4 ∷ − 7 ∷ var 5 ∷ []) ∷ (var 4 ∷ var 7 ∷ − 5 ∷ []) ∷ (− 4 ∷ − 7 ∷ − 5 ∷ []) ∷ (− 4 ∷ var 7 ∷ var 5 ∷ []) ∷ (− 3 ∷ var 2 ∷ [])
-      ∷ (var 3 ∷ − 2 ∷ []) ∷ (− 2 ∷ var 4 ∷ []) ∷ (− 2 ∷ − 5 ∷ []) ∷ (− 1 ∷ var 3 ∷ []) ∷ []
-fact-clauses = Facts.fact-clauses
+    ∷ (var 4 ∷ − 7 ∷ var 5 ∷ []) ∷ (var 4 ∷ var 7 ∷ − 5 ∷ []) ∷ (− 4 ∷ − 7 ∷ − 5 ∷ []) ∷ (− 4 ∷ var 7 ∷ var 5 ∷ []) ∷ (− 3 ∷ var 2 ∷ [])
+    ∷ (var 3 ∷ − 2 ∷ []) ∷ (− 2 ∷ var 4 ∷ []) ∷ (− 2 ∷ − 5 ∷ []) ∷ (− 1 ∷ var 3 ∷ []) ∷ []
+fact-clauses = Computed.fact-clauses
 
 pub record WrongTurns : Type 0 where
   -- the width for n + 1 values and the one of document 000 are 1 for one atom, and document 01's is 2
   pub widths : bitsFor (1 + 1) ∷ bitsFor (2 * 1) ∷ width 1 ∷ [] ≡ 1 ∷ 1 ∷ 2 ∷ []
   -- at width 1 "1; 1 from 1" loses its model: no list of values makes every clause true
   pub narrow-loses : (bs : List Bool) → length bs ≡ variables loop 1 → allTrue (valueOf bs) (clauses loop 1) ≡ false
+  -- at width 2 the filled-out list of {1} makes every clause true, and {1} is stable
+  pub wide-keeps : (allTrue (valueOf (fill loop 2 (setOf (1 ∷ [])))) (clauses loop 2) ≡ true) × (differ loop (setOf (1 ∷ [])) ≡ 0)
   -- groups 1 and 2 alone accept the ring with both atoms, which is not stable: spot 1
   pub completion : (allTrue (valueOf (true ∷ true ∷ true ∷ true ∷ [])) (joined (group1 ring 2 ∷ group2 ring 2 ∷ [])) ≡ true) × (differ ring (setOf (1 ∷ 2 ∷ [])) ≡ 1)
   -- without group 6's last clauses the fact's model has the counters 1 and 2
   pub many-numberings : map (λ bs. allTrue (valueOf bs) (unlimited fact 2)) (one ∷ two ∷ []) ≡ true ∷ true ∷ []
+  -- and with them 1 alone
+  pub one-numbering : map (λ bs. allTrue (valueOf bs) (clauses fact 2)) (one ∷ two ∷ []) ≡ true ∷ false ∷ []
   -- without group 3 the empty set has the counters 0 and 1
   pub many-assignments : map (λ bs. allTrue (valueOf bs) (uncounted (program 1 []) 2)) (zeroed ∷ free ∷ []) ≡ true ∷ true ∷ []
+  -- and with it 0 alone
+  pub one-assignment : map (λ bs. allTrue (valueOf bs) (clauses (program 1 []) 2)) (zeroed ∷ free ∷ []) ≡ true ∷ false ∷ []
 
 pub wrong-turns : WrongTurns
 wrong-turns =
     record {
       widths = Wrong.narrow-widths;
       narrow-loses = Wrong.narrow-loses;
+      wide-keeps = Wrong.wide-keeps;
       completion = Wrong.completion-accepts-ring;
       many-numberings = Wrong.many-numberings;
-      many-assignments = Wrong.many-assignments }
+      one-numbering = Wrong.one-numbering;
+      many-assignments = Wrong.many-assignments;
+      one-assignment = Wrong.one-assignment;
+    }

@@ -9,8 +9,8 @@ use lib.ListN.{length}
 use Rattle.lists.proofs.Bools.{not-So}
 use Rattle.meaning.specs.Program.{Program, Atoms, isAtom, wellFormed}
 use Rattle.meaning.specs.Stage.{Stable, FirstStage, reduct, level}
-use Rattle.meaning.proofs.LeastModel.{level-first, level-none, level-le}
-use Rattle.meaning.proofs.Decided.{reduct-heads}
+use Rattle.theory.proofs.LeastModel.{level-first, level-none, level-le}
+use Rattle.theory.proofs.Decided.{reduct-heads}
 use Rattle.encoding.specs.Literal.{Clause, valueOf, allTrue, within, occurs}
 use Rattle.encoding.specs.Clauses.{sizes, clauses, variables}
 use Rattle.encoding.specs.Fill.{fill, trueAtoms, counter}
@@ -50,9 +50,10 @@ module _ (P : Program) (w : ℕ) (form : So (wellFormed P)) (wide : P .atoms + 2
   pub exactly : (bs : List Bool) → length bs ≡ variables P w
       → So (allTrue (valueOf bs) (clauses P w)) ↔ (Stable P (trueAtoms P bs) × (bs ≡ fill P w (trueAtoms P bs)))
   exactly bs e =
-      let q = true-exactly G f bs (e ∙ sym (variables-whole P w)) in
-      (λ t. let p = q .0 (code-true bs t) in (stable-whole P w (trueAtoms P bs) .0 (p .0), p .1 ∙ fill-whole P w (trueAtoms P bs)),
-        λ p. true-code bs (q .1 (stable-whole P w (trueAtoms P bs) .1 (p .0), p .1 ∙ sym (fill-whole P w (trueAtoms P bs)))))
+      let q = true-exactly G f bs (e ∙ sym (variables-whole P w)) in (
+        λ t. let p = q .0 (code-true bs t) in (stable-whole P w (trueAtoms P bs) .0 (p .0), p .1 ∙ fill-whole P w (trueAtoms P bs)),
+        λ p. true-code bs (q .1 (stable-whole P w (trueAtoms P bs) .1 (p .0), p .1 ∙ sym (fill-whole P w (trueAtoms P bs)))),
+      )
 
   pub counter-is-level : (bs : List Bool) → So (allTrue (valueOf bs) (clauses P w))
       → (a : ℕ) → So (isAtom (P .atoms) a) → counter (sizes P w) (valueOf bs) a ≡ level P (trueAtoms P bs) a

@@ -27,9 +27,11 @@ value-ext X Y w e = sum-ext w _ _ (λ i h. ap (λ b. cond b (2 ^ i) 0) (e i h))
 value-above : (X : ℕ → Bool) (w k : ℕ) → (q : ℕ) × (value X (w + k) ≡ value X w + q * 2 ^ w)
 value-above X w zero = (0, ap (value X) (add-zero w) ∙ sym (ap (λ (z : ℕ). value X w + z) (zero-mul (2 ^ w)) ∙ add-zero (value X w)))
 value-above X w (suc k) =
-    let r = value-above X w k in
-    (r .0 + cond (X (suc (w + k))) (2 ^ k) 0, ap (value X) (add-suc w k)
-      ∙ go (X (suc (w + k))) (value X (w + k)) (value X w) (r .0) (2 ^ (w + k)) (2 ^ w) (2 ^ k) (pow-add 2 w k) (r .1))
+    let r = value-above X w k in (
+      r .0 + cond (X (suc (w + k))) (2 ^ k) 0,
+      ap (value X) (add-suc w k)
+          ∙ go (X (suc (w + k))) (value X (w + k)) (value X w) (r .0) (2 ^ (w + k)) (2 ^ w) (2 ^ k) (pow-add 2 w k) (r .1),
+    )
   where
     go : (b : Bool) (x y q p s t : ℕ) → p ≡ s * t → x ≡ y + q * s → x + cond b p 0 ≡ y + (q + cond b t 0) * s
     go true x y q p s t e f = omega arith

@@ -20,7 +20,7 @@ use Rattle.lists.proofs.Bools.{and-in, and-left, and-right, not-So, false-of, S
 use Rattle.lists.proofs.Tests.{all-at, all-ext, any-at, any-not}
 use Rattle.lists.proofs.Tables.{sum-zero, length-tab}
 use Rattle.meaning.specs.Program.{Atoms, isAtom, bodyTrue}
-use Rattle.meaning.proofs.Atoms.{is-atom, by-place}
+use Rattle.theory.proofs.Atoms.{is-atom, by-place}
 use Rattle.encoding.specs.Literal.{Assignment}
 use Rattle.encoding.specs.Variables.{Sizes, bodyVar, foundsVar, levelVar, nextVar, belowVar, nextBelowVar}
 use Rattle.encoding.specs.Counter.{value, bit}
@@ -140,23 +140,24 @@ module _ (G : Code) (A : Assignment) (g : Ranges G) (z : zero < G .w) (s : Says 
   next-below-is k h =
       top-bit (λ i. Compares A (nextBelowVar S (suc k)) (nextVar S (bodyOf G (suc k))) (levelVar S (headOf G (suc k))) i) (G .w) z (s .nextBelows k h)
       ∙ ap₂ ltb (next-value (bodyOf G (suc k)) (body-in G g k h) ∙ ap (λ (x : ℕ). (x + 1) % 2 ^ G .w) (counter-is (bodyOf G (suc k)) (body-in G g k h)))
-        (counter-is (headOf G (suc k)) (head-in G g k h))
+      (counter-is (headOf G (suc k)) (head-in G g k h))
 
   numbering : Numbering G M ℓ
   numbering =
       record {
         atoms = λ a t. and-left (isAtom (G .n) a) (A a) t;
         closed = λ r h t.
-          by-place (G .n) (λ a. rl G (suc r) .head ≡ a → So (M a))
-          (λ a l e. and-in (is-atom (G .n) (suc a) (omega arith) l) (s .implied a l r h e (bodies-true r h ∙ t))) (rl G (suc r) .head) (g .head-in r h) refl;
+            by-place (G .n) (λ a. rl G (suc r) .head ≡ a → So (M a))
+            (λ a l e. and-in (is-atom (G .n) (suc a) (omega arith) l) (s .implied a l r h e (bodies-true r h ∙ t))) (rl G (suc r) .head) (g .head-in r h) refl;
         off = λ a e. ap (λ b. cond b (c a) 0) e;
         one = λ a t o. sym (counter-is a (and-left (isAtom (G .n) a) (A a) t)) ∙ one-iff-w S A a z .0 (opened-one a (and-left (isAtom (G .n) a) (A a) t) (and-right (isAtom (G .n) a) (A a) t) o);
         found = λ a t o. founded-by a (and-left (isAtom (G .n) a) (A a) t) (and-right (isAtom (G .n) a) (A a) t) o;
         low-none = λ r h b e.
-          sym (counter-is (rl G (suc r) .head) (g .head-in r h))
-          ∙ one-iff-w S A (rl G (suc r) .head) z .0
+            sym (counter-is (rl G (suc r) .head) (g .head-in r h))
+            ∙ one-iff-w S A (rl G (suc r) .head) z .0
             (sym (low-none S A (rl G (suc r) .head) (pairNumbers G (suc r)) (length-tab (length (inner G (suc r))) _ ∙ e)) ∙ s .lowest r h (bodies-true r h ∙ b));
-        low-some = λ r h b l. some-low r h b l }
+        low-some = λ r h b l. some-low r h b l;
+      }
     where
       opened-one : (a : ℕ) → So (isAtom (G .n) a) → So (A a) → So (G .opened a) → So (oneTest S A a)
       opened-one = by-place (G .n) (λ a. So (A a) → So (G .opened a) → So (oneTest S A a)) (λ a h t o. s .one a h o t)
@@ -166,14 +167,18 @@ module _ (G : Code) (A : Assignment) (g : Ranges G) (z : zero < G .w) (s : Says 
       founded-by =
           by-place (G .n)
           (λ a. So (A a) → G .opened a ≡ false
-            → (r : ℕ) × (r < m G) × (rl G (suc r) .head ≡ a) × So (bodyTrue M (rl G (suc r))) × So (all (λ b. ltb (ℓ b) (ℓ a)) (inner G (suc r))))
+          → (r : ℕ) × (r < m G) × (rl G (suc r) .head ≡ a) × So (bodyTrue M (rl G (suc r))) × So (all (λ b. ltb (ℓ b) (ℓ a)) (inner G (suc r))))
           (λ a h t o.
-            let q = s .founded a h o t in
-            let R = rl G (suc (q .0)) in
-            let bs = inner G (suc (q .0)) in
-            let f = sym (founds-is (q .0) (q .1)) ∙ q .3 in
-            (q .0, q .1, q .2, and-left (bodyTrue M R) (all (λ b. ltb (ℓ b) (ℓ (R .head))) bs) f,
-              subst (λ (x : ℕ). So (all (λ b. ltb (ℓ b) (ℓ x)) bs)) (q .2) (and-right (bodyTrue M R) (all (λ b. ltb (ℓ b) (ℓ (R .head))) bs) f)))
+          let q = s .founded a h o t in
+          let R = rl G (suc (q .0)) in
+          let bs = inner G (suc (q .0)) in
+          let f = sym (founds-is (q .0) (q .1)) ∙ q .3 in (
+            q .0,
+            q .1,
+            q .2,
+            and-left (bodyTrue M R) (all (λ b. ltb (ℓ b) (ℓ (R .head))) bs) f,
+            subst (λ (x : ℕ). So (all (λ b. ltb (ℓ b) (ℓ x)) bs)) (q .2) (and-right (bodyTrue M R) (all (λ b. ltb (ℓ b) (ℓ (R .head))) bs) f),
+          ))
 
       some-low : (r : ℕ) → r < m G → So (bodyTrue M (rl G (suc r))) → zero < length (inner G (suc r))
           → (j : ℕ) × (j < length (inner G (suc r))) × (ℓ (rl G (suc r) .head) ≤ ℓ (getD (inner G (suc r)) j 0) + 1)
@@ -182,8 +187,8 @@ module _ (G : Code) (A : Assignment) (g : Ranges G) (z : zero < G .w) (s : Says 
           let top = rl G (suc r) .head in
           let ks = pairNumbers G (suc r) in
           let q = not-all (λ b. ltb ((ℓ b + 1) % 2 ^ G .w) (ℓ top)) bs
-            (ap not (sym (all-pairs G (λ k. A (nextBelowVar S k (G .w))) (λ b h. ltb ((ℓ b + 1) % 2 ^ G .w) (ℓ h)) next-below-is r h))
-              ∙ sym (low-some S A top ks (subst (λ (x : ℕ). zero < x) (sym (length-tab (length bs) _)) l)) ∙ s .lowest r h (bodies-true r h ∙ b)) in
+          (ap not (sym (all-pairs G (λ k. A (nextBelowVar S k (G .w))) (λ b h. ltb ((ℓ b + 1) % 2 ^ G .w) (ℓ h)) next-below-is r h))
+          ∙ sym (low-some S A top ks (subst (λ (x : ℕ). zero < x) (sym (length-tab (length bs) _)) l)) ∙ s .lowest r h (bodies-true r h ∙ b)) in
           (q .0, q .1, le-trans (ltb-false ((ℓ (getD bs (q .0) 0) + 1) % 2 ^ G .w) (ℓ top) (q .2)) (mod-le (ℓ (getD bs (q .0) 0) + 1) (2 ^ G .w)))
 
   pub says-stable : Rank G → StableIn G M
@@ -200,10 +205,11 @@ module _ (G : Code) (A : Assignment) (g : Ranges G) (z : zero < G .w) (s : Says 
         foundings = λ r h. founds-is r h ∙ ap (λ (f : ℕ → ℕ). founds M f (rl G (suc r)) (inner G (suc r))) (fun-ext (numbered-level G M ℓ numbering g));
         levels = λ a h i j. sym (bit-value (bits A (levelVar S (suc a))) (G .w) i j) ∙ ap (λ (x : ℕ). bit x (suc i)) (counter-level (suc a) (is-atom (G .n) (suc a) (omega arith) h));
         nexts = λ a h i j.
-          bit-mod (bits A (nextVar S (suc a))) (c (suc a) + 1) (G .w) i (s .nexts a h) j
-          ∙ ap (λ (x : ℕ). bit (x + 1) (suc i)) (counter-level (suc a) (is-atom (G .n) (suc a) (omega arith) h));
+            bit-mod (bits A (nextVar S (suc a))) (c (suc a) + 1) (G .w) i (s .nexts a h) j
+            ∙ ap (λ (x : ℕ). bit (x + 1) (suc i)) (counter-level (suc a) (is-atom (G .n) (suc a) (omega arith) h));
         belows = λ k h i j. s .belows k h i j ∙ ap₂ ltb (lower (bodyOf G (suc k)) (body-in G g k h) i j) (lower (headOf G (suc k)) (head-in G g k h) i j);
-        nextBelows = λ k h i j. s .nextBelows k h i j ∙ ap₂ ltb (lower-next (bodyOf G (suc k)) (body-in G g k h) i j) (lower (headOf G (suc k)) (head-in G g k h) i j) }
+        nextBelows = λ k h i j. s .nextBelows k h i j ∙ ap₂ ltb (lower-next (bodyOf G (suc k)) (body-in G g k h) i j) (lower (headOf G (suc k)) (head-in G g k h) i j);
+      }
     where
       lower : (a : ℕ) → So (isAtom (G .n) a) → (i : ℕ) → i < G .w → value (bits A (levelVar S a)) (suc i) ≡ levelOf G M a % 2 ^ suc i
       lower a t i h = sym (value-mod (bits A (levelVar S a)) (G .w) (suc i) h) ∙ ap (λ (x : ℕ). x % 2 ^ suc i) (counter-level a t)
@@ -217,7 +223,6 @@ module _ (G : Code) (A : Assignment) (g : Ranges G) (z : zero < G .w) (s : Says 
 
 module _ (G : Code) (M : Atoms) (A : Assignment) (g : Ranges G) (stable : StableIn G M)
     (fits : (a : ℕ) → levelOf G M a + 1 < 2 ^ G .w) (can : Canon G M A) where
-
   abbrev lev : ℕ → ℕ
   lev = levelOf G M
 
@@ -272,8 +277,8 @@ module _ (G : Code) (M : Atoms) (A : Assignment) (g : Ranges G) (stable : Stable
       low-some T A top (pairNumbers G (suc r)) (omega (arith, e, length-tab (length bs) (λ j. before G (suc r) + j)))
       ∙ ap not (all-pairs G (λ k. A (nextBelowVar T k (G .w))) (λ b h. ltb (lev b + 1) (lev h)) next-below-w r h)
       ∙ So-not (all (λ b. ltb (lev b + 1) (lev top)) bs)
-        (false-of (all (λ b. ltb (lev b + 1) (lev top)) bs)
-          (λ t. not-So (ltb (lev (getD bs (q .0) 0) + 1) (lev top)) (le-ltb (lev (getD bs (q .0) 0) + 1) (lev top) (q .2)) (all-at (λ b. ltb (lev b + 1) (lev top)) bs 0 t (q .0) (q .1))))
+      (false-of (all (λ b. ltb (lev b + 1) (lev top)) bs)
+      (λ t. not-So (ltb (lev (getD bs (q .0) 0) + 1) (lev top)) (le-ltb (lev (getD bs (q .0) 0) + 1) (lev top) (q .2)) (all-at (λ b. ltb (lev b + 1) (lev top)) bs 0 t (q .0) (q .1))))
 
   pub canon-says : Says G A
   canon-says =
@@ -281,18 +286,19 @@ module _ (G : Code) (M : Atoms) (A : Assignment) (g : Ranges G) (stable : Stable
         bodies = λ r h. can .bodies r h ∙ body-agree G g M A (λ a l. sym (can .atoms a l)) r h;
         implied = λ a h r l e t. can .atoms a h ∙ subst (λ (x : ℕ). So (M x)) e (num .closed r l (sym (can .bodies r l) ∙ t));
         supported = λ a h o t.
-          let q = num .found (suc a) (sym (can .atoms a h) ∙ t) o in
-          (q .0, q .1, q .2, can .bodies (q .0) (q .1) ∙ q .3);
+            let q = num .found (suc a) (sym (can .atoms a h) ∙ t) o in
+            (q .0, q .1, q .2, can .bodies (q .0) (q .1) ∙ q .3);
         zeroed = λ a h e i l. can .levels a h i l ∙ ap (λ (x : ℕ). bit x (suc i)) (num .off (suc a) (sym (can .atoms a h) ∙ e)) ∙ bit-zero (suc i);
         nexts = λ a h.
-          let t = is-atom (G .n) (suc a) (omega arith) h in
-          low-next (suc a) t (G .w) (le-refl (G .w)) ∙ ap (λ (x : ℕ). (x + 1) % 2 ^ G .w) (sym (counter-lev (suc a) t));
+            let t = is-atom (G .n) (suc a) (omega arith) h in
+            low-next (suc a) t (G .w) (le-refl (G .w)) ∙ ap (λ (x : ℕ). (x + 1) % 2 ^ G .w) (sym (counter-lev (suc a) t));
         belows = λ k h i l. can .belows k h i l ∙ ap₂ ltb (sym (low-level (bodyOf G (suc k)) (body-in G g k h) (suc i) l)) (sym (low-level (headOf G (suc k)) (head-in G g k h) (suc i) l));
         nextBelows = λ k h i l. can .nextBelows k h i l ∙ ap₂ ltb (sym (low-next (bodyOf G (suc k)) (body-in G g k h) (suc i) l)) (sym (low-level (headOf G (suc k)) (head-in G g k h) (suc i) l));
         founds = λ r h. can .foundings r h ∙ ap₂ _&&_ (sym (can .bodies r h)) (sym (all-pairs G (λ k. A (belowVar T k (G .w))) (λ b h. ltb (lev b) (lev h)) below-w r h));
         lowest = λ r h t. low-holds r h (sym (can .bodies r h) ∙ t) (length (inner G (suc r))) refl;
         founded = λ a h o t.
-          let q = num .found (suc a) (sym (can .atoms a h) ∙ t) o in
-          (q .0, q .1, q .2, can .foundings (q .0) (q .1) ∙ and-in (q .3) (subst (λ (x : ℕ). So (all (λ b. ltb (lev b) (lev x)) (inner G (suc (q .0))))) (sym (q .2)) (q .4)));
+            let q = num .found (suc a) (sym (can .atoms a h) ∙ t) o in
+            (q .0, q .1, q .2, can .foundings (q .0) (q .1) ∙ and-in (q .3) (subst (λ (x : ℕ). So (all (λ b. ltb (lev b) (lev x)) (inner G (suc (q .0))))) (sym (q .2)) (q .4)));
         one = λ a h o t.
-          one-iff-w T A (suc a) some-bit .1 (counter-lev (suc a) (is-atom (G .n) (suc a) (omega arith) h) ∙ num .one (suc a) (sym (can .atoms a h) ∙ t) o) }
+            one-iff-w T A (suc a) some-bit .1 (counter-lev (suc a) (is-atom (G .n) (suc a) (omega arith) h) ∙ num .one (suc a) (sym (can .atoms a h) ∙ t) o);
+      }

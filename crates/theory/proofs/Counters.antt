@@ -51,7 +51,7 @@ three false false false = refl
 
 six : (z x y g : Bool)
     → ((not z || (not x || (y || false))) && ((not z || (not x || (g || false))) && ((not z || (y || (g || false)))
-      && ((z || (x || (not y || false))) && ((z || (x || (not g || false))) && ((z || (not y || (not g || false))) && true))))))
+    && ((z || (x || (not y || false))) && ((z || (x || (not g || false))) && ((z || (not y || (not g || false))) && true))))))
     ≡ Bool·beq z (step x y g)
 six true true true true = refl
 six true true true false = refl
@@ -90,9 +90,10 @@ module _ (A : Assignment) where
 
   chain-true : (w : ℕ) (z x y : ℕ → ℕ) → So (allTrue A (chain w z x y)) ↔ ((i : ℕ) → i < w → So (allTrue A (chainAt z x y (suc i))))
   unfolding chain
-  chain-true w z x y =
-      (λ t. allTo-at w (λ i. allTrue A (chainAt z x y i)) (sym (all-each (clauseTrue A) w (chainAt z x y)) ∙ t),
-        λ f. all-each (clauseTrue A) w (chainAt z x y) ∙ allTo-in w (λ i. allTrue A (chainAt z x y i)) f)
+  chain-true w z x y = (
+    λ t. allTo-at w (λ i. allTrue A (chainAt z x y i)) (sym (all-each (clauseTrue A) w (chainAt z x y)) ∙ t),
+    λ f. all-each (clauseTrue A) w (chainAt z x y) ∙ allTo-in w (λ i. allTrue A (chainAt z x y i)) f,
+  )
 
   lower-is : (z x y : ℕ → ℕ) (i : ℕ) → ((j : ℕ) → j < i → Compares z x y (suc j)) → lower z i ≡ ltb (value (bits x) i) (value (bits y) i)
   lower-is z x y zero f = refl
@@ -104,13 +105,14 @@ module _ (A : Assignment) where
       let below = compares w z x y (λ i h. f i (omega arith)) in
       up-to (λ i. Compares z x y (suc i)) w below
       (beq-eq (A (z (suc w))) _ (sym (chain-bit z x y w) ∙ f w (omega arith))
-        ∙ ap (step (A (x (suc w))) (A (y (suc w)))) (lower-is z x y w below) ∙ sym (less-step (bits x) (bits y) w)) i h
+      ∙ ap (step (A (x (suc w))) (A (y (suc w)))) (lower-is z x y w below) ∙ sym (less-step (bits x) (bits y) w)) i h
 
   pub chain-iff : (w : ℕ) (z x y : ℕ → ℕ) → So (allTrue A (chain w z x y)) ↔ ((i : ℕ) → i < w → Compares z x y (suc i))
-  chain-iff w z x y =
-      (λ t. compares w z x y (chain-true w z x y .0 t),
-        λ f. chain-true w z x y .1 (λ i h. chain-bit z x y i ∙ eq-beq (A (z (suc i))) _
-          (f i h ∙ less-step (bits x) (bits y) i ∙ ap (step (A (x (suc i))) (A (y (suc i)))) (sym (lower-is z x y i (λ j g. f j (omega arith)))))))
+  chain-iff w z x y = (
+    λ t. compares w z x y (chain-true w z x y .0 t),
+    λ f. chain-true w z x y .1 (λ i h. chain-bit z x y i ∙ eq-beq (A (z (suc i))) _
+        (f i h ∙ less-step (bits x) (bits y) i ∙ ap (step (A (x (suc i))) (A (y (suc i)))) (sym (lower-is z x y i (λ j g. f j (omega arith)))))),
+  )
 
 -- ---- successors
 
@@ -145,9 +147,9 @@ module _ (A : Assignment) (u v : ℕ → ℕ) where
   successor-bit i =
       all-append (clauseTrue A) (each i (keepsClauses u v (suc i))) (flipsClauses u v (suc i))
       ∙ ap₂ _&&_
-        (all-each (clauseTrue A) i (keepsClauses u v (suc i)) ∙ allTo-ext i _ (λ j. bits A v j || Bool·beq (A (u (suc i))) (A (v (suc i)))) (λ j h. same-bits (A (v (suc j))) (A (u (suc i))) (A (v (suc i))))
-          ∙ allTo-or i (bits A v) _)
-        (ap₂ (λ a b. a && (b && true)) (last (− u (suc i) ∷ − v (suc i) ∷ [])) (last (var (u (suc i)) ∷ var (v (suc i)) ∷ [])))
+      (all-each (clauseTrue A) i (keepsClauses u v (suc i)) ∙ allTo-ext i _ (λ j. bits A v j || Bool·beq (A (u (suc i))) (A (v (suc i)))) (λ j h. same-bits (A (v (suc j))) (A (u (suc i))) (A (v (suc i))))
+      ∙ allTo-or i (bits A v) _)
+      (ap₂ (λ a b. a && (b && true)) (last (− u (suc i) ∷ − v (suc i) ∷ [])) (last (var (u (suc i)) ∷ var (v (suc i)) ∷ [])))
       ∙ four (allTo i (bits A v)) (A (u (suc i))) (A (v (suc i)))
     where
       last : (ls : List Literal) → clauseTrue A (tab i (λ j. − v j) ++ ls) ≡ (not (allTo i (bits A v)) || clauseTrue A ls)
@@ -180,7 +182,7 @@ flips-value U V′ w f = go (allTo w V′) (carry U V′ w f)
   where
     go : (c : Bool) → value U w + cond c (2 ^ w) 0 ≡ value V′ w + 1 → value U w ≡ (value V′ w + 1) % 2 ^ w
     go true e = sym (ap (λ (x : ℕ). x % 2 ^ w) (sym e) ∙ add-mod-right (value U w) (2 ^ w) ∙ mod-eq-of-lt (value-lt U w))
-    go false e = sym (ap (λ (x : ℕ). x % 2 ^ w) (sym e ∙ add-zero (value U w)) ∙ mod-eq-of-lt (value-lt U w)) 
+    go false e = sym (ap (λ (x : ℕ). x % 2 ^ w) (sym e ∙ add-zero (value U w)) ∙ mod-eq-of-lt (value-lt U w))
 
 value-flips : (U V′ : ℕ → Bool) (w : ℕ) → value U w ≡ (value V′ w + 1) % 2 ^ w → Flips U V′ w
 value-flips U V′ w e i h =
@@ -190,11 +192,12 @@ value-flips U V′ w e i h =
 pub successor-iff : (A : Assignment) (w : ℕ) (u v : ℕ → ℕ)
     → So (allTrue A (successor w u v)) ↔ (value (bits A u) w ≡ (value (bits A v) w + 1) % 2 ^ w)
 unfolding successor
-successor-iff A w u v =
-    (λ t. flips-value (bits A u) (bits A v) w
+successor-iff A w u v = (
+  λ t. flips-value (bits A u) (bits A v) w
       (λ i h. beq-eq _ _ (sym (successor-bit A u v i) ∙ allTo-at w (λ i. allTrue A (successorAt u v i)) (sym (all-each (clauseTrue A) w (successorAt u v)) ∙ t) i h)),
-      λ e. all-each (clauseTrue A) w (successorAt u v) ∙ allTo-in w (λ i. allTrue A (successorAt u v i))
-        (λ i h. successor-bit A u v i ∙ eq-beq _ _ (value-flips (bits A u) (bits A v) w e i h)))
+  λ e. all-each (clauseTrue A) w (successorAt u v) ∙ allTo-in w (λ i. allTrue A (successorAt u v i))
+      (λ i h. successor-bit A u v i ∙ eq-beq _ _ (value-flips (bits A u) (bits A v) w e i h)),
+)
 
 -- ---- the number 1
 
@@ -207,10 +210,11 @@ value-one zero = refl
 value-one (suc w) = ap (λ (x : ℕ). x + cond (eqb (suc (suc w)) 1) (2 ^ suc w) 0) (value-one w) ∙ ap (λ b. 1 + cond b (2 ^ suc w) 0) (ne-eqb (suc (suc w)) 1 (λ e. omega arith))
 
 pub one-iff : (X : ℕ → Bool) (w : ℕ) → So (X 1 && allTo w (λ i. not (X (suc i)))) ↔ (value X (suc w) ≡ 1)
-one-iff X w =
-    (λ t. value-ext X lowest (suc w) (λ i h. bits-one t i h) ∙ value-one w,
-      λ e. let f = value-inj X lowest (suc w) (e ∙ sym (value-one w)) in
-        and-in (f 0 (omega arith)) (allTo-in w _ (λ i h. ap not (f (suc i) (omega arith) ∙ ne-eqb (suc (suc i)) 1 (λ e. omega arith)))))
+one-iff X w = (
+  λ t. value-ext X lowest (suc w) (λ i h. bits-one t i h) ∙ value-one w,
+  λ e. let f = value-inj X lowest (suc w) (e ∙ sym (value-one w)) in
+      and-in (f 0 (omega arith)) (allTo-in w _ (λ i h. ap not (f (suc i) (omega arith) ∙ ne-eqb (suc (suc i)) 1 (λ e. omega arith)))),
+)
   where
     bits-one : So (X 1 && allTo w (λ i. not (X (suc i)))) → (i : ℕ) → i < suc w → X (suc i) ≡ lowest (suc i)
     bits-one t zero h = and-left (X 1) (allTo w (λ i. not (X (suc i)))) t

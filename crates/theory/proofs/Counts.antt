@@ -14,7 +14,7 @@ use Rattle.lists.specs.Lists.{sum, each, select}
 use Rattle.lists.proofs.Tables.{sum-ext, sum-add, sum-mul, sum-const, sum-zero, sum-swap, length-tab, length-each}
 use Rattle.lists.proofs.Growing.{one, count-le}
 use Rattle.meaning.specs.Program.{Rule, Program, ruleAt, wellFormed}
-use Rattle.meaning.proofs.Atoms.{by-place}
+use Rattle.theory.proofs.Atoms.{by-place}
 use Rattle.encoding.specs.Literal.{−_, Clause}
 use Rattle.encoding.specs.Variables.{Sizes, bodyVar, levelVar, nextVar, belowVar, nextBelowVar}
 use Rattle.encoding.specs.Counter.{chain, chainAt, successor, successorAt, keepsClauses, flipsClauses}
@@ -115,12 +115,12 @@ module _ (G : Code) (g : Ranges G) (k : ℕ) (wide : G .w ≡ suc k) where
   count2 =
       ap (λ (x : ℕ). x + openCount G) (length-each (G .n) (λ a. impliedClauses S a (its G a) ++ cond (G .opened a) [] (supportedClause S a (its G a) ∷ [])))
       ∙ sum-with (G .n) _ (λ a. one (G .opened a)) (λ a. length (its G a) + 1)
-        (λ a h. ap (λ (x : ℕ). x + one (G .opened (suc a))) (length-append (impliedClauses S (suc a) (its G (suc a))) _ ∙ ap (λ (x : ℕ). x + length (cond (G .opened (suc a)) [] (supportedClause S (suc a) (its G (suc a)) ∷ []))) (length-map (its G (suc a)) _)) ∙ last (G .opened (suc a)) (length (its G (suc a))) (supportedClause S (suc a) (its G (suc a))))
+      (λ a h. atom-count (G .opened (suc a)) (impliedClauses S (suc a) (its G (suc a))) (supportedClause S (suc a) (its G (suc a))) (length-map (its G (suc a)) _))
       ∙ sum-more (G .n) (λ a. length (its G a)) 1 ∙ omega (arith, its-count)
     where
-      last : (b : Bool) (l : ℕ) (c : Clause) → l + length (cond b [] (c ∷ [])) + one b ≡ l + 1
-      last true l c = omega arith
-      last false l c = omega arith
+      atom-count : (b : Bool) (xs : List Clause) (c : Clause) {l : ℕ} → length xs ≡ l → length (xs ++ cond b [] (c ∷ [])) + one b ≡ l + 1
+      atom-count true xs c e = omega (arith, length-append xs [], e)
+      atom-count false xs c e = omega (arith, length-append xs (c ∷ []), e)
 
   count3 : length (part3 G) ≡ G .n * G .w
   count3 = length-each (G .n) (zeroClauses S) ∙ sum-ext (G .n) _ (λ a. G .w) (λ a h. length-tab (G .w) _) ∙ sum-const (G .n) (G .w)
@@ -150,7 +150,7 @@ module _ (G : Code) (g : Ranges G) (k : ℕ) (wide : G .w ≡ suc k) where
       ∙ sum-with (m G) _ (λ r. empty (length (inner G r))) (λ r. length (inner G r) + empty (length (inner G r)) * G .w + 3) (λ r h. rule-clauses (suc r))
       ∙ sum-more (m G) (λ r. length (inner G r) + empty (length (inner G r)) * G .w) 3
       ∙ ap (λ (x : ℕ). x + m G * 3) (sum-add (m G) (λ r. length (inner G r)) (λ r. empty (length (inner G r)) * G .w)
-        ∙ ap (λ (x : ℕ). sum (m G) (λ r. length (inner G r)) + x) (sum-mul (m G) (G .w) (λ r. empty (length (inner G r)))))
+      ∙ ap (λ (x : ℕ). sum (m G) (λ r. length (inner G r)) + x) (sum-mul (m G) (G .w) (λ r. empty (length (inner G r)))))
       ∙ omega (arith, pair-count G)
     where
       founds-count : (r : ℕ) (ks : List ℕ) → length (foundsClauses S r ks) ≡ length ks + 2
@@ -184,11 +184,11 @@ module _ (G : Code) (g : Ranges G) (k : ℕ) (wide : G .w ≡ suc k) where
   count-clauses =
       ap (λ (x : ℕ). x + emptyCount G + 2 * openCount G)
       (length-append (part1 G) _ ∙ ap (λ (x : ℕ). length (part1 G) + x)
-        (length-append (part2 G) _ ∙ ap (λ (x : ℕ). length (part2 G) + x)
-          (length-append (part3 G) _ ∙ ap (λ (x : ℕ). length (part3 G) + x)
-            (length-append (part4 G) _ ∙ ap (λ (x : ℕ). length (part4 G) + x)
-              (length-append (part5 G) _ ∙ ap (λ (x : ℕ). length (part5 G) + x)
-                (length-append (part6 G) _ ∙ ap (λ (x : ℕ). length (part6 G) + x) (length-append (part7 G) [])))))))
+      (length-append (part2 G) _ ∙ ap (λ (x : ℕ). length (part2 G) + x)
+      (length-append (part3 G) _ ∙ ap (λ (x : ℕ). length (part3 G) + x)
+      (length-append (part4 G) _ ∙ ap (λ (x : ℕ). length (part4 G) + x)
+      (length-append (part5 G) _ ∙ ap (λ (x : ℕ). length (part5 G) + x)
+      (length-append (part6 G) _ ∙ ap (λ (x : ℕ). length (part6 G) + x) (length-append (part7 G) [])))))))
       ∙ omega (arith, count1, count2, count3, count4, count5, count6, count7, wide, factor)
     where
       factor : length (pairList G) * (12 * G .w - 5) ≡ length (pairList G) * (7 + 12 * k)
@@ -203,9 +203,9 @@ count-whole P w form wide =
     let G = whole P w in
     ap length (sym (clauses-whole P w))
     ∙ formula (length (clausesOf G)) (bodyAtoms P) (length (P .rules)) (P .atoms) (emptyBodies P) (pairCount P) (emptyCount G) (length (pairList G)) (openCount G)
-      (count-le (length (P .rules)) (λ r. eqb (length (ruleAt (P .rules) r .positive)) 0))
-      (sum-ext (length (P .rules)) _ _ (λ r h. ap (λ (bs : List ℕ). empty (length bs)) (inner-whole P w (suc r)))) (ap length (pairs-whole P w)) (sum-zero (P .atoms))
-      (count-clauses G (f .ranges) (pred w) (sym (suc-pred-eq-of-pos (f .some-bit))))
+    (count-le (length (P .rules)) (λ r. eqb (length (ruleAt (P .rules) r .positive)) 0))
+    (sum-ext (length (P .rules)) _ _ (λ r h. ap (λ (bs : List ℕ). empty (length bs)) (inner-whole P w (suc r)))) (ap length (pairs-whole P w)) (sum-zero (P .atoms))
+    (count-clauses G (f .ranges) (pred w) (sym (suc-pred-eq-of-pos (f .some-bit))))
   where
     -- the code's count, with its e and K for those of the program and no open atom
     formula : (C O m n e K e′ K′ o : ℕ) → e ≤ m → e′ ≡ e → K′ ≡ K → o ≡ 0
@@ -213,8 +213,8 @@ count-whole P w form wide =
         → C ≡ O + 5 * m - e + w * e + 2 * n + n * w * (w + 2) + K * (12 * w - 5)
     formula C O m n e K e′ K′ o l p q z c =
         plain (subst (λ (x : ℕ). C + e + 2 * x ≡ O + 5 * m + w * e + 2 * n + n * w * (w + 2) + K * (12 * w - 5) + w * x) z
-          (subst (λ (x : ℕ). C + e + 2 * o ≡ O + 5 * m + w * e + 2 * n + n * w * (w + 2) + x * (12 * w - 5) + w * o) q
-            (subst (λ (x : ℕ). C + x + 2 * o ≡ O + 5 * m + w * x + 2 * n + n * w * (w + 2) + K′ * (12 * w - 5) + w * o) p c)))
+        (subst (λ (x : ℕ). C + e + 2 * o ≡ O + 5 * m + w * e + 2 * n + n * w * (w + 2) + x * (12 * w - 5) + w * o) q
+        (subst (λ (x : ℕ). C + x + 2 * o ≡ O + 5 * m + w * x + 2 * n + n * w * (w + 2) + K′ * (12 * w - 5) + w * o) p c)))
       where
         plain : C + e + 2 * 0 ≡ O + 5 * m + w * e + 2 * n + n * w * (w + 2) + K * (12 * w - 5) + w * 0
             → C ≡ O + 5 * m - e + w * e + 2 * n + n * w * (w + 2) + K * (12 * w - 5)

@@ -19,14 +19,7 @@ pub data Member (S : Sizes) (K v : ℕ) : Type 0 where
   nextBelowAt : (k i : ℕ) → k < K → i < S .w → v ≡ nextBelowVar S (suc k) (suc i) → Member S K v
 
 module _ (S : Sizes) (K : ℕ) where
-  abbrev n : ℕ
-  n = S .n
-
-  abbrev m : ℕ
-  m = S .m
-
-  abbrev w : ℕ
-  w = S .w
+  open Sizes S using (n, m, w)
 
   pair-member : (v x : ℕ) → v ≡ suc (n + 2 * m + 2 * n * w + x) → x < K * (2 * w) → Member S K v
   pair-member v x e h =
@@ -38,19 +31,19 @@ module _ (S : Sizes) (K : ℕ) where
   bit-member v x e h =
       ⊎-elim
       (λ (l : n * w ≤ x).
-        ⊎-elim (λ (k : n * w + n * w ≤ x). pair-member v (x - 2 * n * w) (omega arith) (omega arith))
-        (λ (k : x < n * w + n * w). let q = row-place n w (x - n * w) (omega arith) in nextAt (q .0) (q .1) (q .2) (q .3) (omega (arith, q .4)))
-        (le-or-lt (n * w + n * w) x))
+      ⊎-elim (λ (k : n * w + n * w ≤ x). pair-member v (x - 2 * n * w) (omega arith) (omega arith))
+      (λ (k : x < n * w + n * w). let q = row-place n w (x - n * w) (omega arith) in nextAt (q .0) (q .1) (q .2) (q .3) (omega (arith, q .4)))
+      (le-or-lt (n * w + n * w) x))
       (λ (l : x < n * w). let q = row-place n w x l in levelAt (q .0) (q .1) (q .2) (q .3) (omega (arith, q .4))) (le-or-lt (n * w) x)
 
   pub member : (v : ℕ) → zero < v → v ≤ varCount S K → Member S K v
   member v p h =
       ⊎-elim (λ (l : v ≤ n). atomAt (v - 1) (omega arith) (omega arith))
       (λ (l : n < v).
-        ⊎-elim (λ (k : v ≤ n + m). bodyAt (v - n - 1) (omega arith) (omega arith))
-        (λ (k : n + m < v).
-          ⊎-elim (λ (j : v ≤ n + m + m). foundsAt (v - n - m - 1) (omega arith) (omega arith))
-          (λ (j : n + m + m < v). bit-member v (v - n - m - m - 1) (omega arith) (omega arith))
-          (le-or-lt v (n + m + m)))
-        (le-or-lt v (n + m)))
+      ⊎-elim (λ (k : v ≤ n + m). bodyAt (v - n - 1) (omega arith) (omega arith))
+      (λ (k : n + m < v).
+      ⊎-elim (λ (j : v ≤ n + m + m). foundsAt (v - n - m - 1) (omega arith) (omega arith))
+      (λ (j : n + m + m < v). bit-member v (v - n - m - m - 1) (omega arith) (omega arith))
+      (le-or-lt v (n + m + m)))
+      (le-or-lt v (n + m)))
       (le-or-lt v n)

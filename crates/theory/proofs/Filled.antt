@@ -17,14 +17,7 @@ use Rattle.encoding.specs.Clauses.{Pair, pairAt}
 use Rattle.encoding.specs.Fill.{lessAt, founds, levelBits, nextBits, chainBits, fillWith}
 
 module _ (S : Sizes) (rule : ℕ → Rule) (inner : ℕ → List ℕ) (ps : List Pair) (M : Atoms) (ℓ : ℕ → ℕ) where
-  abbrev n : ℕ
-  n = S .n
-
-  abbrev m : ℕ
-  m = S .m
-
-  abbrev w : ℕ
-  w = S .w
+  open Sizes S using (n, m, w)
 
   abbrev F : List Bool
   F = fillWith S rule inner ps M ℓ
@@ -59,10 +52,10 @@ module _ (S : Sizes) (rule : ℕ → Rule) (inner : ℕ → List ℕ) (ps : List
   fill-length =
       length-append (tab n M) from2 ∙ ap₂ _+_ (length-tab n M)
       (length-append (tab m (λ r. bodyTrue M (rule r))) from3 ∙ ap₂ _+_ (length-tab m (λ r. bodyTrue M (rule r)))
-        (length-append (tab m (λ r. founds M ℓ (rule r) (inner r))) from4 ∙ ap₂ _+_ (length-tab m (λ r. founds M ℓ (rule r) (inner r)))
-          (length-append (levelBits S ℓ) from5 ∙ ap₂ _+_ (bits-length (λ a. bit (ℓ a)))
-            (length-append (nextBits S ℓ) from6 ∙ ap₂ _+_ (bits-length (λ a. bit (ℓ a + 1)))
-              (ap length (append-nil (each (length ps) (chainBits S ps ℓ))) ∙ chains-length)))))
+      (length-append (tab m (λ r. founds M ℓ (rule r) (inner r))) from4 ∙ ap₂ _+_ (length-tab m (λ r. founds M ℓ (rule r) (inner r)))
+      (length-append (levelBits S ℓ) from5 ∙ ap₂ _+_ (bits-length (λ a. bit (ℓ a)))
+      (length-append (nextBits S ℓ) from6 ∙ ap₂ _+_ (bits-length (λ a. bit (ℓ a + 1)))
+      (ap length (append-nil (each (length ps) (chainBits S ps ℓ))) ∙ chains-length)))))
       ∙ omega arith
 
   -- the value at a place behind the first parts

@@ -45,11 +45,11 @@ module _ (S : Sizes) (A : Assignment) where
       let t = bodyVar S r in
       all-append (clauseTrue A) (map (λ b. − t ∷ var b ∷ []) (R .positive)) _
       ∙ ap₂ _&&_ (all-second (− t) var (R .positive))
-        (all-append (clauseTrue A) (map (λ c. − t ∷ − c ∷ []) (R .negative)) _
-        ∙ ap₂ _&&_ (all-second (− t) −_ (R .negative))
-          (ap (λ b. (A t || b) && true)
-            (any-append (literalTrue A) (map −_ (R .positive)) (map var (R .negative))
-            ∙ ap₂ _||_ (any-map (literalTrue A) −_ (R .positive) ∙ any-not A (R .positive)) (any-map (literalTrue A) var (R .negative) ∙ any-is A (R .negative)))))
+      (all-append (clauseTrue A) (map (λ c. − t ∷ − c ∷ []) (R .negative)) _
+      ∙ ap₂ _&&_ (all-second (− t) −_ (R .negative))
+      (ap (λ b. (A t || b) && true)
+      (any-append (literalTrue A) (map −_ (R .positive)) (map var (R .negative))
+      ∙ ap₂ _||_ (any-map (literalTrue A) −_ (R .positive) ∙ any-not A (R .positive)) (any-map (literalTrue A) var (R .negative) ∙ any-is A (R .negative)))))
       ∙ body-table (A t) (all A (R .positive)) (noneIn A (R .negative))
 
   pub implied-means : (a : ℕ) (rs : List ℕ) → allTrue A (impliedClauses S a rs) ≡ (A a || all (λ r. not (A (bodyVar S r))) rs)
@@ -71,9 +71,9 @@ module _ (S : Sizes) (A : Assignment) where
       let t = bodyVar S r in
       ap (λ b. (not (A s) || (A t || false)) && b)
       (all-append (clauseTrue A) (map (λ k. − s ∷ var (belowVar S k (S .w)) ∷ []) ks) _
-        ∙ ap₂ _&&_ (all-second (− s) (λ k. var (belowVar S k (S .w))) ks)
-          (ap (λ b. (A s || (not (A t) || b)) && true)
-            (any-map (literalTrue A) (λ k. − belowVar S k (S .w)) ks ∙ any-not (λ k. A (belowVar S k (S .w))) ks)))
+      ∙ ap₂ _&&_ (all-second (− s) (λ k. var (belowVar S k (S .w))) ks)
+      (ap (λ b. (A s || (not (A t) || b)) && true)
+      (any-map (literalTrue A) (λ k. − belowVar S k (S .w)) ks ∙ any-not (λ k. A (belowVar S k (S .w))) ks)))
       ∙ founds-table (A s) (A t) (all (λ k. A (belowVar S k (S .w))) ks)
 
   -- the lowest bit of the counter of h is set and no other is
@@ -84,8 +84,8 @@ module _ (S : Sizes) (A : Assignment) where
   one-means x h =
       ap₂ _&&_ (ap (λ b. not (A x) || b) (or-false (A (levelVar S h 1))))
       (all-tab (clauseTrue A) (pred (S .w)) (λ i. − x ∷ − levelVar S h (suc i) ∷ [])
-        ∙ allTo-ext (pred (S .w)) _ _ (λ i g. ap (λ b. not (A x) || b) (or-false (not (A (levelVar S h (suc (suc i)))))))
-        ∙ or-allTo (not (A x)) (pred (S .w)) (λ i. not (A (levelVar S h (suc i)))))
+      ∙ allTo-ext (pred (S .w)) _ _ (λ i g. ap (λ b. not (A x) || b) (or-false (not (A (levelVar S h (suc (suc i)))))))
+      ∙ or-allTo (not (A x)) (pred (S .w)) (λ i. not (A (levelVar S h (suc i)))))
       ∙ go (not (A x)) (A (levelVar S h 1)) _
     where
       go : (c a b : Bool) → ((c || a) && (c || b)) ≡ (c || (a && b))

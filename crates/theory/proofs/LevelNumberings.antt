@@ -58,19 +58,26 @@ module _ (P : Program) (form : So (wellFormed P)) (M : Atoms) where
         go zero e = omega (arith, num .low-none j h b e)
         go (suc l) e =
             let q = num .low-some j h b (omega arith) in
-            omega (arith, q .2, subst (λ (bs : List ℕ). lev (getD bs (q .0) 0) ≤ largest lev (R j .positive)) (sym (inner-whole P 0 (suc j)))
-              (largest-le lev (R j .positive) (q .0) (subst (λ (bs : List ℕ). q .0 < length bs) (inner-whole P 0 (suc j)) (q .1))))
+            omega (
+              arith,
+              q .2,
+              subst (λ (bs : List ℕ). lev (getD bs (q .0) 0) ≤ largest lev (R j .positive)) (sym (inner-whole P 0 (suc j)))
+                  (largest-le lev (R j .positive) (q .0) (subst (λ (bs : List ℕ). q .0 < length bs) (inner-whole P 0 (suc j)) (q .1))),
+            )
 
     levels : LevelNumbering P M lev
     levels =
         record {
           model = λ a j t. subst (λ (x : ℕ). So (M x)) (t .its-head) (num .closed j (t .is-rule) (t .its-body));
           attained = λ a t.
-            let q = num .found a t refl in
-            (q .0, record { is-rule = q .1; its-head = q .2; its-body = q .3 },
-              le-antisymm (subst (λ (x : ℕ). lev x ≤ bodyLevel lev (R (q .0) .positive)) (q .2) (low (q .0) (q .1) (q .3)))
-              (above a (R (q .0) .positive) (positive G M lev num a t) (subst (λ (bs : List ℕ). So (all (λ b. ltb (lev b) (lev a)) bs)) (inner-whole P 0 (suc (q .0))) (q .4))));
-          least = λ a j t. subst (λ (x : ℕ). lev x ≤ bodyLevel lev (R j .positive)) (t .its-head) (low j (t .is-rule) (t .its-body)) }
+              let q = num .found a t refl in (
+                q .0,
+                record { is-rule = q .1; its-head = q .2; its-body = q .3 },
+                le-antisymm (subst (λ (x : ℕ). lev x ≤ bodyLevel lev (R (q .0) .positive)) (q .2) (low (q .0) (q .1) (q .3)))
+                    (above a (R (q .0) .positive) (positive G M lev num a t) (subst (λ (bs : List ℕ). So (all (λ b. ltb (lev b) (lev a)) bs)) (inner-whole P 0 (suc (q .0))) (q .4))),
+              );
+          least = λ a j t. subst (λ (x : ℕ). lev x ≤ bodyLevel lev (R j .positive)) (t .its-head) (low j (t .is-rule) (t .its-body));
+        }
       where
         above : (a : ℕ) (bs : List ℕ) → zero < lev a → So (all (λ b. ltb (lev b) (lev a)) bs) → bodyLevel lev bs ≤ lev a
         above a bs z t = go (lev a) refl z
@@ -105,19 +112,26 @@ module _ (P : Program) (form : So (wellFormed P)) (M : Atoms) where
           off = λ a e. ap (λ b. cond b (ℓ a) 0) e;
           one = λ a t o. absurd (false≢true o);
           found = λ a t o.
-            let q = s .attained a t in
-            let bs = R (q .0) .positive in
-            (q .0, q .1 .is-rule, q .1 .its-head, q .1 .its-body,
-              subst (λ (bs : List ℕ). So (all (λ b. ltb (ℓ′ b) (ℓ′ a)) bs)) (sym (inner-whole P 0 (suc (q .0))))
-              (all-in (λ b. ltb (ℓ′ b) (ℓ′ a)) bs 0
-                (λ i h. lt-ltb (ℓ′ (getD bs i 0)) (ℓ′ a) (omega (arith, q .2, same-on a t, same-on (getD bs i 0) (body-on (q .0) i (q .1 .its-body) h), largest-le ℓ bs i h)))));
+              let q = s .attained a t in
+              let bs = R (q .0) .positive in (
+                q .0,
+                q .1 .is-rule,
+                q .1 .its-head,
+                q .1 .its-body,
+                subst (λ (bs : List ℕ). So (all (λ b. ltb (ℓ′ b) (ℓ′ a)) bs)) (sym (inner-whole P 0 (suc (q .0))))
+                    (all-in (λ b. ltb (ℓ′ b) (ℓ′ a)) bs 0
+                    (λ i h. lt-ltb (ℓ′ (getD bs i 0)) (ℓ′ a) (omega (arith, q .2, same-on a t, same-on (getD bs i 0) (body-on (q .0) i (q .1 .its-body) h), largest-le ℓ bs i h)))),
+              );
           low-none = λ r h b e. none r h b (R r .positive) refl (ap length (sym (inner-whole P 0 (suc r))) ∙ e);
           low-some = λ r h b z.
-            let bs = R r .positive in
-            let q = largest-at ℓ bs (subst (λ (xs : List ℕ). zero < length xs) (inner-whole P 0 (suc r)) z) in
-            (q .0, subst (λ (xs : List ℕ). q .0 < length xs) (sym (inner-whole P 0 (suc r))) (q .1),
-              subst (λ (xs : List ℕ). ℓ′ (R r .head) ≤ ℓ′ (getD xs (q .0) 0) + 1) (sym (inner-whole P 0 (suc r)))
-              (omega (arith, q .2, s .least (R r .head) r (record { is-rule = h; its-head = refl; its-body = b }), same-on (R r .head) (closed r h b), same-on (getD bs (q .0) 0) (body-on r (q .0) b (q .1))))) }
+              let bs = R r .positive in
+              let q = largest-at ℓ bs (subst (λ (xs : List ℕ). zero < length xs) (inner-whole P 0 (suc r)) z) in (
+                q .0,
+                subst (λ (xs : List ℕ). q .0 < length xs) (sym (inner-whole P 0 (suc r))) (q .1),
+                subst (λ (xs : List ℕ). ℓ′ (R r .head) ≤ ℓ′ (getD xs (q .0) 0) + 1) (sym (inner-whole P 0 (suc r)))
+                    (omega (arith, q .2, s .least (R r .head) r (record { is-rule = h; its-head = refl; its-body = b }), same-on (R r .head) (closed r h b), same-on (getD bs (q .0) 0) (body-on r (q .0) b (q .1)))),
+              );
+        }
       where
         none : (r : ℕ) → r < length (P .rules) → So (bodyTrue M (R r)) → (bs : List ℕ) → R r .positive ≡ bs → length bs ≡ 0 → ℓ′ (R r .head) ≡ 1
         none r h b [] e z =

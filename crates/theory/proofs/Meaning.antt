@@ -87,7 +87,7 @@ module _ (G : Code) (p : ℕ → Bool) (a : ℕ) where
   all-its f =
       all-select p (λ r. eqb (rl G r .head) a) (m G)
       ∙ allTo-in (m G) (λ r. not (eqb (rl G r .head) a) || p r)
-        (λ r h. so-implies (eqb (rl G (suc r) .head) a) (p (suc r)) (λ e. f r h (eqb-true (rl G (suc r) .head) a e)))
+      (λ r h. so-implies (eqb (rl G (suc r) .head) a) (p (suc r)) (λ e. f r h (eqb-true (rl G (suc r) .head) a e)))
 
 module _ (G : Code) (A : Assignment) where
   abbrev S : Sizes
@@ -140,9 +140,6 @@ module _ (G : Code) (A : Assignment) where
   abbrev unopened : ℕ → List Clause
   unopened a = cond (G .opened a) [] (supportedClause S a (its G a) ∷ [])
 
-  abbrev last : ℕ → List Clause
-  last a = cond (G .opened a) (oneClauses S a a) (foundedClause S a (its G a) ∷ [])
-
   abbrev belowChain : ℕ → List Clause
   belowChain k = chain (G .w) (belowVar S k) (levelVar S (bodyOf G k)) (levelVar S (headOf G k))
 
@@ -162,36 +159,37 @@ module _ (G : Code) (A : Assignment) where
       record {
         bodies = λ r h. beq-eq _ _ (sym (body-means S A (suc r) (rl G (suc r))) ∙ each-at (m G) _ (p .at1) r h);
         implied = λ a h r g e t.
-          ⊎-elim (λ u. u) (λ u. absurd (not-So (not (A (bodyVar S (suc r)))) (ap not t) (its-all G (λ r. not (A (bodyVar S r))) (suc a) u r g e)))
-          (or-cases (A (suc a)) _ (sym (implied-means S A (suc a) (its G (suc a))) ∙ append-left (impliedClauses S (suc a) (its G (suc a))) (unopened (suc a)) (each-at (G .n) _ (p .at2) a h)));
+            ⊎-elim (λ u. u) (λ u. absurd (not-So (not (A (bodyVar S (suc r)))) (ap not t) (its-all G (λ r. not (A (bodyVar S r))) (suc a) u r g e)))
+            (or-cases (A (suc a)) _ (sym (implied-means S A (suc a) (its G (suc a))) ∙ append-left (impliedClauses S (suc a) (its G (suc a))) (unopened (suc a)) (each-at (G .n) _ (p .at2) a h)));
         supported = λ a h o t.
-          its-any G (λ r. A (bodyVar S r)) (suc a)
-          (or-so (A (suc a)) _
+            its-any G (λ r. A (bodyVar S r)) (suc a)
+            (or-so (A (suc a)) _
             (sym (supported-means S A (suc a) (its G (suc a)))
             ∙ one-of (supportedClause S (suc a) (its G (suc a)))
-              (subst (λ b. So (allTrue A (cond b [] (supportedClause S (suc a) (its G (suc a)) ∷ [])))) o
-                (append-right (impliedClauses S (suc a) (its G (suc a))) (unopened (suc a)) (each-at (G .n) _ (p .at2) a h)))) t);
+            (subst (λ b. So (allTrue A (cond b [] (supportedClause S (suc a) (its G (suc a)) ∷ [])))) o
+            (append-right (impliedClauses S (suc a) (its G (suc a))) (unopened (suc a)) (each-at (G .n) _ (p .at2) a h)))) t);
         zeroed = λ a h e i g.
-          not-true (A (levelVar S (suc a) (suc i)))
-          (allTo-at (G .w) (λ i. not (A (levelVar S (suc a) i)))
+            not-true (A (levelVar S (suc a) (suc i)))
+            (allTo-at (G .w) (λ i. not (A (levelVar S (suc a) i)))
             (subst (λ b. So (b || allTo (G .w) (λ i. not (A (levelVar S (suc a) i))))) e (sym (zero-means S A (suc a)) ∙ each-at (G .n) _ (p .at3) a h)) i g);
         nexts = λ a h. successor-iff A (G .w) (nextVar S (suc a)) (levelVar S (suc a)) .0 (each-at (G .n) _ (p .at4) a h);
         belows = λ k h. chain-iff A (G .w) _ _ _ .0 (append-left (belowChain (suc k)) (nextBelowChain (suc k)) (each-at (length (pairList G)) _ (p .at5) k h));
         nextBelows = λ k h. chain-iff A (G .w) _ _ _ .0 (append-right (belowChain (suc k)) (nextBelowChain (suc k)) (each-at (length (pairList G)) _ (p .at5) k h));
         founds = λ r h. beq-eq _ _ (sym (founds-means S A (suc r) (pairNumbers G (suc r))) ∙ append-left (foundsPart (suc r)) (lowestPart (suc r)) (each-at (m G) _ (p .at6) r h));
         lowest = λ r h t.
-          or-so (A (bodyVar S (suc r))) _
-          (sym (lowest-means S A (suc r) (rl G (suc r) .head) (pairNumbers G (suc r))) ∙ append-right (foundsPart (suc r)) (lowestPart (suc r)) (each-at (m G) _ (p .at6) r h)) t;
+            or-so (A (bodyVar S (suc r))) _
+            (sym (lowest-means S A (suc r) (rl G (suc r) .head) (pairNumbers G (suc r))) ∙ append-right (foundsPart (suc r)) (lowestPart (suc r)) (each-at (m G) _ (p .at6) r h)) t;
         founded = λ a h o t.
-          its-any G (λ r. A (foundsVar S r)) (suc a)
-          (or-so (A (suc a)) _
+            its-any G (λ r. A (foundsVar S r)) (suc a)
+            (or-so (A (suc a)) _
             (sym (founded-means S A (suc a) (its G (suc a)))
             ∙ one-of (foundedClause S (suc a) (its G (suc a)))
-              (subst (λ b. So (allTrue A (cond b (oneClauses S (suc a) (suc a)) (foundedClause S (suc a) (its G (suc a)) ∷ [])))) o (each-at (G .n) _ (p .at7) a h))) t);
+            (subst (λ b. So (allTrue A (cond b (oneClauses S (suc a) (suc a)) (foundedClause S (suc a) (its G (suc a)) ∷ [])))) o (each-at (G .n) _ (p .at7) a h))) t);
         one = λ a h o t.
-          or-so (A (suc a)) _
-          (sym (one-means S A (suc a) (suc a))
-            ∙ subst (λ b. So (allTrue A (cond b (oneClauses S (suc a) (suc a)) (foundedClause S (suc a) (its G (suc a)) ∷ [])))) o (each-at (G .n) _ (p .at7) a h)) t }
+            or-so (A (suc a)) _
+            (sym (one-means S A (suc a) (suc a))
+            ∙ subst (λ b. So (allTrue A (cond b (oneClauses S (suc a) (suc a)) (foundedClause S (suc a) (its G (suc a)) ∷ [])))) o (each-at (G .n) _ (p .at7) a h)) t;
+      }
 
   -- ---- and written
 
@@ -200,17 +198,18 @@ module _ (G : Code) (A : Assignment) where
       record {
         at1 = each-in (m G) _ (λ r h. body-means S A (suc r) (rl G (suc r)) ∙ eq-beq _ _ (s .bodies r h));
         at2 = each-in (G .n) _ (λ a h. append-in (impliedClauses S (suc a) (its G (suc a))) (unopened (suc a))
-          (implied-means S A (suc a) (its G (suc a))
+            (implied-means S A (suc a) (its G (suc a))
             ∙ so-or (A (suc a)) _ (λ u. all-its G (λ r. not (A (bodyVar S r))) (suc a) (λ r g e. so-false (A (bodyVar S (suc r))) (λ t. not-So (A (suc a)) (not-true (A (suc a)) u) (s .implied a h r g e t)))))
-          (opened-or (G .opened (suc a)) a refl h));
+            (opened-or (G .opened (suc a)) a refl h));
         at3 = each-in (G .n) _ (λ a h. zero-means S A (suc a)
-          ∙ so-or (A (suc a)) _ (λ u. allTo-in (G .w) _ (λ i g. So-not (A (levelVar S (suc a) (suc i))) (s .zeroed a h (not-true (A (suc a)) u) i g))));
+            ∙ so-or (A (suc a)) _ (λ u. allTo-in (G .w) _ (λ i g. So-not (A (levelVar S (suc a) (suc i))) (s .zeroed a h (not-true (A (suc a)) u) i g))));
         at4 = each-in (G .n) _ (λ a h. successor-iff A (G .w) (nextVar S (suc a)) (levelVar S (suc a)) .1 (s .nexts a h));
         at5 = each-in (length (pairList G)) _ (λ k h. append-in (belowChain (suc k)) (nextBelowChain (suc k)) (chain-iff A (G .w) _ _ _ .1 (s .belows k h)) (chain-iff A (G .w) _ _ _ .1 (s .nextBelows k h)));
         at6 = each-in (m G) _ (λ r h. append-in (foundsPart (suc r)) (lowestPart (suc r))
-          (founds-means S A (suc r) (pairNumbers G (suc r)) ∙ eq-beq _ _ (s .founds r h))
-          (lowest-means S A (suc r) (rl G (suc r) .head) (pairNumbers G (suc r)) ∙ so-implies (A (bodyVar S (suc r))) _ (s .lowest r h)));
-        at7 = each-in (G .n) _ (λ a h. opened-last (G .opened (suc a)) a refl h) }
+            (founds-means S A (suc r) (pairNumbers G (suc r)) ∙ eq-beq _ _ (s .founds r h))
+            (lowest-means S A (suc r) (rl G (suc r) .head) (pairNumbers G (suc r)) ∙ so-implies (A (bodyVar S (suc r))) _ (s .lowest r h)));
+        at7 = each-in (G .n) _ (λ a h. opened-last (G .opened (suc a)) a refl h);
+      }
     where
       so-false : (b : Bool) → (So b → ⊥) → So (not b)
       so-false true f = absurd (f refl)

@@ -23,9 +23,9 @@ use Rattle.lists.proofs.Tables.{keep-all, all-keep, all-of-keep}
 use Rattle.lists.proofs.First.{greatest}
 use Rattle.meaning.specs.Program.{Atoms, isAtom, noneIn, bodyTrue}
 use Rattle.meaning.specs.Stage.{Definite, stage, InUnion}
-use Rattle.meaning.proofs.Atoms.{is-atom}
-use Rattle.meaning.proofs.Stages.{stage-zero, stage-atom, stage-le}
-use Rattle.meaning.proofs.LeastModel.{collect, level-none, level-pos, level-first, level-least}
+use Rattle.theory.proofs.Atoms.{is-atom}
+use Rattle.theory.proofs.Stages.{stage-zero, stage-atom, stage-le}
+use Rattle.theory.proofs.LeastModel.{collect, level-none, level-pos, level-first, level-least}
 use Rattle.theory.specs.Code.{Code, m, rl, inner, keeps, ruleKept, openKept, reductOf, levelOf, full, StableIn}
 use Rattle.theory.proofs.Reducts.{ByRule, ByOpen, stage-in-rule, stage-in-open, stage-cases, kept-of-body, inner-of-body, body-of-kept}
 
@@ -64,8 +64,8 @@ module _ (G : Code) (M : Atoms) where
   heads-in g =
       all-append (λ d. isAtom (G .n) (d .head)) (each (m G) (ruleKept G M)) (each (G .n) (openKept G M))
       ∙ and-in
-        (all-each (λ d. isAtom (G .n) (d .head)) (m G) (ruleKept G M) ∙ allTo-in (m G) _ (λ r h. kept (keeps G M (suc r)) _ (g .head-in r h)))
-        (all-each (λ d. isAtom (G .n) (d .head)) (G .n) (openKept G M) ∙ allTo-in (G .n) _ (λ a h. kept (G .opened (suc a) && M (suc a)) _ (is-atom (G .n) (suc a) (omega arith) h)))
+      (all-each (λ d. isAtom (G .n) (d .head)) (m G) (ruleKept G M) ∙ allTo-in (m G) _ (λ r h. kept (keeps G M (suc r)) _ (g .head-in r h)))
+      (all-each (λ d. isAtom (G .n) (d .head)) (G .n) (openKept G M) ∙ allTo-in (G .n) _ (λ a h. kept (G .opened (suc a) && M (suc a)) _ (is-atom (G .n) (suc a) (omega arith) h)))
     where
       kept : (b : Bool) (d : Definite) → So (isAtom (G .n) (d .head)) → So (all (λ d. isAtom (G .n) (d .head)) (cond b (d ∷ []) []))
       kept true d t = and-in t refl
@@ -81,7 +81,7 @@ module _ (G : Code) (M : Atoms) where
           let e = q .1 in
           subst (λ (x : ℕ). So (M x)) (e .its-head)
           (c (q .0) (e .is-rule) (body-of-kept G M (suc (q .0)) (e .kept)
-            (all-in M (inner G (suc (q .0))) 0 (λ j h. ih _ (all-at (stage (reductOf G M) i) (inner G (suc (q .0))) 0 (e .its-inner) j h)))))
+          (all-in M (inner G (suc (q .0))) 0 (λ j h. ih _ (all-at (stage (reductOf G M) i) (inner G (suc (q .0))) 0 (e .its-inner) j h)))))
       go (inr o) ih = o .is-true
 
 pub inner-full : (G : Code) (r : ℕ) → inner (full G) r ≡ rl G r .positive
@@ -113,11 +113,14 @@ module _ (G : Code) (M : Atoms) where
           let bs = rl G r .positive in
           let up = subst (λ xs. So (all (stage (reductOf (full G) M) i) xs)) (inner-full G r) (e .its-inner) in
           let body = body-of-kept (full G) M r (e .kept)
-            (all-in M (inner (full G) r) 0 (λ j h. stage-sub (full G) M c i _ (all-at (stage (reductOf (full G) M) i) (inner (full G) r) 0 (e .its-inner) j h))) in
+          (all-in M (inner (full G) r) 0 (λ j h. stage-sub (full G) M c i _ (all-at (stage (reductOf (full G) M) i) (inner (full G) r) 0 (e .its-inner) j h))) in
           stage-in-rule G M i a (q .0)
           (record {
-            is-rule = e .is-rule; its-head = e .its-head; kept = kept-of-body G M r body;
-            its-inner = all-inner G (stage (reductOf G M) i) r (all-in (stage (reductOf G M) i) bs 0 (λ j h. ih _ (all-at (stage (reductOf (full G) M) i) bs 0 up j h))) })
+            is-rule = e .is-rule;
+            its-head = e .its-head;
+            kept = kept-of-body G M r body;
+            its-inner = all-inner G (stage (reductOf G M) i) r (all-in (stage (reductOf G M) i) bs 0 (λ j h. ih _ (all-at (stage (reductOf (full G) M) i) bs 0 up j h)));
+          })
       go (inr o) ih = stage-in-open G M i a (record { is-in = o .is-in; is-open = o .is-open; is-true = o .is-true })
 
   module _ (k : Rank G) where
@@ -143,14 +146,18 @@ module _ (G : Code) (M : Atoms) where
             let bs = rl G r .positive in
             let l = subst (λ (x : ℕ). k .rank x ≤ c) (sym (e .its-head)) h in
             let s = collect (reductOf (full G) M) bs
-              (λ j g. body-in (q .0) j (e .is-rule) g l (G .inside (getD bs j 0) (rl G r .head)) refl
-                (all-at (λ b. G .inside b (rl G r .head) || M b) bs 0 (and-right (noneIn M (rl G r .negative)) _ (e .kept)) j g)
-                (all-at (λ b. not (G .inside b (rl G r .head)) || stage (reductOf G M) i b) bs 0 (inner-all G (stage (reductOf G M) i) r (e .its-inner)) j g) ih) in
-            (suc (s .0), stage-in-rule (full G) M (s .0) a (q .0)
-              (record {
-                is-rule = e .is-rule; its-head = e .its-head;
-                kept = and-in (and-left (noneIn M (rl G r .negative)) _ (e .kept)) (all-in (λ b. true || M b) bs 0 (λ j g. refl));
-                its-inner = subst (λ xs. So (all (stage (reductOf (full G) M) (s .0)) xs)) (sym (inner-full G r)) (s .1) }))
+            (λ j g. body-in (q .0) j (e .is-rule) g l (G .inside (getD bs j 0) (rl G r .head)) refl
+            (all-at (λ b. G .inside b (rl G r .head) || M b) bs 0 (and-right (noneIn M (rl G r .negative)) _ (e .kept)) j g)
+            (all-at (λ b. not (G .inside b (rl G r .head)) || stage (reductOf G M) i b) bs 0 (inner-all G (stage (reductOf G M) i) r (e .its-inner)) j g) ih) in (
+              suc (s .0),
+              stage-in-rule (full G) M (s .0) a (q .0)
+                  (record {
+                    is-rule = e .is-rule;
+                    its-head = e .its-head;
+                    kept = and-in (and-left (noneIn M (rl G r .negative)) _ (e .kept)) (all-in (λ b. true || M b) bs 0 (λ j g. refl));
+                    its-inner = subst (λ xs. So (all (stage (reductOf (full G) M) (s .0)) xs)) (sym (inner-full G r)) (s .1);
+                  }),
+            )
         go (inr o) ih = (1, stage-in-open (full G) M 0 a (record { is-in = o .is-in; is-open = o .is-open; is-true = o .is-true }))
 
     climbs : ((a : ℕ) → So (M a) → InUnion (reductOf G M) a) → (c a : ℕ) → k .rank a < c → So (M a) → InUnion (reductOf (full G) M) a
@@ -177,15 +184,18 @@ module _ (G : Code) (M : Atoms) where
     reached (suc k) a h t =
         ⊎-elim (λ (o : So (G .opened a)). stage-in-open G M k a (record { is-in = s .atoms a t; is-open = o; is-true = t }))
         (λ (o : G .opened a ≡ false).
-          let q = s .found a t o in
-          let r = suc (q .0) in
-          stage-in-rule G M k a (q .0)
-          (record {
-            is-rule = q .1; its-head = q .2; kept = kept-of-body G M r (q .3);
-            its-inner = all-in (stage (reductOf G M) k) (inner G r) 0
+        let q = s .found a t o in
+        let r = suc (q .0) in
+        stage-in-rule G M k a (q .0)
+        (record {
+          is-rule = q .1;
+          its-head = q .2;
+          kept = kept-of-body G M r (q .3);
+          its-inner = all-in (stage (reductOf G M) k) (inner G r) 0
               (λ j g. reached k (getD (inner G r) j 0)
-                (omega (arith, ltb-true (ℓ (getD (inner G r) j 0)) (ℓ a) (all-at (λ b. ltb (ℓ b) (ℓ a)) (inner G r) 0 (q .4) j g)))
-                (all-at M (inner G r) 0 (inner-of-body G M r (q .3)) j g)) }))
+              (omega (arith, ltb-true (ℓ (getD (inner G r) j 0)) (ℓ a) (all-at (λ b. ltb (ℓ b) (ℓ a)) (inner G r) 0 (q .4) j g)))
+              (all-at M (inner G r) 0 (inner-of-body G M r (q .3)) j g));
+        }))
         (So-or-not (G .opened a))
 
     in-union : (a : ℕ) → So (M a) → InUnion (reductOf G M) a
@@ -202,7 +212,7 @@ module _ (G : Code) (M : Atoms) where
         sized : (r k : ℕ) → length (inner G (suc r)) ≡ k → ByRule G M i a r → ((b : ℕ) → So (stage (reductOf G M) i b) → ℓ b ≤ i) → ℓ (rl G (suc r) .head) ≤ suc i
         sized r k e q ih =
             let b = body-of-kept G M (suc r) (q .kept)
-              (all-in M (inner G (suc r)) 0 (λ j h. stage-sub G M (s .closed) i _ (all-at (stage (reductOf G M) i) (inner G (suc r)) 0 (q .its-inner) j h))) in
+            (all-in M (inner G (suc r)) 0 (λ j h. stage-sub G M (s .closed) i _ (all-at (stage (reductOf G M) i) (inner G (suc r)) 0 (q .its-inner) j h))) in
             by-size k e b
           where
             by-size : (k : ℕ) → length (inner G (suc r)) ≡ k → So (bodyTrue M (rl G (suc r))) → ℓ (rl G (suc r) .head) ≤ suc i
@@ -219,8 +229,8 @@ module _ (G : Code) (M : Atoms) where
     numbered-level g a =
         ⊎-elim
         (λ (t : So (M a)). le-antisymm
-          (no-more (levelOf G M a) a (level-first (reductOf G M) (G .n) (heads-in G M g) a (in-union a t) .holds))
-          (level-least (reductOf G M) (G .n) (heads-in G M g) a (ℓ a) (reached (ℓ a) a (le-refl (ℓ a)) t)))
+        (no-more (levelOf G M a) a (level-first (reductOf G M) (G .n) (heads-in G M g) a (in-union a t) .holds))
+        (level-least (reductOf G M) (G .n) (heads-in G M g) a (ℓ a) (reached (ℓ a) a (le-refl (ℓ a)) t)))
         (λ (e : M a ≡ false). s .off a e ∙ sym (level-none (reductOf G M) (G .n) a (λ u. not-So (M a) e (stage-sub G M (s .closed) (u .0) a (u .1)))))
         (So-or-not (M a))
 
@@ -234,9 +244,11 @@ module _ (G : Code) (M : Atoms) where
     stable-closed r h t =
         let bs = rl G (suc r) .positive in
         let q = collect (reductOf (full G) M) bs (λ j i. s .founded (getD bs j 0) (all-at M bs 0 (and-left (all M bs) (noneIn M (rl G (suc r) .negative)) t) j i)) in
-        s .closed (rl G (suc r) .head)
-        (suc (q .0), stage-in-rule (full G) M (q .0) (rl G (suc r) .head) r
-          (record { is-rule = h; its-head = refl; kept = kept-of-body (full G) M (suc r) t; its-inner = subst (λ xs. So (all (stage (reductOf (full G) M) (q .0)) xs)) (sym (inner-full G (suc r))) (q .1) }))
+        s .closed (rl G (suc r) .head) (
+          suc (q .0),
+          stage-in-rule (full G) M (q .0) (rl G (suc r) .head) r
+              (record { is-rule = h; its-head = refl; kept = kept-of-body (full G) M (suc r) t; its-inner = subst (λ xs. So (all (stage (reductOf (full G) M) (q .0)) xs)) (sym (inner-full G (suc r))) (q .1) }),
+        )
 
     pub local : (a : ℕ) → So (M a) → InUnion (reductOf G M) a
     local a t = let u = s .founded a t in (u .0, full-local stable-closed (u .0) a (u .1))
@@ -257,12 +269,15 @@ module _ (G : Code) (M : Atoms) where
             → (r : ℕ) × (r < m G) × (rl G (suc r) .head ≡ a) × So (bodyTrue M (rl G (suc r))) × So (all (λ b. ltb (lev b) (lev a)) (inner G (suc r)))
         go (inl q) =
             let r = suc (q .0) in
-            let p = q .1 in
-            (q .0, p .is-rule, p .its-head,
+            let p = q .1 in (
+              q .0,
+              p .is-rule,
+              p .its-head,
               body-of-kept G M r (p .kept) (all-in M (inner G r) 0 (λ j h. stage-sub G M stable-closed i _ (all-at (stage (reductOf G M) i) (inner G r) 0 (p .its-inner) j h))),
               all-in (λ b. ltb (lev b) (lev a)) (inner G r) 0
-              (λ j h. lt-ltb (lev (getD (inner G r) j 0)) (lev a)
-                (omega (arith, e, level-least (reductOf G M) (G .n) (heads-in G M g) (getD (inner G r) j 0) i (all-at (stage (reductOf G M) i) (inner G r) 0 (p .its-inner) j h)))))
+                  (λ j h. lt-ltb (lev (getD (inner G r) j 0)) (lev a)
+                  (omega (arith, e, level-least (reductOf G M) (G .n) (heads-in G M g) (getD (inner G r) j 0) i (all-at (stage (reductOf G M) i) (inner G r) 0 (p .its-inner) j h)))),
+            )
         go (inr x) = absurd (not-So (G .opened a) o (x .is-open))
 
     pub stable-numbered : Numbering G M lev
@@ -274,7 +289,8 @@ module _ (G : Code) (M : Atoms) where
           one = λ a t o. level-is-one a (stage-in-open G M 0 a (record { is-in = stable-in a t; is-open = o; is-true = t }));
           found = λ a t o. found-at a (lev a) refl (level-first (reductOf G M) (G .n) (heads-in G M g) a (local a t) .holds) o;
           low-none = λ r h b e. level-is-one (rl G (suc r) .head) (entered r h b 0 (all-in (stage (reductOf G M) 0) (inner G (suc r)) 0 (λ j i. absurd (omega arith))));
-          low-some = λ r h b z. highest r h b (greatest lev (inner G (suc r)) z) }
+          low-some = λ r h b z. highest r h b (greatest lev (inner G (suc r)) z);
+        }
       where
         entered : (r : ℕ) → r < m G → So (bodyTrue M (rl G (suc r))) → (i : ℕ) → So (all (stage (reductOf G M) i) (inner G (suc r))) → So (stage (reductOf G M) (suc i) (rl G (suc r) .head))
         entered r h b i t = stage-in-rule G M i (rl G (suc r) .head) r (record { is-rule = h; its-head = refl; kept = kept-of-body G M (suc r) b; its-inner = t })
@@ -283,8 +299,14 @@ module _ (G : Code) (M : Atoms) where
             → (j : ℕ) × (j < length (inner G (suc r))) × ((i : ℕ) → i < length (inner G (suc r)) → lev (getD (inner G (suc r)) i 0) ≤ lev (getD (inner G (suc r)) j 0))
             → (j : ℕ) × (j < length (inner G (suc r))) × (lev (rl G (suc r) .head) ≤ lev (getD (inner G (suc r)) j 0) + 1)
         highest r h b q =
-            let top = lev (getD (inner G (suc r)) (q .0) 0) in
-            (q .0, q .1, omega (arith, level-least (reductOf G M) (G .n) (heads-in G M g) (rl G (suc r) .head) (suc top)
-              (entered r h b top (all-in (stage (reductOf G M) top) (inner G (suc r)) 0
-                (λ i k. stage-le (reductOf G M) (lev (getD (inner G (suc r)) i 0)) top (getD (inner G (suc r)) i 0) (q .2 i k)
-                  (level-first (reductOf G M) (G .n) (heads-in G M g) (getD (inner G (suc r)) i 0) (local _ (all-at M (inner G (suc r)) 0 (inner-of-body G M (suc r) b) i k)) .holds))))))
+            let top = lev (getD (inner G (suc r)) (q .0) 0) in (
+              q .0,
+              q .1,
+              omega (
+                arith,
+                level-least (reductOf G M) (G .n) (heads-in G M g) (rl G (suc r) .head) (suc top)
+                    (entered r h b top (all-in (stage (reductOf G M) top) (inner G (suc r)) 0
+                    (λ i k. stage-le (reductOf G M) (lev (getD (inner G (suc r)) i 0)) top (getD (inner G (suc r)) i 0) (q .2 i k)
+                    (level-first (reductOf G M) (G .n) (heads-in G M g) (getD (inner G (suc r)) i 0) (local _ (all-at M (inner G (suc r)) 0 (inner-of-body G M (suc r) b) i k)) .holds)))),
+              ),
+            )

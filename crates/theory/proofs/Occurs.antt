@@ -15,7 +15,7 @@ use Rattle.lists.specs.Lists.{all, any, tab, each}
 use Rattle.lists.proofs.Bools.{and-in, or-left, or-right}
 use Rattle.lists.proofs.Tests.{all-at, all-in, all-map, all-tab, all-each, all-append, all-joined, allTo-in, any-append, any-each, any-tab, any-joined, any-in, anyTo-in}
 use Rattle.meaning.specs.Program.{isAtom}
-use Rattle.meaning.proofs.Atoms.{is-atom, atom-pos, atom-le, by-place}
+use Rattle.theory.proofs.Atoms.{is-atom, atom-pos, atom-le, by-place}
 use Rattle.encoding.specs.Literal.{Literal, var, −_, variable, Clause, within, occurs}
 use Rattle.encoding.specs.Variables.{Sizes, bodyVar, foundsVar, levelVar, nextVar, belowVar, nextBelowVar}
 use Rattle.encoding.specs.Counter.{chain, chainAt, successor, successorAt, keepsClauses, flipsClauses}
@@ -120,10 +120,10 @@ module _ (G : Code) (g : Ranges G) (some : zero < G .w) where
       append-fit (map (λ b. − bodyVar S (suc r) ∷ var b ∷ []) (R .positive)) _
       (map-fit (isAtom (G .n)) (R .positive) _ (g .positive-in r h) (λ b u. two-fit (− bodyVar S (suc r)) (var b) t (ok-atom b u)))
       (append-fit (map (λ c. − bodyVar S (suc r) ∷ − c ∷ []) (R .negative)) _
-        (map-fit (isAtom (G .n)) (R .negative) _ (g .negative-in r h) (λ c u. two-fit (− bodyVar S (suc r)) (− c) t (ok-atom c u)))
-        (one-fit (var (bodyVar S (suc r)) ∷ (map −_ (R .positive) ++ map var (R .negative)))
-          (and-in t (all-append (λ l. ok (variable l)) (map −_ (R .positive)) (map var (R .negative))
-            ∙ and-in (map-ok (isAtom (G .n)) (R .positive) −_ (g .positive-in r h) ok-atom) (map-ok (isAtom (G .n)) (R .negative) var (g .negative-in r h) ok-atom))))))
+      (map-fit (isAtom (G .n)) (R .negative) _ (g .negative-in r h) (λ c u. two-fit (− bodyVar S (suc r)) (− c) t (ok-atom c u)))
+      (one-fit (var (bodyVar S (suc r)) ∷ (map −_ (R .positive) ++ map var (R .negative)))
+      (and-in t (all-append (λ l. ok (variable l)) (map −_ (R .positive)) (map var (R .negative))
+      ∙ and-in (map-ok (isAtom (G .n)) (R .positive) −_ (g .positive-in r h) ok-atom) (map-ok (isAtom (G .n)) (R .negative) var (g .negative-in r h) ok-atom))))))
 
   fit2 : So (allFit (part2 G))
   fit2 = each-fit (G .n) _ (λ a h.
@@ -131,7 +131,7 @@ module _ (G : Code) (g : Ranges G) (some : zero < G .w) where
       append-fit (impliedClauses S (suc a) (its G (suc a))) _
       (map-fit (isAtom (m G)) (its G (suc a)) _ (its-in (suc a)) (λ r u. two-fit (var (suc a)) (− bodyVar S r) t (by-rule (bodyVar S) ok-body r u)))
       (last (G .opened (suc a)) (supportedClause S (suc a) (its G (suc a)))
-        (and-in t (map-ok (isAtom (m G)) (its G (suc a)) (λ r. var (bodyVar S r)) (its-in (suc a)) (by-rule (bodyVar S) ok-body)))))
+      (and-in t (map-ok (isAtom (m G)) (its G (suc a)) (λ r. var (bodyVar S r)) (its-in (suc a)) (by-rule (bodyVar S) ok-body)))))
     where
       last : (b : Bool) (c : Clause) → So (fit c) → So (allFit (cond b [] (c ∷ [])))
       last true c t = refl
@@ -147,9 +147,9 @@ module _ (G : Code) (g : Ranges G) (some : zero < G .w) where
   successor-fit u v p q = each-fit (G .w) _ (λ i h.
       append-fit (each i (keepsClauses u v (suc i))) (flipsClauses u v (suc i))
       (each-fit i _ (λ j l. and-in (three-fit (var (v (suc j))) (− u (suc i)) (var (v (suc i))) (q j (omega arith)) (p i h) (q i h))
-        (and-in (three-fit (var (v (suc j))) (var (u (suc i))) (− v (suc i)) (q j (omega arith)) (p i h) (q i h)) refl)))
+      (and-in (three-fit (var (v (suc j))) (var (u (suc i))) (− v (suc i)) (q j (omega arith)) (p i h) (q i h)) refl)))
       (and-in (signs i h (− u (suc i) ∷ − v (suc i) ∷ []) (two-fit (− u (suc i)) (− v (suc i)) (p i h) (q i h)))
-        (and-in (signs i h (var (u (suc i)) ∷ var (v (suc i)) ∷ []) (two-fit (var (u (suc i))) (var (v (suc i))) (p i h) (q i h))) refl)))
+      (and-in (signs i h (var (u (suc i)) ∷ var (v (suc i)) ∷ []) (two-fit (var (u (suc i))) (var (v (suc i))) (p i h) (q i h))) refl)))
     where
       signs : (i : ℕ) → i < G .w → (ls : Clause) → So (fit ls) → So (fit (tab i (λ j. − v j) ++ ls))
       signs i h ls t =
@@ -170,7 +170,7 @@ module _ (G : Code) (g : Ranges G) (some : zero < G .w) where
           let c = r (suc i) h in
           let d = p i (omega arith) in
           and-in (and-in a (and-in b (and-in c refl))) (and-in (and-in a (and-in b (and-in d refl))) (and-in (and-in a (and-in c (and-in d refl)))
-            (and-in (and-in a (and-in b (and-in c refl))) (and-in (and-in a (and-in b (and-in d refl))) (and-in (and-in a (and-in c (and-in d refl))) refl)))))
+          (and-in (and-in a (and-in b (and-in c refl))) (and-in (and-in a (and-in b (and-in d refl))) (and-in (and-in a (and-in c (and-in d refl))) refl)))))
 
   fit4 : So (allFit (part4 G))
   fit4 = each-fit (G .n) _ (λ a h. let t = is-atom (G .n) (suc a) (omega arith) h in successor-fit (nextVar S (suc a)) (levelVar S (suc a)) (ok-next (suc a) t) (ok-level (suc a) t))
@@ -194,10 +194,10 @@ module _ (G : Code) (g : Ranges G) (some : zero < G .w) where
       let below = by-pair (λ k. belowVar S k (G .w)) (λ k l. top (belowVar S (suc k)) (ok-below k l)) in
       append-fit (foundsClauses S (suc r) ks) _
       (and-in (two-fit (− foundsVar S (suc r)) (var (bodyVar S (suc r))) s t)
-        (append-fit (map (λ k. − foundsVar S (suc r) ∷ var (belowVar S k (G .w)) ∷ []) ks) _
-          (map-fit (isAtom (length (pairList G))) ks _ (pairs-in r h) (λ k u. two-fit (− foundsVar S (suc r)) (var (belowVar S k (G .w))) s (below k u)))
-          (one-fit (var (foundsVar S (suc r)) ∷ − bodyVar S (suc r) ∷ map (λ k. − belowVar S k (G .w)) ks)
-            (and-in s (and-in t (map-ok (isAtom (length (pairList G))) ks (λ k. − belowVar S k (G .w)) (pairs-in r h) below))))))
+      (append-fit (map (λ k. − foundsVar S (suc r) ∷ var (belowVar S k (G .w)) ∷ []) ks) _
+      (map-fit (isAtom (length (pairList G))) ks _ (pairs-in r h) (λ k u. two-fit (− foundsVar S (suc r)) (var (belowVar S k (G .w))) s (below k u)))
+      (one-fit (var (foundsVar S (suc r)) ∷ − bodyVar S (suc r) ∷ map (λ k. − belowVar S k (G .w)) ks)
+      (and-in s (and-in t (map-ok (isAtom (length (pairList G))) ks (λ k. − belowVar S k (G .w)) (pairs-in r h) below))))))
       (lowest r h ks (pairs-in r h)))
     where
       lowest : (r : ℕ) → r < m G → (ks : List ℕ) → So (all (isAtom (length (pairList G))) ks) → So (allFit (lowestClauses S (suc r) (rl G (suc r) .head) ks))
@@ -205,7 +205,7 @@ module _ (G : Code) (g : Ranges G) (some : zero < G .w) where
       lowest r h (k ∷ ks) t =
           one-fit (− bodyVar S (suc r) ∷ map (λ k. − nextBelowVar S k (G .w)) (k ∷ ks))
           (and-in (ok-body r h) (map-ok (isAtom (length (pairList G))) (k ∷ ks) (λ k. − nextBelowVar S k (G .w)) t
-            (by-pair (λ k. nextBelowVar S k (G .w)) (λ k l. top (nextBelowVar S (suc k)) (ok-next-below k l)))))
+          (by-pair (λ k. nextBelowVar S k (G .w)) (λ k l. top (nextBelowVar S (suc k)) (ok-next-below k l)))))
 
   fit7 : So (allFit (part7 G))
   fit7 = each-fit (G .n) _ (λ a h. last a (is-atom (G .n) (suc a) (omega arith) h) (G .opened (suc a)))
@@ -248,7 +248,7 @@ module _ (G : Code) (g : Ranges G) (some : zero < G .w) where
     in-zero : (a i j : ℕ) → a < G .n → i < G .w → j < 2 → v ≡ variable (getD (var (suc a) ∷ − levelVar S (suc a) (suc i) ∷ []) j (var 0)) → So (any inClause (part3 G))
     in-zero a i j h l k e =
         each-has (G .n) _ a h (any-tab inClause (G .w) (λ i. var (suc a) ∷ − levelVar S (suc a) i ∷ [])
-          ∙ anyTo-in (G .w) _ i l (any-in has (var (suc a) ∷ − levelVar S (suc a) (suc i) ∷ []) (var 0) j k (eq-eqb (variable (getD (var (suc a) ∷ − levelVar S (suc a) (suc i) ∷ []) j (var 0))) v (sym e))))
+        ∙ anyTo-in (G .w) _ i l (any-in has (var (suc a) ∷ − levelVar S (suc a) (suc i) ∷ []) (var 0) j k (eq-eqb (variable (getD (var (suc a) ∷ − levelVar S (suc a) (suc i) ∷ []) j (var 0))) v (sym e))))
 
     in-founds : (r j : ℕ) → r < m G → j < 2 → v ≡ variable (getD (− foundsVar S (suc r) ∷ var (bodyVar S (suc r)) ∷ []) j (var 0)) → So (any inClause (part6 G))
     in-founds r j h k e =
@@ -288,10 +288,10 @@ module _ (G : Code) (g : Ranges G) (some : zero < G .w) where
     member-occurs (nextAt a i h l e) = in-part 3 (lit< tt) (in-next a i h l e)
     member-occurs (belowAt k i h l e) =
         in-part 4 (lit< tt) (each-has (length (pairList G)) _ k h
-          (append-left (chain (G .w) (belowVar S (suc k)) (levelVar S (bodyOf G (suc k))) (levelVar S (headOf G (suc k)))) _ (in-chain _ _ _ i l e)))
+        (append-left (chain (G .w) (belowVar S (suc k)) (levelVar S (bodyOf G (suc k))) (levelVar S (headOf G (suc k)))) _ (in-chain _ _ _ i l e)))
     member-occurs (nextBelowAt k i h l e) =
         in-part 4 (lit< tt) (each-has (length (pairList G)) _ k h
-          (append-right (chain (G .w) (belowVar S (suc k)) (levelVar S (bodyOf G (suc k))) (levelVar S (headOf G (suc k)))) _ (in-chain _ _ _ i l e)))
+        (append-right (chain (G .w) (belowVar S (suc k)) (levelVar S (bodyOf G (suc k))) (levelVar S (headOf G (suc k)))) _ (in-chain _ _ _ i l e)))
 
   pub all-occur : (v : ℕ) → zero < v → v ≤ variablesOf G → So (occurs v (clausesOf G))
   all-occur v p h = member-occurs v (member S (length (pairList G)) v p h)

@@ -82,6 +82,6 @@ module _ (G : Code) where
   all-pairs p q e r h =
       all-tab p (sizeOf (suc r)) (λ j. before G (suc r) + j)
       ∙ allTo-ext (sizeOf (suc r)) _ _
-        (λ j g. ap p (add-suc (before G (suc r)) j) ∙ e (before G (suc r) + j) (pair-below r j h g)
-          ∙ ap (λ (x : Pair). q (x .body) (x .head)) (ap (pairAt (pairList G)) (sym (add-suc (before G (suc r)) j)) ∙ pair-is r j h g))
+      (λ j g. ap p (add-suc (before G (suc r)) j) ∙ e (before G (suc r) + j) (pair-below r j h g)
+      ∙ ap (λ (x : Pair). q (x .body) (x .head)) (ap (pairAt (pairList G)) (sym (add-suc (before G (suc r)) j)) ∙ pair-is r j h g))
       ∙ sym (all-places (λ b. q b (rl G (suc r) .head)) (inner G (suc r)) 0)

@@ -13,7 +13,7 @@ use lib.ListN.{length}
 use lib.Seq.{ext-getD}
 use Rattle.lists.proofs.Bools.{not-So, So-or-not, false-of}
 use Rattle.meaning.specs.Program.{Atoms, isAtom}
-use Rattle.meaning.proofs.Atoms.{by-place}
+use Rattle.theory.proofs.Atoms.{by-place}
 use Rattle.encoding.specs.Literal.{Assignment, valueOf, allTrue}
 use Rattle.encoding.specs.Fill.{trueIn, counter}
 use Rattle.theory.specs.Code.{Code, sizesOf, rl, inner, pairList, levelOf, StableIn, clausesOf, variablesOf, fillOf}
@@ -39,7 +39,8 @@ module _ (G : Code) where
         levels = λ a h i. level-value (sizesOf G) (rl G) (inner G) (pairList G) M (levelOf G M) a i h;
         nexts = λ a h i. next-value (sizesOf G) (rl G) (inner G) (pairList G) M (levelOf G M) a i h;
         belows = λ k h i. below-value (sizesOf G) (rl G) (inner G) (pairList G) M (levelOf G M) k i h;
-        nextBelows = λ k h i. next-below-value (sizesOf G) (rl G) (inner G) (pairList G) M (levelOf G M) k i h }
+        nextBelows = λ k h i. next-below-value (sizesOf G) (rl G) (inner G) (pairList G) M (levelOf G M) k i h;
+      }
 
   pub fill-vars : (M : Atoms) → length (fillOf G M) ≡ variablesOf G
   fill-vars M = fill-length (sizesOf G) (rl G) (inner G) (pairList G) M (levelOf G M)
@@ -63,13 +64,15 @@ module _ (G : Code) where
   module _ (f : Fit G) where
     pub true-exactly : (bs : List Bool) → length bs ≡ variablesOf G
         → So (allTrue (valueOf bs) (clausesOf G)) ↔ (StableIn G (trueIn (G .n) (valueOf bs)) × (bs ≡ fillOf G (trueIn (G .n) (valueOf bs))))
-    true-exactly bs e =
-        (λ t. let s = clauses-iff G (valueOf bs) .0 t in
-          (says-stable G (valueOf bs) (f .ranges) (f .some-bit) s (f .rank),
-            canon-fill (trueIn (G .n) (valueOf bs)) bs e (says-canon G (valueOf bs) (f .ranges) (f .some-bit) s)),
-          λ p. clauses-iff G (valueOf bs) .1
-            (canon-says G (trueIn (G .n) (valueOf bs)) (valueOf bs) (f .ranges) (p .0) (f .level-fits (trueIn (G .n) (valueOf bs)) (p .0))
-              (subst (λ (cs : List Bool). Canon G (trueIn (G .n) (valueOf bs)) (valueOf cs)) (sym (p .1)) (fill-canon (trueIn (G .n) (valueOf bs))))))
+    true-exactly bs e = (
+      λ t. let s = clauses-iff G (valueOf bs) .0 t in (
+        says-stable G (valueOf bs) (f .ranges) (f .some-bit) s (f .rank),
+        canon-fill (trueIn (G .n) (valueOf bs)) bs e (says-canon G (valueOf bs) (f .ranges) (f .some-bit) s),
+      ),
+      λ p. clauses-iff G (valueOf bs) .1
+          (canon-says G (trueIn (G .n) (valueOf bs)) (valueOf bs) (f .ranges) (p .0) (f .level-fits (trueIn (G .n) (valueOf bs)) (p .0))
+          (subst (λ (cs : List Bool). Canon G (trueIn (G .n) (valueOf bs)) (valueOf cs)) (sym (p .1)) (fill-canon (trueIn (G .n) (valueOf bs))))),
+    )
 
     -- the counter of each atom is its level
     pub counters : (bs : List Bool) → So (allTrue (valueOf bs) (clausesOf G))
@@ -82,8 +85,8 @@ module _ (G : Code) where
     pub fill-atoms : (M : Atoms) → StableIn G M → trueIn (G .n) (valueOf (fillOf G M)) ≡ M
     fill-atoms M s =
         fun-ext (λ a. ⊎-elim (λ (t : So (isAtom (G .n) a)). ap (λ b. b && valueOf (fillOf G M) a) t ∙ by-place (G .n) (λ a. valueOf (fillOf G M) a ≡ M a) (fill-canon M .atoms) a t)
-          (λ (e : isAtom (G .n) a ≡ false). ap (λ b. b && valueOf (fillOf G M) a) e ∙ sym (false-of (M a) (λ t. not-So (isAtom (G .n) a) e (stable-in G M (f .ranges) s a t))))
-          (So-or-not (isAtom (G .n) a)))
+        (λ (e : isAtom (G .n) a ≡ false). ap (λ b. b && valueOf (fillOf G M) a) e ∙ sym (false-of (M a) (λ t. not-So (isAtom (G .n) a) e (stable-in G M (f .ranges) s a t))))
+        (So-or-not (isAtom (G .n) a)))
 
     pub one-each : (bs cs : List Bool) → length bs ≡ variablesOf G → length cs ≡ variablesOf G
         → So (allTrue (valueOf bs) (clausesOf G)) → So (allTrue (valueOf cs) (clausesOf G))

@@ -14,8 +14,8 @@ use Rattle.lists.proofs.Tests.{all-in}
 use Rattle.lists.proofs.Tables.{each-ext, sum-ext, keep-all, each-none, each-list, joined-keep}
 use Rattle.meaning.specs.Program.{Program, Atoms, ruleAt, noRule, noneIn, wellFormed}
 use Rattle.meaning.specs.Stage.{Definite, definite, reduct, InUnion, Stable, level, levelIn}
-use Rattle.meaning.proofs.Atoms.{rule-in}
-use Rattle.meaning.proofs.LeastModel.{level-le}
+use Rattle.theory.proofs.Atoms.{rule-in}
+use Rattle.theory.proofs.LeastModel.{level-le}
 use Rattle.encoding.specs.Clauses.{Pair, sizes, pairs, pairsWith, pairAt, pairsBefore, pairsOf, pairClauses, foundsClauses, lowestClauses, group1, group2, group3, group4, group7, clauses, variables}
 use Rattle.encoding.specs.Literal.{Clause}
 use Rattle.encoding.specs.Variables.{varCount}
@@ -52,9 +52,9 @@ module _ (P : Program) (w : ℕ) where
   clauses-whole =
       ap (λ (gs : List (List Clause)). joined gs)
       (ap₂ (λ (g h : List Clause). group1 P w ∷ group2 P w ∷ group3 P w ∷ group4 P w ∷ g ∷ h ∷ group7 P w ∷ [])
-        (ap (λ (ps : List Pair). each (length ps) (λ k. pairClauses (sizes P w) k (pairAt ps k .body) (pairAt ps k .head))) pairs-whole)
-        (each-ext (length (P .rules)) _ _
-          (λ r h. ap (λ (ks : List ℕ). foundsClauses (sizes P w) (suc r) ks ++ lowestClauses (sizes P w) (suc r) (ruleAt (P .rules) (suc r) .head) ks) (numbers-whole (suc r)))))
+      (ap (λ (ps : List Pair). each (length ps) (λ k. pairClauses (sizes P w) k (pairAt ps k .body) (pairAt ps k .head))) pairs-whole)
+      (each-ext (length (P .rules)) _ _
+      (λ r h. ap (λ (ks : List ℕ). foundsClauses (sizes P w) (suc r) ks ++ lowestClauses (sizes P w) (suc r) (ruleAt (P .rules) (suc r) .head) ks) (numbers-whole (suc r)))))
 
   pub reduct-whole : (M : Atoms) → reductOf G M ≡ reduct P M
   unfolding reductOf reduct
@@ -79,13 +79,16 @@ module _ (P : Program) (w : ℕ) where
       ∙ ap (λ (ℓ : ℕ → ℕ). fillWith (sizes P w) (ruleAt (P .rules)) (λ r. ruleAt (P .rules) r .positive) (pairs P) M ℓ) (fun-ext (level-whole M))
 
   pub stable-whole : (M : Atoms) → StableIn G M ↔ Stable P M
-  stable-whole M =
-      (λ s. record {
-          founded = λ a t. subst (λ (D : List Definite). InUnion D a) (reduct-whole M) (s .founded a t);
-          closed = λ a u. s .closed a (subst (λ (D : List Definite). InUnion D a) (sym (reduct-whole M)) u) },
-        λ s. record {
-          founded = λ a t. subst (λ (D : List Definite). InUnion D a) (sym (reduct-whole M)) (s .founded a t);
-          closed = λ a u. s .closed a (subst (λ (D : List Definite). InUnion D a) (reduct-whole M) u) })
+  stable-whole M = (
+    λ s. record {
+      founded = λ a t. subst (λ (D : List Definite). InUnion D a) (reduct-whole M) (s .founded a t);
+      closed = λ a u. s .closed a (subst (λ (D : List Definite). InUnion D a) (sym (reduct-whole M)) u);
+    },
+    λ s. record {
+      founded = λ a t. subst (λ (D : List Definite). InUnion D a) (sym (reduct-whole M)) (s .founded a t);
+      closed = λ a u. s .closed a (subst (λ (D : List Definite). InUnion D a) (reduct-whole M) u);
+    },
+  )
 
   pub whole-ranges : So (wellFormed P) → Ranges G
   unfolding wellFormed
@@ -93,7 +96,8 @@ module _ (P : Program) (w : ℕ) where
       record {
         head-in = λ r h. rule-in (P .atoms) (P .rules) form r h .head-in;
         positive-in = λ r h. rule-in (P .atoms) (P .rules) form r h .positive-in;
-        negative-in = λ r h. rule-in (P .atoms) (P .rules) form r h .negative-in }
+        negative-in = λ r h. rule-in (P .atoms) (P .rules) form r h .negative-in;
+      }
 
   pub whole-rank : Rank G
   whole-rank = record { rank = λ a. 0; no-rise = λ r h j i. le-refl 0; falls = λ r h j i e. absurd (true≢false e) }
@@ -101,8 +105,11 @@ module _ (P : Program) (w : ℕ) where
   pub whole-fit : So (wellFormed P) → P .atoms + 2 ≤ 2 ^ w → Fit G
   whole-fit form wide =
       record {
-        ranges = whole-ranges form; rank = whole-rank; some-bit = some w wide;
-        level-fits = λ M s a. omega (arith, wide, level-le (reductOf G M) (P .atoms) a) }
+        ranges = whole-ranges form;
+        rank = whole-rank;
+        some-bit = some w wide;
+        level-fits = λ M s a. omega (arith, wide, level-le (reductOf G M) (P .atoms) a);
+      }
     where
       some : (w : ℕ) → P .atoms + 2 ≤ 2 ^ w → zero < w
       some zero h = absurd (omega arith)

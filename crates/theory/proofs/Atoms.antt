@@ -39,4 +39,5 @@ rule-in n rs t j h =
     record {
       head-in = and-left (isAtom n (r .head)) (all (isAtom n) (r .positive) && all (isAtom n) (r .negative)) u;
       positive-in = and-left (all (isAtom n) (r .positive)) (all (isAtom n) (r .negative)) v;
-      negative-in = and-right (all (isAtom n) (r .positive)) (all (isAtom n) (r .negative)) v }
+      negative-in = and-right (all (isAtom n) (r .positive)) (all (isAtom n) (r .negative)) v;
+    }

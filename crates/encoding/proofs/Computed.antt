@@ -12,10 +12,10 @@ use Rattle.encoding.specs.Literal.{var, −_, literalNumber, valueOf, al
 use Rattle.encoding.specs.Clauses.{clauses, pairs, pairsBefore, rulesOf}
 use Rattle.encoding.specs.Counter.{successor, chain}
 use Rattle.encoding.specs.Fill.{fill, fillWith}
-use Rattle.encoding.specs.Examples.{examples}
+use Rattle.encoding.proofs.Examples.{examples}
 
--- one atom and no rule: the set {} with a counter of 1 would be a second assignment of {} (group 3 rules it out)
-no-free-counter : allTrue (valueOf (false ∷ true ∷ false ∷ false ∷ true ∷ [])) (clauses (program 1 []) 2) ≡ false
+-- one atom and no rule: the set {} with a counter of 2 would be a second assignment of {} (group 3 rules it out)
+no-free-counter : allTrue (valueOf (false ∷ false ∷ true ∷ true ∷ true ∷ [])) (clauses (program 1 []) 2) ≡ false
 unfolding valueOf clauses pairs pairsBefore rulesOf successor chain
 no-free-counter = refl
 
@@ -36,8 +36,8 @@ filled-true = refl
 -- document 01's writer example, clause by clause
 pub fact-clauses : clauses fact 2
     ≡ (var 2 ∷ []) ∷ (var 1 ∷ − 2 ∷ []) ∷ (− 1 ∷ var 2 ∷ []) ∷ (var 1 ∷ − 4 ∷ []) ∷ (var 1 ∷ − 5 ∷ []) ∷ (− 6 ∷ − 4 ∷ []) ∷ (var 6 ∷ var 4 ∷ [])
-      ∷ (var 4 ∷ − 7 ∷ var 5 ∷ []) ∷ (var 4 ∷ var 7 ∷ − 5 ∷ []) ∷ (− 4 ∷ − 7 ∷ − 5 ∷ []) ∷ (− 4 ∷ var 7 ∷ var 5 ∷ []) ∷ (− 3 ∷ var 2 ∷ [])
-      ∷ (var 3 ∷ − 2 ∷ []) ∷ (− 2 ∷ var 4 ∷ []) ∷ (− 2 ∷ − 5 ∷ []) ∷ (− 1 ∷ var 3 ∷ []) ∷ []
+    ∷ (var 4 ∷ − 7 ∷ var 5 ∷ []) ∷ (var 4 ∷ var 7 ∷ − 5 ∷ []) ∷ (− 4 ∷ − 7 ∷ − 5 ∷ []) ∷ (− 4 ∷ var 7 ∷ var 5 ∷ []) ∷ (− 3 ∷ var 2 ∷ [])
+    ∷ (var 3 ∷ − 2 ∷ []) ∷ (− 2 ∷ var 4 ∷ []) ∷ (− 2 ∷ − 5 ∷ []) ∷ (− 1 ∷ var 3 ∷ []) ∷ []
 unfolding clauses pairs pairsBefore rulesOf successor chain
 fact-clauses = refl
 

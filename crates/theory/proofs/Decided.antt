@@ -13,11 +13,11 @@ use borrow.Author.Tests.{eq-eqb}
 use Rattle.lists.proofs.Tests.{all-at, all-in, all-map}
 use Rattle.lists.proofs.Tables.{all-keep}
 use Rattle.lists.proofs.First.{first-is, first-none}
 use Rattle.meaning.specs.Program.{Program, Atoms, isAtom, ruleFits, wellFormed, noneIn, noRule}
 use Rattle.meaning.specs.Stage.{definite, reduct, stage, InUnion, Stable, leastModel, differ}
 use Rattle.meaning.specs.Numbering.{noDefinite}
-use Rattle.meaning.proofs.Atoms.{by-place, rule-in}
-use Rattle.meaning.proofs.Stages.{stage-zero, stage-at, stage-atom, stage-by-n}
+use Rattle.theory.proofs.Atoms.{by-place, rule-in}
+use Rattle.theory.proofs.Stages.{stage-zero, stage-at, stage-atom, stage-by-n}
 
 not-beq : (a b : Bool) → not (Bool·beq a b) ≡ false → a ≡ b
 not-beq true true e = refl
@@ -68,7 +68,8 @@ module _ (P : Program) (form : So (wellFormed P)) (M : Atoms) where
       agree f =
           record {
             founded = λ a t. least-model-iff a .0 (sym (f a (atoms a t)) ∙ t);
-            closed = λ a u. f a (stage-atom (reduct P M) (P .atoms) reduct-heads (u .0) a (u .1)) ∙ least-model-iff a .1 u }
+            closed = λ a u. f a (stage-atom (reduct P M) (P .atoms) reduct-heads (u .0) a (u .1)) ∙ least-model-iff a .1 u;
+          }
 
   -- where set and least model differ, `differ` is the smallest such atom
   pub differ-at : zero < differ P M → M (differ P M) ≡ leastModel P M (differ P M) → ⊥

@@ -13,10 +13,10 @@ use Rattle.lists.specs.Lists.{all}
 use Rattle.lists.proofs.Bools.{and-in, not-So, false-of}
 use Rattle.lists.proofs.Tests.{all-at, all-in, le-or-lt}
 use Rattle.lists.proofs.First.{first-is, first-pos, first-none}
 use Rattle.meaning.specs.Program.{isAtom}
 use Rattle.meaning.specs.Stage.{Definite, stage, InUnion, FirstStage, levelIn}
 use Rattle.meaning.specs.Numbering.{noDefinite, IsModel}
-use Rattle.meaning.proofs.Stages.{stage-zero, stage-at, stage-in, stage-le, stage-by-n}
+use Rattle.theory.proofs.Stages.{stage-zero, stage-at, stage-in, stage-le, stage-by-n}
 
 module _ (D : List Definite) where
   -- atoms that are each in some stage are in one stage together
@@ -25,15 +25,19 @@ module _ (D : List Definite) where
   collect (b ∷ bs) f = go (f zero (zero-lt-suc (length bs))) (collect bs (λ i h. f (suc i) (omega arith)))
     where
       go : InUnion D b → (k : ℕ) × So (all (stage D k) bs) → (k : ℕ) × So (all (stage D k) (b ∷ bs))
-      go u q =
-          (u .0 + q .0, and-in (stage-le D (u .0) (u .0 + q .0) b (omega arith) (u .1))
-            (all-in (stage D (u .0 + q .0)) bs 0 (λ j h. stage-le D (q .0) (u .0 + q .0) (getD bs j 0) (omega arith) (all-at (stage D (q .0)) bs 0 (q .1) j h))))
+      go u q = (
+        u .0 + q .0,
+        and-in (stage-le D (u .0) (u .0 + q .0) b (omega arith) (u .1))
+            (all-in (stage D (u .0 + q .0)) bs 0 (λ j h. stage-le D (q .0) (u .0 + q .0) (getD bs j 0) (omega arith) (all-at (stage D (q .0)) bs 0 (q .1) j h))),
+      )
 
   pub union-model : IsModel D (InUnion D)
   union-model =
-      record { obeys = λ j h f.
-        let q = collect (getD D j noDefinite .body) f in
-        (suc (q .0), stage-in D (q .0) (getD D j noDefinite .head) j (record { is-rule = h; its-head = refl; its-body = q .1 })) }
+      record {
+        obeys = λ j h f.
+            let q = collect (getD D j noDefinite .body) f in
+            (suc (q .0), stage-in D (q .0) (getD D j noDefinite .head) j (record { is-rule = h; its-head = refl; its-body = q .1 }));
+      }
 
   in-model : (X : ℕ → Type 0) → IsModel D X → (i a : ℕ) → So (stage D i a) → X a
   in-model X m zero a t = absurd (stage-zero D a t)

@@ -42,7 +42,7 @@ unfounded-one s = let u = s .founded 1 refl in none (u .0) (u .1)
 -- the atoms of a well-formed program are 1 to n, in heads and in both lists
 ranges : map wellFormed
     (program 1 (rule 0 [] [] ∷ []) ∷ program 1 (rule 2 [] [] ∷ []) ∷ program 1 (rule 1 (2 ∷ []) [] ∷ [])
-      ∷ program 1 (rule 1 [] (0 ∷ []) ∷ []) ∷ lecture ∷ [])
+    ∷ program 1 (rule 1 [] (0 ∷ []) ∷ []) ∷ lecture ∷ [])
     ≡ false ∷ false ∷ false ∷ false ∷ true ∷ []
 unfolding wellFormed
 ranges = refl

@@ -41,7 +41,8 @@ computed e =
       models = keep (λ xs. eqb (differ P (setOf xs)) 0) (subsets n);
       levels = map (λ xs. tab n (level P (setOf xs))) (e .models);
       refused = e .refused;
-      spots = map (λ xs. differ P (setOf xs)) (e .refused) }
+      spots = map (λ xs. differ P (setOf xs)) (e .refused);
+    }
 
 abbrev pub examples : List Example
 examples =
@@ -49,7 +50,13 @@ examples =
     ∷ record { program = fact; counts = 7 ∷ 16 ∷ []; models = (1 ∷ []) ∷ []; levels = (1 ∷ []) ∷ []; refused = []; spots = [] }
     ∷ record { program = ring; counts = 22 ∷ 70 ∷ []; models = [] ∷ []; levels = (0 ∷ 0 ∷ []) ∷ []; refused = (1 ∷ 2 ∷ []) ∷ []; spots = 1 ∷ [] }
     ∷ record {
-        program = lecture; counts = 74 ∷ 287 ∷ []; models = (1 ∷ 2 ∷ 3 ∷ []) ∷ []; levels = (1 ∷ 2 ∷ 3 ∷ 0 ∷ []) ∷ []; refused = []; spots = [] }
+      program = lecture;
+      counts = 74 ∷ 287 ∷ [];
+      models = (1 ∷ 2 ∷ 3 ∷ []) ∷ [];
+      levels = (1 ∷ 2 ∷ 3 ∷ 0 ∷ []) ∷ [];
+      refused = [];
+      spots = [];
+    }
     ∷ record { program = selfNegating; counts = []; models = []; levels = []; refused = [] ∷ (1 ∷ []) ∷ []; spots = 1 ∷ 1 ∷ [] }
     ∷ record { program = choice; counts = []; models = (1 ∷ []) ∷ (2 ∷ []) ∷ []; levels = (1 ∷ 0 ∷ []) ∷ (0 ∷ 1 ∷ []) ∷ []; refused = []; spots = [] }
     ∷ record { program = loop; counts = 13 ∷ 41 ∷ []; models = (1 ∷ []) ∷ []; levels = (1 ∷ []) ∷ []; refused = []; spots = [] }

@@ -30,11 +30,14 @@ module _ (D : List Definite) where
   unfolding stage
   stage-at i a t =
       let q = any-at (λ d. eqb (d .head) a && all (stage D i) (d .body)) D noDefinite t in
-      let d = getD D (q .0) noDefinite in
-      (q .0, record {
-        is-rule = q .1;
-        its-head = eqb-true (d .head) a (and-left (eqb (d .head) a) (all (stage D i) (d .body)) (q .2));
-        its-body = and-right (eqb (d .head) a) (all (stage D i) (d .body)) (q .2) })
+      let d = getD D (q .0) noDefinite in (
+        q .0,
+        record {
+          is-rule = q .1;
+          its-head = eqb-true (d .head) a (and-left (eqb (d .head) a) (all (stage D i) (d .body)) (q .2));
+          its-body = and-right (eqb (d .head) a) (all (stage D i) (d .body)) (q .2);
+        },
+      )
 
   pub stage-in : (i a j : ℕ) → Enters i a j → So (stage D (suc i) a)
   unfolding stage
