@@ -1,5 +1,5 @@
 -- The filled-out assignment of a set of atoms (document 01, "Check and filling out"): the value of each variable, in their order.
---   fillWith S rs ks M ℓ   the values for sizes S, rules rs with the numbers of inner body atoms, pairs ks, set M and levels ℓ
+--   fillWith S rule inner ps M ℓ   the values for sizes S, rules, their inner body atoms, pairs ps, set M and levels ℓ
 --   fill P w M             the filled-out list of M
 --   trueAtoms P bs         the true atoms of a list of values
 --   counter S A a          the counter of atom a under A
