@@ -3,16 +3,18 @@
 --   1  Meaning: least models, stable models and level numbers (document 01, "Meaning"; document 001)
 --   2  Encoding: width, variables and clauses (document 01, "Variables" and "Clauses, in order")
 --   3  Demand 3 for assignments: stable models and satisfying assignments correspond, one to one
---   4  Document 01's examples and wrong turns
--- Nothing is assumed: a hypothesis of a statement is met by every well-formed program.
+--   4  Demand 1 for program texts: what the reader answers to any bytes (document 01, "Program text" and rows 1 to 7)
+--   5  Document 01's examples and wrong turns
+--   6  Contracts: each public function meets its own
+-- Nothing is assumed: a hypothesis of a statement is met by every well-formed program, and those of section 4 hold for any bytes.
 use Prim.Native.Nat.{ℕ, zero, suc, _+_, _-_, _*_, _^_, _%_, _≤_, _<_}
-use mathlib.Core.Path.{_≡_}
-use mathlib.Core.Logic.{_↔_}
+use mathlib.Core.Path.{_≡_, sym, _∙_, ap}
+use mathlib.Core.Logic.{_↔_, _⊎_}
 use mathlib.Core.Bool.{Bool, true, false, not, So}
 use mathlib.Core.List.{List, [], _∷_, map}
 use lib.Count.{leadingZeros}
 use lib.Dec.{eqb, ltb}
-use lib.ListN.{length}
+use lib.ListN.{length, take}
 use Rattle.lists.specs.Lists.{all, joined}
 use Rattle.meaning.specs.Program.{Program, Atoms, isAtom, wellFormed}
 use Rattle.meaning.specs.Stage.{Definite, reduct, InUnion, Stable, FirstStage, leastModel, level, differ}
@@ -38,6 +40,34 @@ use Rattle.theory.proofs.Counts.{count-whole}
 use Rattle.theory.proofs.LevelNumberings.{stable-level-numbering, level-numbering-stable, level-numbering-unique}
 use Rattle.theory.proofs.Whole.{reduct-whole, clauses-whole, variables-whole, fill-whole}
 use Rattle.theory.proofs.Base as Base
+use Rattle.text.specs.Text.{textOf, HasForm, Viable, Malformed}
+use Rattle.program.specs.declared.TextRefusal.{TextRefusal}
+use Rattle.program.specs.declared.ReadVerdict.the-variants.{Accepted, Refused}
+use Rattle.program.specs.declared.Reading.{Reading}
+use Rattle.program.specs.Verdict.{emptyProgram, readOf}
+use Rattle.program.proofs.Computed.{computed as computedRow, cases, cases-hold}
+use Rattle.reader_laws.specs.Breach.{Breach, kept}
+use Rattle.reader_laws.specs.Row.{Row, FirstRow, Answers, Admitted}
+use Rattle.reader_laws.proofs.Spot.{formless-malformed, spot-unique, form-not-malformed}
+use Rattle.reader_laws.proofs.Unique.{text-unique}
+use Rattle.reader_laws.proofs.Rows.{first-unique, answers-first, first-answers, accepted-none, none-accepted, answers-malformed, answers-breach}
+use Rattle.reader_laws.proofs.Contents.{accepted-admitted, admitted-answer, refused-empty}
+use Rattle.program.proofs.read.Statement.{statement as read·statement}
+use Rattle.program.proofs.read.Met.{met as read·met}
+use Rattle.program.proofs.number_of.Statement.{statement as number-of·statement}
+use Rattle.program.proofs.number_of.Met.{met as number-of·met}
+use Rattle.program.proofs.spot_of.Statement.{statement as spot-of·statement}
+use Rattle.program.proofs.spot_of.Met.{met as spot-of·met}
+use Rattle.program.proofs.empty.Statement.{statement as empty·statement}
+use Rattle.program.proofs.empty.Met.{met as empty·met}
+use Rattle.program.proofs.head.Statement.{statement as head·statement}
+use Rattle.program.proofs.head.Met.{met as head·met}
+use Rattle.program.proofs.body_atom.Statement.{statement as body-atom·statement}
+use Rattle.program.proofs.body_atom.Met.{met as body-atom·met}
+use Rattle.form.proofs.step.Statement.{statement as step·statement}
+use Rattle.form.proofs.step.Met.{met as step·met}
+use Rattle.numbers.proofs.atom_var.Statement.{statement as atom-var·statement}
+use Rattle.numbers.proofs.atom_var.Met.{met as atom-var·met}
 
 -- ---- 1 Meaning
 
@@ -195,7 +225,55 @@ demand3-at P w form wide =
 pub demand3 : (P : Program) → So (wellFormed P) → Demand3 P (width (P .atoms))
 demand3 P form = demand3-at P (width (P .atoms)) form (width-enough (P .atoms))
 
--- ---- 4 Examples and wrong turns
+-- ---- 4 Demand 1, for program texts: the bytes t are any
+
+pub record ProgramText (t : List ℕ) : Type 0 where
+  -- a text has the form if it is what `textOf` prints for some number of atoms and some rules over arbitrary numbers; `HasForm` says so
+  -- no two programs have one text
+  pub one-program : (P Q : Program) → t ≡ textOf P → t ≡ textOf Q → P ≡ Q
+  -- a text that has not the form is malformed at one spot, and a text of the form at none
+  pub malformed-somewhere : (HasForm t → ⊥) → (s : ℕ) × Malformed t s
+  pub one-spot : (s u : ℕ) → Malformed t s → Malformed t u → s ≡ u
+  pub form-at-none : HasForm t → (s : ℕ) → Malformed t s → ⊥
+  -- the reader answers row k with spot s exactly if k is the first row met in document 01's order, and s its spot
+  pub refused : (k s : ℕ) → Answers t k s ↔ FirstRow t k s
+  -- which one row is, with one spot
+  pub one-row : (k s l u : ℕ) → FirstRow t k s → FirstRow t l u → (k ≡ l) × (s ≡ u)
+  -- when 2 is answered with spot s, some ending of the first s bytes gives the form
+  pub viable-before : (s : ℕ) → Answers t 2 s → Viable (take s t)
+  -- and if s is below the length, no ending of the first s + 1 bytes does
+  pub dead-after : (s : ℕ) → Answers t 2 s → s < length t → Viable (take (s + 1) t) → ⊥
+  -- what is answered to a short text of the form is a breach of rows 3 to 7, with the smallest spot and, on a tie, the smaller number
+  pub smallest-breach : (P : Program) → length t ≤ 65536 → t ≡ textOf P → (k s : ℕ) → Answers t k s
+      → Breach P k s × ((l u : ℕ) → Breach P l u → (s < u) ⊎ ((s ≡ u) × (k ≤ l)))
+  -- the reader accepts exactly if no row is met
+  pub accepted : (readOf t .verdict ≡ Accepted) ↔ ((k s : ℕ) → Row t k s → ⊥)
+  -- and exactly if the text is at most 65,536 bytes long, of the form and within the limits
+  pub admitted : (readOf t .verdict ≡ Accepted) ↔ ((P : Program) × Admitted t P)
+  -- then it keeps the printed program: its atoms, rules, lists and order
+  pub kept-whole : (P : Program) → Admitted t P → readOf t .program ≡ kept P
+  -- of a refused text it keeps nothing
+  pub kept-nothing : (r : TextRefusal) → readOf t .verdict ≡ Refused r → readOf t .program ≡ emptyProgram
+
+pub program-text : (t : List ℕ) → ProgramText t
+program-text t =
+    record {
+      one-program = λ P Q p q. text-unique P Q (sym p ∙ q);
+      malformed-somewhere = formless-malformed t;
+      one-spot = spot-unique t;
+      form-at-none = λ f s. form-not-malformed t s f;
+      refused = λ k s. (answers-first t k s, first-answers t k s);
+      one-row = first-unique t;
+      viable-before = λ s a. answers-malformed t s a .before;
+      dead-after = λ s a. answers-malformed t s a .dead;
+      smallest-breach = answers-breach t;
+      accepted = (accepted-none t, none-accepted t);
+      admitted = (accepted-admitted t, λ a. ap (λ (x : Reading). x .verdict) (admitted-answer t (a .0) (a .1)));
+      kept-whole = λ P a. ap (λ (x : Reading). x .program) (admitted-answer t P a);
+      kept-nothing = refused-empty t;
+    }
+
+-- ---- 5 Examples and wrong turns
 
 -- document 01's starred examples, with every V, C, level, set and spot that it gives, computed from the definitions
 pub starred : map computed examples ≡ examples
@@ -238,3 +316,39 @@ wrong-turns =
       many-assignments = Wrong.many-assignments;
       one-assignment = Wrong.one-assignment;
     }
+
+-- number and spot of a table of texts, computed from the definitions
+pub texts : map computedRow cases ≡ cases
+texts = cases-hold
+
+-- ---- 6 Contracts
+
+-- the reader of program text: its answer is `readOf` of the bytes, whatever they are
+pub read-met : {M : Type 1} → read·statement M
+read-met = read·met
+
+-- a refusal's number and spot are `textNumber` and `textSpot`
+pub number-of-met : {M : Type 1} → number-of·statement M
+number-of-met = number-of·met
+
+pub spot-of-met : {M : Type 1} → spot-of·statement M
+spot-of-met = spot-of·met
+
+-- the empty program is `emptyProgram`
+pub empty-met : {M : Type 1} → empty·statement M
+empty-met = empty·met
+
+-- the accessors of a program's arrays
+pub head-met : {M : Type 1} → head·statement M
+head-met = head·met
+
+pub body-atom-met : {M : Type 1} → body-atom·statement M
+body-atom-met = body-atom·met
+
+-- one byte of the form is `stepOf`
+pub step-met : {M : Type 1} → step·statement M
+step-met = step·met
+
+-- an atom's variable has the atom's number
+pub atom-var-met : {M : Type 1} → atom-var·statement M
+atom-var-met = atom-var·met

@@ -1,0 +1,4 @@
+-- Loop: one turn of the reader's loop, and its ends
+pub mod Loop
+-- Computed: number and spot of a table of texts
+pub mod Computed

@@ -1,0 +1,60 @@
+use Rattle.program.specs.Work.{headEnded, headStored}
+use borrow.Author.Tests.{lt-ltb, le-ltb, eq-eqb, ne-eqb}
+use native.Mathlib.Nat.{add-sub-cancel}
+use mathlib.Core.Path.{refl}
+use borrow.Author.Needs.{needs}
+use Rattle.program.proofs.head_ended.Statement.{statement}
+use Rattle.program.proofs.head_ended.Tie as tie
+use Rattle.program.proofs.head_ended.Reads as reads
+use Rattle.program.proofs.head_ended.Lts as lts
+use Rattle.program.proofs.put_head.Reads as put-head-reads
+use Rattle.program.proofs.refused.Reads as refused-reads
+
+-- src/lib.rt:162:9
+refused-requires : tie.Need-refused-requires
+refused-requires c κs = search needs
+
+-- src/lib.rt:162:9
+returns : tie.Need-returns
+unfolding headEnded headStored
+returns c = simp (eq-eqb _ _ (c .before .if1 .taken)) (c .refused .ensures, refl)
+
+-- src/lib.rt:165:9
+refused-requires-2 : tie.Need-refused-requires-2
+refused-requires-2 c κs = search needs
+
+-- src/lib.rt:165:9
+returns-2 : tie.Need-returns-2
+unfolding headEnded headStored
+returns-2 c = simp (ne-eqb _ _ (c .before .before .before .if1 .left), lt-ltb _ _ (c .before .if2 .taken)) (c .refused2 .ensures, refl)
+
+-- src/lib.rt:168:36
+add-t8 : tie.Need-add-t8
+add-t8 c = search needs
+
+-- src/lib.rt:168:9
+put-head-requires : tie.Need-put-head-requires
+put-head-requires c κs = search needs
+
+-- src/lib.rt:169:9
+returns-3 : tie.Need-returns-3
+unfolding headEnded headStored
+returns-3 c = simp (ne-eqb _ _ (c .before .before .before .before .before .before .before .if1 .left), le-ltb _ _ (c .before .before .before .before .before .if2 .left), lt-ltb _ _ (c .before .before .before .if3 .taken), c .put-head .ensures, add-sub-cancel) (refl, refl)
+
+-- src/lib.rt:158:1
+returns-4 : tie.Need-returns-4
+unfolding headEnded headStored
+returns-4 c = simp (ne-eqb _ _ (c .before .before .before .before .if1 .left), le-ltb _ _ (c .before .before .if2 .left), le-ltb _ _ (c .if3 .left)) (refl, refl)
+
+pub head-ended-spec : {M : Type 1} → statement M
+head-ended-spec =
+    tie.close
+    (tie.spec
+    refused-requires
+    returns
+    refused-requires-2
+    returns-2
+    add-t8
+    put-head-requires
+    returns-3
+    returns-4)

@@ -1,0 +1,3 @@
+pub mod Work
+pub mod Reading
+pub mod Verdict

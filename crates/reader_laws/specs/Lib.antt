@@ -1,0 +1,4 @@
+pub mod Judge
+pub mod Scan
+pub mod Breach
+pub mod Row

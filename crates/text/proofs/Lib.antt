@@ -1,0 +1,2 @@
+-- Decimals: the digits of a number, one by one
+pub mod Decimals
