@@ -40,6 +40,57 @@ use Rattle.theory.proofs.Counts.{count-whole}
 use Rattle.theory.proofs.LevelNumberings.{stable-level-numbering, level-numbering-stable, level-numbering-unique}
 use Rattle.theory.proofs.Whole.{reduct-whole, clauses-whole, variables-whole, fill-whole}
 use Rattle.theory.proofs.Base as Base
+use Rattle.theory.proofs.Widths.{width-some}
+use Rattle.walk.specs.Walk.{walked}
+use Rattle.walk.proofs.Walked.{walked-clauses}
+use Rattle.reader_laws.specs.Decoded.{decoded}
+use Rattle.reader_laws.proofs.Decode.{decoded-kept}
+use Rattle.literals.proofs.literal.Statement.{statement as literal·statement}
+use Rattle.literals.proofs.literal.Met.{met as literal·met}
+use Rattle.literals.proofs.negated.Statement.{statement as negated·statement}
+use Rattle.literals.proofs.negated.Met.{met as negated·met}
+use Rattle.literals.proofs.negate.Statement.{statement as negate·statement}
+use Rattle.literals.proofs.negate.Met.{met as negate·met}
+use Rattle.literals.proofs.is_negative.Statement.{statement as is-negative·statement}
+use Rattle.literals.proofs.is_negative.Met.{met as is-negative·met}
+use Rattle.literals.proofs.magnitude.Statement.{statement as magnitude·statement}
+use Rattle.literals.proofs.magnitude.Met.{met as magnitude·met}
+use Rattle.literals.proofs.width_of.Statement.{statement as width-of·statement}
+use Rattle.literals.proofs.width_of.Met.{met as width-of·met}
+use Rattle.literals.proofs.body_var.Statement.{statement as body-var·statement}
+use Rattle.literals.proofs.body_var.Met.{met as body-var·met}
+use Rattle.literals.proofs.founds_var.Statement.{statement as founds-var·statement}
+use Rattle.literals.proofs.founds_var.Met.{met as founds-var·met}
+use Rattle.literals.proofs.level_var.Statement.{statement as level-var·statement}
+use Rattle.literals.proofs.level_var.Met.{met as level-var·met}
+use Rattle.literals.proofs.next_var.Statement.{statement as next-var·statement}
+use Rattle.literals.proofs.next_var.Met.{met as next-var·met}
+use Rattle.literals.proofs.below_var.Statement.{statement as below-var·statement}
+use Rattle.literals.proofs.below_var.Met.{met as below-var·met}
+use Rattle.literals.proofs.next_below_var.Statement.{statement as next-below-var·statement}
+use Rattle.literals.proofs.next_below_var.Met.{met as next-below-var·met}
+use Rattle.literals.proofs.var_count.Statement.{statement as var-count·statement}
+use Rattle.literals.proofs.var_count.Met.{met as var-count·met}
+use Rattle.digits.proofs.put_decimal.Statement.{statement as put-decimal·statement}
+use Rattle.digits.proofs.put_decimal.Met.{met as put-decimal·met}
+use Rattle.digits.proofs.put_number.Statement.{statement as put-number·statement}
+use Rattle.digits.proofs.put_number.Met.{met as put-number·met}
+use Rattle.digits.proofs.put_literal.Statement.{statement as put-literal·statement}
+use Rattle.digits.proofs.put_literal.Met.{met as put-literal·met}
+use Rattle.digits.proofs.decimal_length.Statement.{statement as decimal-length·statement}
+use Rattle.digits.proofs.decimal_length.Met.{met as decimal-length·met}
+use Rattle.digits.proofs.literal_length.Statement.{statement as literal-length·statement}
+use Rattle.digits.proofs.literal_length.Met.{met as literal-length·met}
+use Rattle.slots.proofs.body_slot.Statement.{statement as body-slot·statement}
+use Rattle.slots.proofs.body_slot.Met.{met as body-slot·met}
+use Rattle.slots.proofs.zero_slot.Statement.{statement as zero-slot·statement}
+use Rattle.slots.proofs.zero_slot.Met.{met as zero-slot·met}
+use Rattle.slots.proofs.next_slot.Statement.{statement as next-slot·statement}
+use Rattle.slots.proofs.next_slot.Met.{met as next-slot·met}
+use Rattle.slots.proofs.pair_slot.Statement.{statement as pair-slot·statement}
+use Rattle.slots.proofs.pair_slot.Met.{met as pair-slot·met}
+use Rattle.slots.proofs.rule_slot.Statement.{statement as rule-slot·statement}
+use Rattle.slots.proofs.rule_slot.Met.{met as rule-slot·met}
 use Rattle.text.specs.Text.{textOf, HasForm, Viable, Malformed}
 use Rattle.program.specs.declared.TextRefusal.{TextRefusal}
 use Rattle.program.specs.declared.ReadVerdict.the-variants.{Accepted, Refused}
@@ -195,6 +246,10 @@ clause-list-at P w form wide =
 pub clause-list : (P : Program) → So (wellFormed P) → ClauseList P (width (P .atoms))
 clause-list P form = clause-list-at P (width (P .atoms)) form (width-enough (P .atoms))
 
+-- the walk by which code yields the clauses, by group, item, row, place and slot, gives the clause list
+pub walk : (P : Program) → walked P (width (P .atoms)) ≡ clauses P (width (P .atoms))
+walk P = walked-clauses P (width (P .atoms)) (width-some (P .atoms))
+
 -- ---- 3 Demand 3, for assignments: lists of V values
 
 pub record Demand3 (P : Program) (w : ℕ) : Type 0 where
@@ -252,6 +307,8 @@ pub record ProgramText (t : List ℕ) : Type 0 where
   pub admitted : (readOf t .verdict ≡ Accepted) ↔ ((P : Program) × Admitted t P)
   -- then it keeps the printed program: its atoms, rules, lists and order
   pub kept-whole : (P : Program) → Admitted t P → readOf t .program ≡ kept P
+  -- and the arrays hold that program
+  pub decoded-whole : (P : Program) → Admitted t P → decoded (readOf t .program) ≡ P
   -- of a refused text it keeps nothing
   pub kept-nothing : (r : TextRefusal) → readOf t .verdict ≡ Refused r → readOf t .program ≡ emptyProgram
 
@@ -270,6 +327,7 @@ program-text t =
       accepted = (accepted-none t, none-accepted t);
       admitted = (accepted-admitted t, λ a. ap (λ (x : Reading). x .verdict) (admitted-answer t (a .0) (a .1)));
       kept-whole = λ P a. ap (λ (x : Reading). x .program) (admitted-answer t P a);
+      decoded-whole = λ P a. ap (λ (x : Reading). decoded (x .program)) (admitted-answer t P a) ∙ decoded-kept P;
       kept-nothing = refused-empty t;
     }
 
@@ -352,3 +410,79 @@ step-met = step·met
 -- an atom's variable has the atom's number
 pub atom-var-met : {M : Type 1} → atom-var·statement M
 atom-var-met = atom-var·met
+
+-- a variable as a literal, and negated
+pub literal-met : {M : Type 1} → literal·statement M
+literal-met = literal·met
+
+pub negated-met : {M : Type 1} → negated·statement M
+negated-met = negated·met
+
+-- a literal's negation, sign and magnitude
+pub negate-met : {M : Type 1} → negate·statement M
+negate-met = negate·met
+
+pub is-negative-met : {M : Type 1} → is-negative·statement M
+is-negative-met = is-negative·met
+
+pub magnitude-met : {M : Type 1} → magnitude·statement M
+magnitude-met = magnitude·met
+
+-- the width is `width`, for any number of atoms
+pub width-of-met : {M : Type 1} → width-of·statement M
+width-of-met = width-of·met
+
+-- the variables' numbers are those of `encoding`
+pub body-var-met : {M : Type 1} → body-var·statement M
+body-var-met = body-var·met
+
+pub founds-var-met : {M : Type 1} → founds-var·statement M
+founds-var-met = founds-var·met
+
+pub level-var-met : {M : Type 1} → level-var·statement M
+level-var-met = level-var·met
+
+pub next-var-met : {M : Type 1} → next-var·statement M
+next-var-met = next-var·met
+
+pub below-var-met : {M : Type 1} → below-var·statement M
+below-var-met = below-var·met
+
+pub next-below-var-met : {M : Type 1} → next-below-var·statement M
+next-below-var-met = next-below-var·met
+
+pub var-count-met : {M : Type 1} → var-count·statement M
+var-count-met = var-count·met
+
+-- decimal numbers and literals, written into a lent buffer: the bytes behind them stay
+pub put-decimal-met : {M : Type 1} → put-decimal·statement M
+put-decimal-met = put-decimal·met
+
+pub put-number-met : {M : Type 1} → put-number·statement M
+put-number-met = put-number·met
+
+pub put-literal-met : {M : Type 1} → put-literal·statement M
+put-literal-met = put-literal·met
+
+-- their lengths
+pub decimal-length-met : {M : Type 1} → decimal-length·statement M
+decimal-length-met = decimal-length·met
+
+pub literal-length-met : {M : Type 1} → literal-length·statement M
+literal-length-met = literal-length·met
+
+-- the literal in a slot of a clause of groups 1, 3, 4, 5 and 6
+pub body-slot-met : {M : Type 1} → body-slot·statement M
+body-slot-met = body-slot·met
+
+pub zero-slot-met : {M : Type 1} → zero-slot·statement M
+zero-slot-met = zero-slot·met
+
+pub next-slot-met : {M : Type 1} → next-slot·statement M
+next-slot-met = next-slot·met
+
+pub pair-slot-met : {M : Type 1} → pair-slot·statement M
+pair-slot-met = pair-slot·met
+
+pub rule-slot-met : {M : Type 1} → rule-slot·statement M
+rule-slot-met = rule-slot·met

@@ -2,3 +2,4 @@ pub mod Judge
 pub mod Scan
 pub mod Breach
 pub mod Row
+pub mod Decoded

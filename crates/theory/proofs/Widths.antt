@@ -77,3 +77,11 @@ zeros-is b n h =
 
 pub width-zeros : (b n : ℕ) → n + 1 < 2 ^ b → width n ≡ b - leadingZeros b (n + 1)
 width-zeros b n h = width-unique n (width n) (b - leadingZeros b (n + 1)) (width-is n) (zeros-is b n h)
+
+-- a width is at least 1
+pub width-some : (n : ℕ) → 0 < width n
+width-some n = go (width n) (width-enough n)
+  where
+    go : (w : ℕ) → n + 2 ≤ 2 ^ w → 0 < w
+    go zero h = omega (arith, h)
+    go (suc w) h = omega arith

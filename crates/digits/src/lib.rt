@@ -1,0 +1,101 @@
+// Decimal numbers and literals as bytes, written into a lent buffer.
+use literals::is_negative;
+use literals::magnitude;
+ghost use Prim.Native.Nat.{_+_, _%_, _^_, _≤_, _<_};
+ghost use mathlib.Core.Path.{_≡_};
+ghost use mathlib.Core.List.{[], _∷_, _++_};
+ghost use lib.IntN.{natAbs};
+ghost use lib.ListN.{length, drop};
+ghost use Rattle.text.specs.Decimal.{decimal};
+ghost use Rattle.digits.specs.Bytes.{literalText};
+
+// The last decimal digit of n, as a byte.
+fn digit(n: u32) -> u8
+    ensures { λ r. ⌜ r ≡ 48 + n % 10 ⌝ }
+{
+    48 + (n % 10) as u8
+}
+
+// Writes the digits of n at the front of the buffer and returns how many they are.
+pub fn put_decimal(n: u32, buf: &mut [u8]) -> usize
+    requires { ⌜ length (decimal n) ≤ length (now buf) ⌝ }
+    ensures { λ r. ⌜ (r ≡ length (decimal n)) × (now (buf .exit) ≡ decimal n ++ drop r (now (buf .entry))) ⌝ }
+{
+    if n < 10 {
+        buf[0] = digit(n);
+        return 1;
+    }
+    let k = put_decimal(n / 10, &mut *buf);
+    buf[k] = digit(n);
+    k + 1
+}
+
+// Writes the digits of n and the byte `end` at the front of the buffer and returns how many bytes they are.
+pub fn put_number(n: u32, end: u8, buf: &mut [u8]) -> usize
+    requires { ⌜ length (decimal n ++ (end ∷ [])) ≤ length (now buf) ⌝ }
+    ensures { λ r. ⌜ (r ≡ length (decimal n ++ (end ∷ []))) × (now (buf .exit) ≡ (decimal n ++ (end ∷ [])) ++ drop r (now (buf .entry))) ⌝ }
+{
+    let k = put_decimal(n, &mut *buf);
+    buf[k] = end;
+    k + 1
+}
+
+// Writes the literal x and one space at the front of the buffer and returns how many bytes they are.
+pub fn put_literal(x: i32, buf: &mut [u8]) -> usize
+    requires { ⌜ (natAbs x < 2 ^ 31) × (length (literalText x ++ (32 ∷ [])) ≤ length (now buf)) ⌝ }
+    ensures { λ r. ⌜ (r ≡ length (literalText x ++ (32 ∷ []))) × (now (buf .exit) ≡ (literalText x ++ (32 ∷ [])) ++ drop r (now (buf .entry))) ⌝ }
+{
+    let n = magnitude(x);
+    if is_negative(x) {
+        buf[0] = 45;
+        let k = put_number(n, 32, &mut buf[1..]);
+        return k + 1;
+    }
+    put_number(n, 32, &mut *buf)
+}
+
+// How many digits n has.
+pub fn decimal_length(n: u32) -> usize
+    ensures { λ r. ⌜ r ≡ length (decimal n) ⌝ }
+{
+    if n < 10 {
+        return 1;
+    }
+    if n < 100 {
+        return 2;
+    }
+    if n < 1000 {
+        return 3;
+    }
+    if n < 10000 {
+        return 4;
+    }
+    if n < 100000 {
+        return 5;
+    }
+    if n < 1000000 {
+        return 6;
+    }
+    if n < 10000000 {
+        return 7;
+    }
+    if n < 100000000 {
+        return 8;
+    }
+    if n < 1000000000 {
+        return 9;
+    }
+    10
+}
+
+// How many bytes the literal x and one space are.
+pub fn literal_length(x: i32) -> usize
+    requires { ⌜ natAbs x < 2 ^ 31 ⌝ }
+    ensures { λ r. ⌜ r ≡ length (literalText x) + 1 ⌝ }
+{
+    let k = decimal_length(magnitude(x));
+    if is_negative(x) {
+        return k + 2;
+    }
+    k + 1
+}

@@ -1,0 +1,8 @@
+-- Picks: the literal picked of two, and of three
+pub mod Picks
+-- Next: the slots of group 4
+pub mod Next
+-- Founds: the slots of group 6
+pub mod Founds
+-- Body: the slots of group 1
+pub mod Body

@@ -1,0 +1,199 @@
+-- The clause list as a walk: groups 1 to 7, in each its items (rules, atoms or pairs), in an item its rows, in a row its clauses, in a clause its
+-- slots, each from 1; a slot holds a literal or none. Code goes from place to place by these numbers and stores no clause.
+--   itemCount P g            how many items group g has
+--   rowCount P w g           how many rows an item of group g has
+--   size P w g a i           how many clauses row i of item a has
+--   slots P w g a i y        how many slots clause y of that row has
+--   slot P w g a i y l       the literal in slot l of that clause, if there is one
+--   walked P w               all clauses, in the walk's order
+-- Assumes nothing.
+use Prim.Native.Nat.{ℕ, suc, pred, _+_, _-_, _*_, _/_, _%_}
+use mathlib.Core.Bool.{Bool, cond}
+use mathlib.Core.List.{List, [], _∷_, _++_}
+use lib.Dec.{eqb, ltb, leb}
+use lib.ListN.{length, getD}
+use Rattle.lists.specs.Lists.{tab, each}
+use Rattle.meaning.specs.Program.{Program, ruleAt}
+use Rattle.encoding.specs.Literal.{Literal, var, −_, Clause}
+use Rattle.encoding.specs.Variables.{Sizes, bodyVar, foundsVar, levelVar, nextVar, belowVar, nextBelowVar}
+use Rattle.encoding.specs.Clauses.{sizes, pairs, pairCount, pairAt, pairsBefore}
+
+-- ---- rules and pairs
+
+abbrev pub ruleCount : Program → ℕ
+ruleCount P = length (P .rules)
+
+abbrev pub headOf : Program → ℕ → ℕ
+headOf P r = ruleAt (P .rules) r .head
+
+abbrev pub positives : Program → ℕ → ℕ
+positives P r = length (ruleAt (P .rules) r .positive)
+
+-- the body atoms of rule r, B before C
+abbrev pub bodyOf : Program → ℕ → List ℕ
+bodyOf P r = ruleAt (P .rules) r .positive ++ ruleAt (P .rules) r .negative
+
+abbrev pub bodyCount : Program → ℕ → ℕ
+bodyCount P r = length (bodyOf P r)
+
+-- a variable, or its negation
+abbrev pub signed : Bool → ℕ → Literal
+signed b v = cond b (var v) (− v)
+
+-- two and three literals
+abbrev pub two : Literal → Literal → ℕ → Literal
+two x y l = cond (eqb l 1) x y
+
+abbrev pub three : Literal → Literal → Literal → ℕ → Literal
+three x y z l = cond (eqb l 1) x (cond (eqb l 2) y z)
+
+-- the variable v of rule l − 1 if a is its head, behind the first slot
+abbrev pub ofHead : Program → ℕ → (ℕ → ℕ) → ℕ → List Literal
+ofHead P a v l = cond (eqb l 1) (− a ∷ []) (cond (eqb (headOf P (pred l)) a) (var (v (pred l)) ∷ []) [])
+
+-- ---- group 1, rule r with the body atoms bs, the first p of them positive: clause y for body atom y, then the long one
+
+abbrev pub atomAt : List ℕ → ℕ → ℕ
+atomAt bs x = getD bs (pred x) 0
+
+-- body atom x as it stands in the rule, and negated
+abbrev pub bodyLiteral : List ℕ → ℕ → ℕ → Literal
+bodyLiteral bs p x = signed (leb x p) (atomAt bs x)
+
+abbrev pub bodyOpposite : List ℕ → ℕ → ℕ → Literal
+bodyOpposite bs p x = signed (ltb p x) (atomAt bs x)
+
+abbrev pub slots1 : List ℕ → ℕ → ℕ
+slots1 bs y = cond (leb y (length bs)) 2 (suc (length bs))
+
+abbrev pub slot1 : Sizes → ℕ → List ℕ → ℕ → ℕ → ℕ → Literal
+slot1 S r bs p y l =
+    cond (leb y (length bs)) (two (− bodyVar S r) (bodyLiteral bs p y) l) (cond (eqb l 1) (var (bodyVar S r)) (bodyOpposite bs p (pred l)))
+
+-- ---- group 2, atom a: row i for rule i, with a clause if a is its head; then the last row
+
+abbrev pub size2 : Program → ℕ → ℕ → ℕ
+size2 P a i = cond (leb i (ruleCount P)) (cond (eqb (headOf P i) a) 1 0) 1
+
+abbrev pub slots2 : Program → ℕ → ℕ
+slots2 P i = cond (leb i (ruleCount P)) 2 (suc (ruleCount P))
+
+abbrev pub slot2 : Program → ℕ → ℕ → ℕ → ℕ → List Literal
+slot2 P w a i l =
+    cond (leb i (ruleCount P)) (two (var a) (− bodyVar (sizes P w) i) l ∷ []) (ofHead P a (bodyVar (sizes P w)) l)
+
+-- ---- group 3, atom a: clause y for bit y
+
+abbrev pub slot3 : Sizes → ℕ → ℕ → ℕ → Literal
+slot3 S a y l = two (var a) (− levelVar S a y) l
+
+-- ---- group 4, atom a: row i for bit i, two clauses for each j from 1 to i; those with j = i are the long ones
+
+-- j of clause y, and whether it is the first of its two
+abbrev pub bitOf : ℕ → ℕ
+bitOf y = suc (pred y / 2)
+
+abbrev pub isFirst : ℕ → Bool
+isFirst y = eqb (y % 2) 1
+
+abbrev pub slots4 : ℕ → ℕ → ℕ
+slots4 i y = cond (ltb (bitOf y) i) 3 (suc i)
+
+abbrev pub slot4 : Sizes → ℕ → ℕ → ℕ → ℕ → Literal
+slot4 S a i y l =
+    cond (ltb (bitOf y) i)
+    (three (var (levelVar S a (bitOf y))) (signed (eqb (y % 2) 0) (nextVar S a i)) (signed (isFirst y) (levelVar S a i)) l)
+    (cond (ltb l i) (− levelVar S a l) (cond (eqb l i) (signed (eqb (y % 2) 0) (nextVar S a i)) (signed (eqb (y % 2) 0) (levelVar S a i))))
+
+-- ---- group 5, pair k: row i for bit i of the first chain, row w + i for bit i of the second
+
+abbrev pub chainSize : ℕ → ℕ
+chainSize i = cond (eqb i 1) 3 6
+
+abbrev pub chainSlots : ℕ → ℕ → ℕ
+chainSlots i y = cond (eqb i 1) (cond (eqb y 3) 3 2) 3
+
+-- clause c of bit 1, and of bit i from 2, with z, x and y at that bit and g, z at the bit before
+abbrev pub chainFirst : ℕ → ℕ → ℕ → ℕ → ℕ → Literal
+chainFirst z x y c l = cond (eqb c 1) (two (− z) (− x) l) (cond (eqb c 2) (two (− z) (var y) l) (three (var z) (var x) (− y) l))
+
+abbrev pub chainNext : ℕ → ℕ → ℕ → ℕ → ℕ → ℕ → Literal
+chainNext z x y g c l =
+    cond (eqb c 1) (three (− z) (− x) (var y) l)
+    (cond (eqb c 2) (three (− z) (− x) (var g) l)
+    (cond (eqb c 3) (three (− z) (var y) (var g) l)
+    (cond (eqb c 4) (three (var z) (var x) (− y) l)
+    (cond (eqb c 5) (three (var z) (var x) (− g) l) (three (var z) (− y) (− g) l)))))
+
+abbrev pub chainSlot : ℕ → ℕ → ℕ → ℕ → ℕ → ℕ → ℕ → Literal
+chainSlot z x y g i c l = cond (eqb i 1) (chainFirst z x y c l) (chainNext z x y g c l)
+
+-- the bit of row i
+abbrev pub chainBit : ℕ → ℕ → ℕ
+chainBit w i = cond (leb i w) i (i - w)
+
+-- with the body atom b and the head h
+abbrev pub slot5 : Sizes → ℕ → ℕ → ℕ → ℕ → ℕ → ℕ → Literal
+slot5 S k b h i y l =
+    cond (leb i (S .w))
+    (chainSlot (belowVar S k i) (levelVar S b i) (levelVar S h i) (belowVar S k (pred i)) i y l)
+    (chainSlot (nextBelowVar S k (i - S .w)) (nextVar S b (i - S .w)) (levelVar S h (i - S .w)) (nextBelowVar S k (pred (i - S .w))) (i - S .w) y l)
+
+-- ---- group 6, rule r with b pairs behind k others and the head h: clause 1, b clauses, the long one, and the last ones
+
+abbrev pub size6 : ℕ → ℕ → ℕ
+size6 w b = cond (eqb b 0) (suc (suc w)) (suc (suc (suc b)))
+
+abbrev pub slots6 : ℕ → ℕ → ℕ
+slots6 b y = cond (leb y (suc b)) 2 (cond (eqb y (suc (suc b))) (suc (suc b)) (cond (eqb b 0) 2 (suc b)))
+
+abbrev pub slot6 : Sizes → ℕ → ℕ → ℕ → ℕ → ℕ → ℕ → Literal
+slot6 S r h k b y l =
+    let s = foundsVar S r in
+    let t = bodyVar S r in
+    cond (eqb y 1) (two (− s) (var t) l)
+    (cond (leb y (suc b)) (two (− s) (var (belowVar S (k + pred y) (S .w))) l)
+    (cond (eqb y (suc (suc b))) (three (var s) (− t) (− belowVar S (k + (l - 2)) (S .w)) l)
+    (cond (eqb b 0) (two (− t) (signed (eqb y 3) (levelVar S h (y - 2))) l) (two (− t) (− nextBelowVar S (k + pred l) (S .w)) l))))
+
+-- ---- all groups
+
+unfoldable pub itemCount : Program → ℕ → ℕ
+itemCount P g = cond (eqb g 1) (ruleCount P) (cond (eqb g 5) (pairCount P) (cond (eqb g 6) (ruleCount P) (P .atoms)))
+
+unfoldable pub rowCount : Program → ℕ → ℕ → ℕ
+rowCount P w g = cond (eqb g 2) (suc (ruleCount P)) (cond (eqb g 4) w (cond (eqb g 5) (w + w) 1))
+
+unfoldable pub size : Program → ℕ → ℕ → ℕ → ℕ → ℕ
+size P w g a i =
+    cond (eqb g 1) (suc (bodyCount P a))
+    (cond (eqb g 2) (size2 P a i)
+    (cond (eqb g 3) w
+    (cond (eqb g 4) (2 * i) (cond (eqb g 5) (chainSize (chainBit w i)) (cond (eqb g 6) (size6 w (positives P a)) 1)))))
+
+unfoldable pub slots : Program → ℕ → ℕ → ℕ → ℕ → ℕ → ℕ
+slots P w g a i y =
+    cond (eqb g 1) (slots1 (bodyOf P a) y)
+    (cond (eqb g 2) (slots2 P i)
+    (cond (eqb g 3) 2
+    (cond (eqb g 4) (slots4 i y) (cond (eqb g 5) (chainSlots (chainBit w i) y) (cond (eqb g 6) (slots6 (positives P a) y) (suc (ruleCount P)))))))
+
+unfoldable pub slot : Program → ℕ → ℕ → ℕ → ℕ → ℕ → ℕ → List Literal
+slot P w g a i y l =
+    cond (eqb g 1) (slot1 (sizes P w) a (bodyOf P a) (positives P a) y l ∷ [])
+    (cond (eqb g 2) (slot2 P w a i l)
+    (cond (eqb g 3) (slot3 (sizes P w) a y l ∷ [])
+    (cond (eqb g 4) (slot4 (sizes P w) a i y l ∷ [])
+    (cond (eqb g 5) (slot5 (sizes P w) a (pairAt (pairs P) a .body) (pairAt (pairs P) a .head) i y l ∷ []) (cond (eqb g 6) (slot6 (sizes P w) a (headOf P a) (pairsBefore P a) (positives P a) y l ∷ []) (ofHead P a (foundsVar (sizes P w)) l))))))
+
+abbrev pub clauseAt : Program → ℕ → ℕ → ℕ → ℕ → ℕ → Clause
+clauseAt P w g a i y = each (slots P w g a i y) (slot P w g a i y)
+
+abbrev pub row : Program → ℕ → ℕ → ℕ → ℕ → List Clause
+row P w g a i = tab (size P w g a i) (clauseAt P w g a i)
+
+abbrev pub group : Program → ℕ → ℕ → List Clause
+group P w g = each (itemCount P g) (λ a. each (rowCount P w g) (row P w g a))
+
+unfoldable pub walked : Program → ℕ → List Clause
+walked P w = each 7 (group P w)
