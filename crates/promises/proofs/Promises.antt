@@ -91,6 +91,24 @@ use Rattle.slots.proofs.pair_slot.Statement.{statement as pair-slot·statement}
 use Rattle.slots.proofs.pair_slot.Met.{met as pair-slot·met}
 use Rattle.slots.proofs.rule_slot.Statement.{statement as rule-slot·statement}
 use Rattle.slots.proofs.rule_slot.Met.{met as rule-slot·met}
+use Rattle.slots.proofs.implied_slot.Statement.{statement as implied-slot·statement}
+use Rattle.slots.proofs.implied_slot.Met.{met as implied-slot·met}
+use Rattle.slots.proofs.head_slot.Statement.{statement as head-slot·statement}
+use Rattle.slots.proofs.head_slot.Met.{met as head-slot·met}
+use Rattle.slots.proofs.body_slots.Statement.{statement as body-slots·statement}
+use Rattle.slots.proofs.body_slots.Met.{met as body-slots·met}
+use Rattle.slots.proofs.next_slots.Statement.{statement as next-slots·statement}
+use Rattle.slots.proofs.next_slots.Met.{met as next-slots·met}
+use Rattle.slots.proofs.chain_bit.Statement.{statement as chain-bit·statement}
+use Rattle.slots.proofs.chain_bit.Met.{met as chain-bit·met}
+use Rattle.slots.proofs.chain_size.Statement.{statement as chain-size·statement}
+use Rattle.slots.proofs.chain_size.Met.{met as chain-size·met}
+use Rattle.slots.proofs.chain_slots.Statement.{statement as chain-slots·statement}
+use Rattle.slots.proofs.chain_slots.Met.{met as chain-slots·met}
+use Rattle.slots.proofs.rule_size.Statement.{statement as rule-size·statement}
+use Rattle.slots.proofs.rule_size.Met.{met as rule-size·met}
+use Rattle.slots.proofs.rule_slots.Statement.{statement as rule-slots·statement}
+use Rattle.slots.proofs.rule_slots.Met.{met as rule-slots·met}
 use Rattle.text.specs.Text.{textOf, HasForm, Viable, Malformed}
 use Rattle.program.specs.declared.TextRefusal.{TextRefusal}
 use Rattle.program.specs.declared.ReadVerdict.the-variants.{Accepted, Refused}
@@ -471,7 +489,7 @@ decimal-length-met = decimal-length·met
 pub literal-length-met : {M : Type 1} → literal-length·statement M
 literal-length-met = literal-length·met
 
--- the literal in a slot of a clause of groups 1, 3, 4, 5 and 6
+-- the literal in a slot of a clause, of groups 1, 3, 4, 5 and 6
 pub body-slot-met : {M : Type 1} → body-slot·statement M
 body-slot-met = body-slot·met
 
@@ -486,3 +504,32 @@ pair-slot-met = pair-slot·met
 
 pub rule-slot-met : {M : Type 1} → rule-slot·statement M
 rule-slot-met = rule-slot·met
+
+-- groups 2 and 7: an atom's clause with one rule, and its last clause
+pub implied-slot-met : {M : Type 1} → implied-slot·statement M
+implied-slot-met = implied-slot·met
+
+pub head-slot-met : {M : Type 1} → head-slot·statement M
+head-slot-met = head-slot·met
+
+-- how many slots a clause has, and how many clauses a row
+pub body-slots-met : {M : Type 1} → body-slots·statement M
+body-slots-met = body-slots·met
+
+pub next-slots-met : {M : Type 1} → next-slots·statement M
+next-slots-met = next-slots·met
+
+pub chain-bit-met : {M : Type 1} → chain-bit·statement M
+chain-bit-met = chain-bit·met
+
+pub chain-size-met : {M : Type 1} → chain-size·statement M
+chain-size-met = chain-size·met
+
+pub chain-slots-met : {M : Type 1} → chain-slots·statement M
+chain-slots-met = chain-slots·met
+
+pub rule-size-met : {M : Type 1} → rule-size·statement M
+rule-size-met = rule-size·met
+
+pub rule-slots-met : {M : Type 1} → rule-slots·statement M
+rule-slots-met = rule-slots·met

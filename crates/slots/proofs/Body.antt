@@ -25,5 +25,5 @@ module _ (S : Sizes) (r : ℕ) (bs : List ℕ) (p y l : ℕ) where
   pub long-next : length bs < y → (l ≡ 1 → ⊥) → signed (ltb p (l - 1)) (atomAt bs (l - 1)) ≡ slot1 S r bs p y l
   long-next h e = rw (lt-leb y (length bs) h, ne-eqb l 1 e, one-before l)
 
-  pub long-fits : length bs < y → 0 < l → (l ≡ 1 → ⊥) → l ≤ slots1 bs y → (0 < l - 1) × (l - 1 ≤ length bs)
+  pub long-fits : length bs < y → 0 < l → (l ≡ 1 → ⊥) → l ≤ slots1 (length bs) y → (0 < l - 1) × (l - 1 ≤ length bs)
   long-fits h z e q = let a : l ≤ suc (length bs) = (rw (lt-leb y (length bs) h) at q) in (omega (arith, e), omega (arith, a))

@@ -12,16 +12,16 @@ use Rattle.walk.specs.Walk.{signed, two, three, size6, slots6, slot6}
 use Rattle.literals.proofs.Products.{one-before}
 
 -- the code counts b + 1 and b + 2
-within : (b y : ℕ) → y ≤ b + 1 → leb y (suc b) ≡ true
+pub within : (b y : ℕ) → y ≤ b + 1 → leb y (suc b) ≡ true
 within b y h = le-leb y (suc b) (omega arith)
 
-past : (b y : ℕ) → b + 1 < y → leb y (suc b) ≡ false
+pub past : (b y : ℕ) → b + 1 < y → leb y (suc b) ≡ false
 past b y h = lt-leb y (suc b) (omega arith)
 
-is-long : (b y : ℕ) → y ≡ b + 2 → eqb y (suc (suc b)) ≡ true
+pub is-long : (b y : ℕ) → y ≡ b + 2 → eqb y (suc (suc b)) ≡ true
 is-long b y e = eq-eqb y (suc (suc b)) (omega arith)
 
-not-long : (b y : ℕ) → (y ≡ b + 2 → ⊥) → eqb y (suc (suc b)) ≡ false
+pub not-long : (b y : ℕ) → (y ≡ b + 2 → ⊥) → eqb y (suc (suc b)) ≡ false
 not-long b y f = ne-eqb y (suc (suc b)) (λ e. f (e ∙ up b))
   where
     up : (b : ℕ) → suc (suc b) ≡ b + 2

@@ -6,3 +6,7 @@ pub mod Next
 pub mod Founds
 -- Body: the slots of group 1
 pub mod Body
+-- Heads: the slots of an atom's last clause
+pub mod Heads
+-- Counts: sizes of rows, and numbers of slots
+pub mod Counts

@@ -11,7 +11,7 @@ use Rattle.encoding.specs.Variables.{Sizes, levelVar, nextVar}
 use Rattle.walk.specs.Walk.{signed, three, bitOf, slot4}
 use Rattle.literals.proofs.Products.{one-before}
 
-bit-is : (y : ℕ) → (y - 1) / 2 + 1 ≡ bitOf y
+pub bit-is : (y : ℕ) → (y - 1) / 2 + 1 ≡ bitOf y
 bit-is y = ap (λ (x : ℕ). x / 2 + 1) (one-before y) ∙ up (pred y / 2)
   where
     up : (x : ℕ) → x + 1 ≡ suc x

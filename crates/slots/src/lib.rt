@@ -10,16 +10,17 @@ use numbers::Atom;
 use numbers::Rule;
 use numbers::Var;
 use numbers::atom_var;
+use program::head;
 ghost use Prim.Native.Nat.{pred, _+_, _-_, _≤_, _<_};
 ghost use mathlib.Core.Path.{_≡_};
 ghost use lib.ListN.{length};
 ghost use Rattle.encoding.specs.Literal.{var, −_};
 ghost use Rattle.encoding.specs.Variables.{bodyVar, foundsVar, belowVar, nextBelowVar};
 ghost use Rattle.literals.specs.Sizes.{sizesOf, Bounded};
-ghost use Rattle.walk.specs.Walk.{signed, chainFirst, chainNext, chainSlot, slot3, slot4, slot5, size6, slots6, slot6};
-ghost use Rattle.walk.specs.Walk.{atomAt, slots1, slot1};
+ghost use Rattle.walk.specs.Walk.{signed, chainFirst, chainNext, chainSlot, slot3, slots4, slot4, chainSize, chainSlots, chainBit, slot5, size6, slots6, slot6};
+ghost use Rattle.walk.specs.Walk.{atomAt, slots1, slot1, impliedSlot, ofHead};
 ghost use Rattle.walk.specs.Walk.{two as twoOf, three as threeOf};
-ghost use Rattle.slots.specs.Signed.{literalIn};
+ghost use Rattle.slots.specs.Signed.{literalIn, slotIn};
 
 // A variable and whether it stands positive.
 pub struct Signed {
@@ -250,7 +251,7 @@ fn atom_at(body: &[u16], x: u16) -> Var
 
 // Group 1, rule r with the body atoms `body`, the first p of them positive: slot l of clause y.
 pub fn body_slot(s: Sizes, r: Rule, body: &[u16], p: u16, y: u16, l: u16) -> Signed
-    requires { ⌜ (Bounded s) × (r .0 ≤ 500) × (0 < y) × (0 < l) × (l ≤ slots1 (now body) y) ⌝ }
+    requires { ⌜ (Bounded s) × (r .0 ≤ 500) × (0 < y) × (0 < l) × (l ≤ slots1 (length (now body)) y) ⌝ }
     ensures { λ x. ⌜ literalIn x ≡ slot1 (sizesOf s) (r .0) (now (body .entry)) p y l ⌝ }
 {
     let t = body_var(s, r);
@@ -266,4 +267,107 @@ pub fn body_slot(s: Sizes, r: Rule, body: &[u16], p: u16, y: u16, l: u16) -> Sig
     }
     let stands = p < l - 1;
     with_sign(stands, atom_at(body, l - 1))
+}
+
+// Group 2, atom a and its rule r: slot l of their clause.
+pub fn implied_slot(s: Sizes, a: Atom, r: Rule, l: u16) -> Signed
+    requires { ⌜ (Bounded s) × (r .0 ≤ 500) ⌝ }
+    ensures { λ x. ⌜ literalIn x ≡ impliedSlot (sizesOf s) (a .0) (r .0) l ⌝ }
+{
+    two(yes(atom_var(a)), no(body_var(s, r)), l)
+}
+
+// Groups 2 and 7, atom a: slot l of its last clause, the negated a or variable base + r of rule r = l - 1 if a is its head.
+pub fn head_slot(heads: &[u16], a: Atom, base: u16, l: u16) -> Signed
+    requires { ⌜ (0 < a .0) × (base ≤ 626) × (length (now heads) ≤ 500) × (0 < l) × (l ≤ length (now heads) + 1) ⌝ }
+    ensures { λ x. ⌜ slotIn x ≡ ofHead (now (heads .entry)) (a .0) (λ r. base + r) l ⌝ }
+{
+    if l == 1 {
+        return no(atom_var(a));
+    }
+    let r = l - 1;
+    if head(heads, Rule(r)).0 == a.0 {
+        return yes(Var(base + r));
+    }
+    no(Var(0))
+}
+
+// Group 1: how many slots clause y of a rule with b body atoms has.
+pub fn body_slots(b: u16, y: u16) -> u16
+    requires { ⌜ b ≤ 500 ⌝ }
+    ensures { λ r. ⌜ r ≡ slots1 b y ⌝ }
+{
+    if y <= b {
+        return 2;
+    }
+    b + 1
+}
+
+// Group 4: how many slots clause y of row i has.
+pub fn next_slots(i: u16, y: u16) -> u16
+    requires { ⌜ (i ≤ 7) × (0 < y) ⌝ }
+    ensures { λ r. ⌜ r ≡ slots4 i y ⌝ }
+{
+    if (y - 1) / 2 + 1 < i {
+        return 3;
+    }
+    i + 1
+}
+
+// Group 5: the bit of row i, how many clauses a bit has, and how many slots its clause c has.
+pub fn chain_bit(w: u16, i: u16) -> u16
+    ensures { λ r. ⌜ r ≡ chainBit w i ⌝ }
+{
+    if i <= w {
+        return i;
+    }
+    i - w
+}
+
+pub fn chain_size(i: u16) -> u16
+    ensures { λ r. ⌜ r ≡ chainSize i ⌝ }
+{
+    if i == 1 {
+        return 3;
+    }
+    6
+}
+
+pub fn chain_slots(i: u16, c: u16) -> u16
+    ensures { λ r. ⌜ r ≡ chainSlots i c ⌝ }
+{
+    if i == 1 {
+        if c == 3 {
+            return 3;
+        }
+        return 2;
+    }
+    3
+}
+
+// Group 6: how many clauses a rule with b pairs has, and how many slots its clause y has.
+pub fn rule_size(w: u16, b: u16) -> u16
+    requires { ⌜ (w ≤ 7) × (b ≤ 500) ⌝ }
+    ensures { λ r. ⌜ r ≡ size6 w b ⌝ }
+{
+    if b == 0 {
+        return w + 2;
+    }
+    b + 3
+}
+
+pub fn rule_slots(b: u16, y: u16) -> u16
+    requires { ⌜ b ≤ 500 ⌝ }
+    ensures { λ r. ⌜ r ≡ slots6 b y ⌝ }
+{
+    if y <= b + 1 {
+        return 2;
+    }
+    if y == b + 2 {
+        return b + 2;
+    }
+    if b == 0 {
+        return 2;
+    }
+    b + 1
 }

@@ -10,12 +10,12 @@ use lib.Dec.{eqb}
 use borrow.Author.Tests.{eq-eqb, ne-eqb, le-leb, lt-leb}
 use Rattle.lists.specs.Lists.{tab, each}
 use Rattle.lists.proofs.Tables.{tab-ext, each-ext, each-front}
-use Rattle.meaning.specs.Program.{Program}
+use Rattle.meaning.specs.Program.{Program, ruleAt}
 use Rattle.encoding.specs.Literal.{var, −_, Clause}
 use Rattle.encoding.specs.Variables.{Sizes, bodyVar, foundsVar, levelVar, belowVar, nextBelowVar}
 use Rattle.encoding.specs.Clauses.{sizes, pairsBefore, pairsOf, foundsClauses, lowestClauses, group6}
 use Rattle.walk.specs.Walk.{ruleCount, headOf, positives, signed, two, three, size6, slots6, slot6, itemCount, rowCount, size, slots, slot, row, group}
-use Rattle.walk.proofs.Tabs.{tab-each, tab-front, map-tab}
+use Rattle.walk.proofs.Tabs.{head-is, tab-each, tab-front, map-tab}
 
 module _ (P : Program) (w : ℕ) where
   abbrev S : Sizes
@@ -139,5 +139,6 @@ module _ (P : Program) (w : ℕ) where
   pub is-group6 : 0 < w → group P w 6 ≡ group6 P w
   unfolding itemCount rowCount size slots slot
   is-group6 p =
-      each-ext (ruleCount P) (λ r. row P w 6 r 1) (λ r. foundsClauses S r (pairsOf P r) ++ lowestClauses S r (headOf P r) (pairsOf P r))
-      (λ i l. row6 (suc i) (headOf P (suc i)) (pairsBefore P (suc i)) p (positives P (suc i)))
+      each-ext (ruleCount P) (λ r. row P w 6 r 1) (λ r. foundsClauses S r (pairsOf P r) ++ lowestClauses S r (ruleAt (P .rules) r .head) (pairsOf P r))
+      (λ i l. row6 (suc i) (headOf P (suc i)) (pairsBefore P (suc i)) p (positives P (suc i))
+      ∙ ap (λ (h : ℕ). foundsClauses S (suc i) (pairsOf P (suc i)) ++ lowestClauses S (suc i) h (pairsOf P (suc i))) (head-is (P .rules) (suc i)))

@@ -10,15 +10,15 @@ use mathlib.Core.List.{List, [], _∷_, _++_, map, append-assoc}
 use lib.Dec.{eqb, leb}
 use lib.ListN.{length}
 use borrow.Author.Tests.{ne-eqb, lt-ltb, le-ltb, le-leb, lt-leb}
-use Rattle.lists.specs.Lists.{tab, each}
+use Rattle.lists.specs.Lists.{tab, each, select}
 use Rattle.lists.proofs.Tests.{le-or-lt}
 use Rattle.lists.proofs.Tables.{tab-ext, each-ext, each-front}
 use Rattle.meaning.specs.Program.{Program, ruleAt}
 use Rattle.encoding.specs.Literal.{var, −_, Clause}
 use Rattle.encoding.specs.Variables.{Sizes, bodyVar, foundsVar}
 use Rattle.encoding.specs.Clauses.{sizes, rulesOf, bodyClauses, impliedClauses, supportedClause, foundedClause, group1, group2, group3, group7}
-use Rattle.walk.specs.Walk.{ruleCount, headOf, positives, bodyOf, bodyCount, atomAt, signed, two, bodyLiteral, bodyOpposite, ofHead, itemCount, rowCount, size, slots, slot, clauseAt, row, group}
-use Rattle.walk.proofs.Tabs.{tab-each, tab-two, map-select}
+use Rattle.walk.specs.Walk.{ruleCount, headsOf, headOf, positives, bodyOf, bodyCount, atomAt, signed, two, bodyLiteral, bodyOpposite, ofHead, itemCount, rowCount, size, slots, slot, clauseAt, row, group}
+use Rattle.walk.proofs.Tabs.{head-is, tab-each, tab-two, map-select}
 
 module _ (P : Program) (w : ℕ) where
   abbrev S : Sizes
@@ -80,19 +80,25 @@ module _ (P : Program) (w : ℕ) where
 
   -- ---- groups 2 and 7
 
-  head-clause : (a : ℕ) (v : ℕ → ℕ) → each (suc (ruleCount P)) (ofHead P a v) ≡ − a ∷ map (λ r. var (v r)) (rulesOf (P .rules) a)
+  -- the rules of a, by the heads
+  rules-of : (a : ℕ) → select (ruleCount P) (λ r. eqb (headOf P r) a) ≡ rulesOf (P .rules) a
   unfolding rulesOf
+  rules-of a =
+      each-ext (ruleCount P) (λ r. cond (eqb (headOf P r) a) (r ∷ []) []) (λ r. cond (eqb (ruleAt (P .rules) r .head) a) (r ∷ []) [])
+      (λ i h. ap (λ (x : ℕ). cond (eqb x a) (suc i ∷ []) []) (head-is (P .rules) (suc i)))
+
+  head-clause : (a : ℕ) (v : ℕ → ℕ) → each (suc (ruleCount P)) (ofHead (headsOf P) a v) ≡ − a ∷ map (λ r. var (v r)) (rulesOf (P .rules) a)
   head-clause a v =
-      each-front (ruleCount P) (ofHead P a v)
+      each-front (ruleCount P) (ofHead (headsOf P) a v)
       ∙ ap (λ (zs : Clause). − a ∷ zs)
-      (each-ext (ruleCount P) (λ l. ofHead P a v (suc l)) (λ r. cond (eqb (headOf P r) a) (var (v r) ∷ []) []) (λ i h. rw (ne-eqb (suc (suc i)) 1 (λ e. omega arith)))
-      ∙ sym (map-select (λ r. var (v r)) (ruleCount P) (λ r. eqb (headOf P r) a)))
+      (each-ext (ruleCount P) (λ l. ofHead (headsOf P) a v (suc l)) (λ r. cond (eqb (headOf P r) a) (var (v r) ∷ []) []) (λ i h. rw (ne-eqb (suc (suc i)) 1 (λ e. omega arith)))
+      ∙ sym (map-select (λ r. var (v r)) (ruleCount P) (λ r. eqb (headOf P r) a)) ∙ ap (map (λ r. var (v r))) (rules-of a))
 
   -- row i of atom a, where d says whether i is a rule
   abbrev row2 : Bool → ℕ → ℕ → List Clause
   row2 d a i =
       tab (cond d (cond (eqb (headOf P i) a) 1 0) 1)
-      (λ y. each (cond d 2 (suc (ruleCount P))) (λ l. cond d (two (var a) (− bodyVar S i) l ∷ []) (ofHead P a (bodyVar S) l)))
+      (λ y. each (cond d 2 (suc (ruleCount P))) (λ l. cond d (two (var a) (− bodyVar S i) l ∷ []) (ofHead (headsOf P) a (bodyVar S) l)))
 
   implied-row : (a x : ℕ) → x < ruleCount P → row P w 2 a (suc x) ≡ cond (eqb (headOf P (suc x)) a) ((var a ∷ − bodyVar S (suc x) ∷ []) ∷ []) []
   unfolding size slots slot
@@ -109,12 +115,13 @@ module _ (P : Program) (w : ℕ) where
       ∙ ap (λ (c : Clause). c ∷ []) (head-clause a (bodyVar S))
 
   pub is-group2 : group P w 2 ≡ group2 P w
-  unfolding itemCount rowCount rulesOf
+  unfolding itemCount rowCount
   is-group2 =
       each-ext (P .atoms) (λ a. each (suc (ruleCount P)) (row P w 2 a)) (λ a. impliedClauses S a (rulesOf (P .rules) a) ++ (supportedClause S a (rulesOf (P .rules) a) ∷ []))
       (λ i h. ap₂ (λ (xs ys : List Clause). xs ++ ys)
       (each-ext (ruleCount P) (row P w 2 (suc i)) (λ r. cond (eqb (headOf P r) (suc i)) ((var (suc i) ∷ − bodyVar S r ∷ []) ∷ []) []) (implied-row (suc i))
-      ∙ sym (map-select (λ r. var (suc i) ∷ − bodyVar S r ∷ []) (ruleCount P) (λ r. eqb (headOf P r) (suc i))))
+      ∙ sym (map-select (λ r. var (suc i) ∷ − bodyVar S r ∷ []) (ruleCount P) (λ r. eqb (headOf P r) (suc i)))
+      ∙ ap (impliedClauses S (suc i)) (rules-of (suc i)))
       (supported-row (suc i)))
 
   pub is-group7 : group P w 7 ≡ group7 P w

@@ -12,6 +12,8 @@ use lib.ListN.{length, getD}
 use borrow.Author.Tests.{le-leb, lt-leb}
 use Rattle.lists.specs.Lists.{tab, each, select}
 use Rattle.lists.proofs.Tests.{le-or-lt}
+use Rattle.meaning.specs.Program.{Rule, noRule, ruleAt}
+use Rattle.walk.specs.Walk.{headAt}
 use Rattle.lists.proofs.Tables.{tab-ext}
 
 module _ {A : Type 0} where
@@ -82,3 +84,12 @@ map-select f (suc n) p =
     one : (b : Bool) → map f (cond b (suc n ∷ []) []) ≡ cond b (f (suc n) ∷ []) []
     one true = refl
     one false = refl
+
+-- the head at r of the rules' heads is that of rule r
+pub head-is : (rs : List Rule) (r : ℕ) → headAt (map (λ R. R .head) rs) r ≡ ruleAt rs r .head
+head-is rs r = go rs (pred r)
+  where
+    go : (rs : List Rule) (j : ℕ) → getD (map (λ R. R .head) rs) j 0 ≡ getD rs j noRule .head
+    go [] j = refl
+    go (R ∷ rs) zero = refl
+    go (R ∷ rs) (suc j) = go rs j

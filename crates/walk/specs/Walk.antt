@@ -9,7 +9,7 @@
 -- Assumes nothing.
 use Prim.Native.Nat.{ℕ, suc, pred, _+_, _-_, _*_, _/_, _%_}
 use mathlib.Core.Bool.{Bool, cond}
-use mathlib.Core.List.{List, [], _∷_, _++_}
+use mathlib.Core.List.{List, [], _∷_, _++_, map}
 use lib.Dec.{eqb, ltb, leb}
 use lib.ListN.{length, getD}
 use Rattle.lists.specs.Lists.{tab, each}
@@ -23,8 +23,15 @@ use Rattle.encoding.specs.Clauses.{sizes, pairs, pairCount, pairAt, pairsBefore
 abbrev pub ruleCount : Program → ℕ
 ruleCount P = length (P .rules)
 
+-- the heads of the rules, and that of rule r
+abbrev pub headsOf : Program → List ℕ
+headsOf P = map (λ R. R .head) (P .rules)
+
+abbrev pub headAt : List ℕ → ℕ → ℕ
+headAt hs r = getD hs (pred r) 0
+
 abbrev pub headOf : Program → ℕ → ℕ
-headOf P r = ruleAt (P .rules) r .head
+headOf P r = headAt (headsOf P) r
 
 abbrev pub positives : Program → ℕ → ℕ
 positives P r = length (ruleAt (P .rules) r .positive)
@@ -47,9 +54,9 @@ two x y l = cond (eqb l 1) x y
 abbrev pub three : Literal → Literal → Literal → ℕ → Literal
 three x y z l = cond (eqb l 1) x (cond (eqb l 2) y z)
 
--- the variable v of rule l − 1 if a is its head, behind the first slot
-abbrev pub ofHead : Program → ℕ → (ℕ → ℕ) → ℕ → List Literal
-ofHead P a v l = cond (eqb l 1) (− a ∷ []) (cond (eqb (headOf P (pred l)) a) (var (v (pred l)) ∷ []) [])
+-- behind the first slot, the variable v of rule l − 1 if a is its head
+abbrev pub ofHead : List ℕ → ℕ → (ℕ → ℕ) → ℕ → List Literal
+ofHead hs a v l = cond (eqb l 1) (− a ∷ []) (cond (eqb (headAt hs (pred l)) a) (var (v (pred l)) ∷ []) [])
 
 -- ---- group 1, rule r with the body atoms bs, the first p of them positive: clause y for body atom y, then the long one
 
@@ -63,8 +70,8 @@ bodyLiteral bs p x = signed (leb x p) (atomAt bs x)
 abbrev pub bodyOpposite : List ℕ → ℕ → ℕ → Literal
 bodyOpposite bs p x = signed (ltb p x) (atomAt bs x)
 
-abbrev pub slots1 : List ℕ → ℕ → ℕ
-slots1 bs y = cond (leb y (length bs)) 2 (suc (length bs))
+abbrev pub slots1 : ℕ → ℕ → ℕ
+slots1 b y = cond (leb y b) 2 (suc b)
 
 abbrev pub slot1 : Sizes → ℕ → List ℕ → ℕ → ℕ → ℕ → Literal
 slot1 S r bs p y l =
@@ -78,9 +85,12 @@ size2 P a i = cond (leb i (ruleCount P)) (cond (eqb (headOf P i) a) 1 0) 1
 abbrev pub slots2 : Program → ℕ → ℕ
 slots2 P i = cond (leb i (ruleCount P)) 2 (suc (ruleCount P))
 
+abbrev pub impliedSlot : Sizes → ℕ → ℕ → ℕ → Literal
+impliedSlot S a r l = two (var a) (− bodyVar S r) l
+
 abbrev pub slot2 : Program → ℕ → ℕ → ℕ → ℕ → List Literal
 slot2 P w a i l =
-    cond (leb i (ruleCount P)) (two (var a) (− bodyVar (sizes P w) i) l ∷ []) (ofHead P a (bodyVar (sizes P w)) l)
+    cond (leb i (ruleCount P)) (impliedSlot (sizes P w) a i l ∷ []) (ofHead (headsOf P) a (bodyVar (sizes P w)) l)
 
 -- ---- group 3, atom a: clause y for bit y
 
@@ -173,7 +183,7 @@ size P w g a i =
 
 unfoldable pub slots : Program → ℕ → ℕ → ℕ → ℕ → ℕ → ℕ
 slots P w g a i y =
-    cond (eqb g 1) (slots1 (bodyOf P a) y)
+    cond (eqb g 1) (slots1 (bodyCount P a) y)
     (cond (eqb g 2) (slots2 P i)
     (cond (eqb g 3) 2
     (cond (eqb g 4) (slots4 i y) (cond (eqb g 5) (chainSlots (chainBit w i) y) (cond (eqb g 6) (slots6 (positives P a) y) (suc (ruleCount P)))))))
@@ -184,7 +194,7 @@ slot P w g a i y l =
     (cond (eqb g 2) (slot2 P w a i l)
     (cond (eqb g 3) (slot3 (sizes P w) a y l ∷ [])
     (cond (eqb g 4) (slot4 (sizes P w) a i y l ∷ [])
-    (cond (eqb g 5) (slot5 (sizes P w) a (pairAt (pairs P) a .body) (pairAt (pairs P) a .head) i y l ∷ []) (cond (eqb g 6) (slot6 (sizes P w) a (headOf P a) (pairsBefore P a) (positives P a) y l ∷ []) (ofHead P a (foundsVar (sizes P w)) l))))))
+    (cond (eqb g 5) (slot5 (sizes P w) a (pairAt (pairs P) a .body) (pairAt (pairs P) a .head) i y l ∷ []) (cond (eqb g 6) (slot6 (sizes P w) a (headOf P a) (pairsBefore P a) (positives P a) y l ∷ []) (ofHead (headsOf P) a (foundsVar (sizes P w)) l))))))
 
 abbrev pub clauseAt : Program → ℕ → ℕ → ℕ → ℕ → ℕ → Clause
 clauseAt P w g a i y = each (slots P w g a i y) (slot P w g a i y)
