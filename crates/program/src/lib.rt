@@ -5,7 +5,7 @@ use numbers::Rule;
 ghost use Prim.Native.Nat.{_-_, _≤_, _<_};
 ghost use mathlib.Core.Path.{_≡_};
 ghost use lib.ListN.{length, getD, set};
-ghost use Rattle.program.specs.Work.{refusedOf, grownOf, valueOf, beginOf, atomsEnded, headEnded, headStored, bodyEnded, bodyStored};
+ghost use Rattle.program.specs.Work.{refusedOf, withPrev, grownOf, valueOf, beginOf, atomsEnded, headEnded, headStored, bodyEnded, bodyStored};
 ghost use Rattle.program.specs.Work.{openedOf, startStored, ruleShut, endedOf, endedHeads, endedBodies, bracketOf, bracketStarts};
 ghost use Rattle.program.specs.Reading.{Ends, readFrom, started};
 ghost use Rattle.program.specs.Verdict.{refusalOf, emptyProgram, refuseOf, readOf, textNumber, textSpot};
@@ -167,6 +167,20 @@ fn atoms_ended(value: u16, begin: usize, c: Counts) -> Counts
     }
 }
 
+// A list begins: none of its numbers is read.
+fn list_begun(c: Counts) -> Counts
+    ensures { λ r. ⌜ r ≡ withPrev c 0 ⌝ }
+{
+    Counts {
+        atoms: c.atoms,
+        rules: c.rules,
+        held: c.held,
+        prev: 0,
+        number: c.number,
+        spot: c.spot,
+    }
+}
+
 // A head is read.
 fn head_ended(value: u16, begin: usize, c: Counts, heads: &mut [u16; 500]) -> Counts
     ensures { λ r. ⌜ (r ≡ headEnded value begin c) × (now (heads .exit) ≡ headStored value c (now (heads .entry))) ⌝ }
@@ -179,23 +193,9 @@ fn head_ended(value: u16, begin: usize, c: Counts, heads: &mut [u16; 500]) -> Co
     }
     if c.rules < 500 {
         put_head(&mut *heads, Rule(c.rules + 1), Atom(value));
-        return Counts {
-            atoms: c.atoms,
-            rules: c.rules,
-            held: c.held,
-            prev: 0,
-            number: c.number,
-            spot: c.spot,
-        };
+        return list_begun(c);
     }
-    Counts {
-        atoms: c.atoms,
-        rules: c.rules,
-        held: c.held,
-        prev: 0,
-        number: c.number,
-        spot: c.spot,
-    }
+    list_begun(c)
 }
 
 // A body atom is read.
@@ -294,14 +294,7 @@ fn bracket(act: u8, i: usize, c: Counts, starts: &mut [u16; 1001]) -> Counts
     }
     if act == 5 {
         list_shut(1, c, &mut *starts);
-        return Counts {
-            atoms: c.atoms,
-            rules: c.rules,
-            held: c.held,
-            prev: 0,
-            number: c.number,
-            spot: c.spot,
-        };
+        return list_begun(c);
     }
     list_shut(2, c, &mut *starts);
     rule_shut(c)

@@ -264,7 +264,7 @@ clause-list-at P w form wide =
 pub clause-list : (P : Program) → So (wellFormed P) → ClauseList P (width (P .atoms))
 clause-list P form = clause-list-at P (width (P .atoms)) form (width-enough (P .atoms))
 
--- the walk by which code yields the clauses, by group, item, row, place and slot, gives the clause list
+-- the walk by which code is to yield the clauses, by group, item, row, clause and slot, gives the clause list
 pub walk : (P : Program) → walked P (width (P .atoms)) ≡ clauses P (width (P .atoms))
 walk P = walked-clauses P (width (P .atoms)) (width-some (P .atoms))
 
@@ -310,7 +310,7 @@ pub record ProgramText (t : List ℕ) : Type 0 where
   pub form-at-none : HasForm t → (s : ℕ) → Malformed t s → ⊥
   -- the reader answers row k with spot s exactly if k is the first row met in document 01's order, and s its spot
   pub refused : (k s : ℕ) → Answers t k s ↔ FirstRow t k s
-  -- which one row is, with one spot
+  -- no two rows or spots are first
   pub one-row : (k s l u : ℕ) → FirstRow t k s → FirstRow t l u → (k ≡ l) × (s ≡ u)
   -- when 2 is answered with spot s, some ending of the first s bytes gives the form
   pub viable-before : (s : ℕ) → Answers t 2 s → Viable (take s t)
@@ -355,7 +355,7 @@ program-text t =
 pub starred : map computed examples ≡ examples
 starred = Ex.examples-hold
 
--- the clauses that the writer prints for the fact, in document 01's order
+-- the clauses that document 01 prints for the fact, in its order
 pub fact-clauses : clauses fact 2
     ≡ (var 2 ∷ []) ∷ (var 1 ∷ − 2 ∷ []) ∷ (− 1 ∷ var 2 ∷ []) ∷ (var 1 ∷ − 4 ∷ []) ∷ (var 1 ∷ − 5 ∷ []) ∷ (− 6 ∷ − 4 ∷ []) ∷ (var 6 ∷ var 4 ∷ [])
     ∷ (var 4 ∷ − 7 ∷ var 5 ∷ []) ∷ (var 4 ∷ var 7 ∷ − 5 ∷ []) ∷ (− 4 ∷ − 7 ∷ − 5 ∷ []) ∷ (− 4 ∷ var 7 ∷ var 5 ∷ []) ∷ (− 3 ∷ var 2 ∷ [])
@@ -397,139 +397,83 @@ wrong-turns =
 pub texts : map computedRow cases ≡ cases
 texts = cases-hold
 
--- ---- 6 Contracts
+-- ---- 6 Contracts: each public function meets the one that stands at it in src/
 
--- the reader of program text: its answer is `readOf` of the bytes, whatever they are
-pub read-met : {M : Type 1} → read·statement M
-read-met = read·met
+-- form, numbers, program
+pub record Reader (M : Type 1) : Type 2 where
+  -- the reader of program text: its answer is `readOf` of the bytes, whatever they are
+  pub read : read·statement M
+  -- a refusal's number and spot are `textNumber` and `textSpot`
+  pub number-of : number-of·statement M
+  pub spot-of : spot-of·statement M
+  -- the empty program is `emptyProgram`
+  pub empty : empty·statement M
+  -- the accessors of a program's arrays
+  pub head : head·statement M
+  pub body-atom : body-atom·statement M
+  -- one byte of the form is `stepOf`
+  pub step : step·statement M
+  -- an atom's variable has the atom's number
+  pub atom-var : atom-var·statement M
 
--- a refusal's number and spot are `textNumber` and `textSpot`
-pub number-of-met : {M : Type 1} → number-of·statement M
-number-of-met = number-of·met
+pub reader : (M : Type 1) → Reader M
+reader M = record { read = read·met; number-of = number-of·met; spot-of = spot-of·met; empty = empty·met; head = head·met; body-atom = body-atom·met; step = step·met; atom-var = atom-var·met }
 
-pub spot-of-met : {M : Type 1} → spot-of·statement M
-spot-of-met = spot-of·met
+-- literals
+pub record Literals (M : Type 1) : Type 2 where
+  -- a variable as a literal, and negated
+  pub literal : literal·statement M
+  pub negated : negated·statement M
+  -- a literal's negation, sign and magnitude
+  pub negate : negate·statement M
+  pub is-negative : is-negative·statement M
+  pub magnitude : magnitude·statement M
+  -- the width is `width`, for any number of atoms
+  pub width-of : width-of·statement M
+  -- the variables' numbers are those of `encoding`
+  pub body-var : body-var·statement M
+  pub founds-var : founds-var·statement M
+  pub level-var : level-var·statement M
+  pub next-var : next-var·statement M
+  pub below-var : below-var·statement M
+  pub next-below-var : next-below-var·statement M
+  pub var-count : var-count·statement M
 
--- the empty program is `emptyProgram`
-pub empty-met : {M : Type 1} → empty·statement M
-empty-met = empty·met
+pub literals : (M : Type 1) → Literals M
+literals M = record { literal = literal·met; negated = negated·met; negate = negate·met; is-negative = is-negative·met; magnitude = magnitude·met; width-of = width-of·met; body-var = body-var·met; founds-var = founds-var·met; level-var = level-var·met; next-var = next-var·met; below-var = below-var·met; next-below-var = next-below-var·met; var-count = var-count·met }
 
--- the accessors of a program's arrays
-pub head-met : {M : Type 1} → head·statement M
-head-met = head·met
+-- digits
+pub record Bytes (M : Type 1) : Type 2 where
+  -- decimal numbers and literals, written into a lent buffer: the bytes behind them stay
+  pub put-decimal : put-decimal·statement M
+  pub put-number : put-number·statement M
+  pub put-literal : put-literal·statement M
+  -- their lengths
+  pub decimal-length : decimal-length·statement M
+  pub literal-length : literal-length·statement M
 
-pub body-atom-met : {M : Type 1} → body-atom·statement M
-body-atom-met = body-atom·met
+pub bytes : (M : Type 1) → Bytes M
+bytes M = record { put-decimal = put-decimal·met; put-number = put-number·met; put-literal = put-literal·met; decimal-length = decimal-length·met; literal-length = literal-length·met }
 
--- one byte of the form is `stepOf`
-pub step-met : {M : Type 1} → step·statement M
-step-met = step·met
+-- slots
+pub record Slots (M : Type 1) : Type 2 where
+  -- the literal in a slot of a clause, of groups 1, 3, 4, 5 and 6
+  pub body-slot : body-slot·statement M
+  pub zero-slot : zero-slot·statement M
+  pub next-slot : next-slot·statement M
+  pub pair-slot : pair-slot·statement M
+  pub rule-slot : rule-slot·statement M
+  -- groups 2 and 7: an atom's clause with one rule, and its last clause
+  pub implied-slot : implied-slot·statement M
+  pub head-slot : head-slot·statement M
+  -- how many slots a clause has, and how many clauses a row
+  pub body-slots : body-slots·statement M
+  pub next-slots : next-slots·statement M
+  pub chain-bit : chain-bit·statement M
+  pub chain-size : chain-size·statement M
+  pub chain-slots : chain-slots·statement M
+  pub rule-size : rule-size·statement M
+  pub rule-slots : rule-slots·statement M
 
--- an atom's variable has the atom's number
-pub atom-var-met : {M : Type 1} → atom-var·statement M
-atom-var-met = atom-var·met
-
--- a variable as a literal, and negated
-pub literal-met : {M : Type 1} → literal·statement M
-literal-met = literal·met
-
-pub negated-met : {M : Type 1} → negated·statement M
-negated-met = negated·met
-
--- a literal's negation, sign and magnitude
-pub negate-met : {M : Type 1} → negate·statement M
-negate-met = negate·met
-
-pub is-negative-met : {M : Type 1} → is-negative·statement M
-is-negative-met = is-negative·met
-
-pub magnitude-met : {M : Type 1} → magnitude·statement M
-magnitude-met = magnitude·met
-
--- the width is `width`, for any number of atoms
-pub width-of-met : {M : Type 1} → width-of·statement M
-width-of-met = width-of·met
-
--- the variables' numbers are those of `encoding`
-pub body-var-met : {M : Type 1} → body-var·statement M
-body-var-met = body-var·met
-
-pub founds-var-met : {M : Type 1} → founds-var·statement M
-founds-var-met = founds-var·met
-
-pub level-var-met : {M : Type 1} → level-var·statement M
-level-var-met = level-var·met
-
-pub next-var-met : {M : Type 1} → next-var·statement M
-next-var-met = next-var·met
-
-pub below-var-met : {M : Type 1} → below-var·statement M
-below-var-met = below-var·met
-
-pub next-below-var-met : {M : Type 1} → next-below-var·statement M
-next-below-var-met = next-below-var·met
-
-pub var-count-met : {M : Type 1} → var-count·statement M
-var-count-met = var-count·met
-
--- decimal numbers and literals, written into a lent buffer: the bytes behind them stay
-pub put-decimal-met : {M : Type 1} → put-decimal·statement M
-put-decimal-met = put-decimal·met
-
-pub put-number-met : {M : Type 1} → put-number·statement M
-put-number-met = put-number·met
-
-pub put-literal-met : {M : Type 1} → put-literal·statement M
-put-literal-met = put-literal·met
-
--- their lengths
-pub decimal-length-met : {M : Type 1} → decimal-length·statement M
-decimal-length-met = decimal-length·met
-
-pub literal-length-met : {M : Type 1} → literal-length·statement M
-literal-length-met = literal-length·met
-
--- the literal in a slot of a clause, of groups 1, 3, 4, 5 and 6
-pub body-slot-met : {M : Type 1} → body-slot·statement M
-body-slot-met = body-slot·met
-
-pub zero-slot-met : {M : Type 1} → zero-slot·statement M
-zero-slot-met = zero-slot·met
-
-pub next-slot-met : {M : Type 1} → next-slot·statement M
-next-slot-met = next-slot·met
-
-pub pair-slot-met : {M : Type 1} → pair-slot·statement M
-pair-slot-met = pair-slot·met
-
-pub rule-slot-met : {M : Type 1} → rule-slot·statement M
-rule-slot-met = rule-slot·met
-
--- groups 2 and 7: an atom's clause with one rule, and its last clause
-pub implied-slot-met : {M : Type 1} → implied-slot·statement M
-implied-slot-met = implied-slot·met
-
-pub head-slot-met : {M : Type 1} → head-slot·statement M
-head-slot-met = head-slot·met
-
--- how many slots a clause has, and how many clauses a row
-pub body-slots-met : {M : Type 1} → body-slots·statement M
-body-slots-met = body-slots·met
-
-pub next-slots-met : {M : Type 1} → next-slots·statement M
-next-slots-met = next-slots·met
-
-pub chain-bit-met : {M : Type 1} → chain-bit·statement M
-chain-bit-met = chain-bit·met
-
-pub chain-size-met : {M : Type 1} → chain-size·statement M
-chain-size-met = chain-size·met
-
-pub chain-slots-met : {M : Type 1} → chain-slots·statement M
-chain-slots-met = chain-slots·met
-
-pub rule-size-met : {M : Type 1} → rule-size·statement M
-rule-size-met = rule-size·met
-
-pub rule-slots-met : {M : Type 1} → rule-slots·statement M
-rule-slots-met = rule-slots·met
+pub slots : (M : Type 1) → Slots M
+slots M = record { body-slot = body-slot·met; zero-slot = zero-slot·met; next-slot = next-slot·met; pair-slot = pair-slot·met; rule-slot = rule-slot·met; implied-slot = implied-slot·met; head-slot = head-slot·met; body-slots = body-slots·met; next-slots = next-slots·met; chain-bit = chain-bit·met; chain-size = chain-size·met; chain-slots = chain-slots·met; rule-size = rule-size·met; rule-slots = rule-slots·met }

@@ -20,7 +20,7 @@ ghost use Rattle.literals.specs.Sizes.{sizesOf, Bounded};
 ghost use Rattle.walk.specs.Walk.{signed, chainFirst, chainNext, chainSlot, slot3, slots4, slot4, chainSize, chainSlots, chainBit, slot5, size6, slots6, slot6};
 ghost use Rattle.walk.specs.Walk.{atomAt, slots1, slot1, impliedSlot, ofHead};
 ghost use Rattle.walk.specs.Walk.{two as twoOf, three as threeOf};
-ghost use Rattle.slots.specs.Signed.{literalIn, slotIn};
+ghost use Rattle.slots.specs.Signed.{literalIn, held};
 
 // A variable and whether it stands positive.
 pub struct Signed {
@@ -278,9 +278,10 @@ pub fn implied_slot(s: Sizes, a: Atom, r: Rule, l: u16) -> Signed
 }
 
 // Groups 2 and 7, atom a: slot l of its last clause, the negated a or variable base + r of rule r = l - 1 if a is its head.
+// Where the slot has no literal it gives the negated variable 0, which is none.
 pub fn head_slot(heads: &[u16], a: Atom, base: u16, l: u16) -> Signed
-    requires { ⌜ (0 < a .0) × (base ≤ 626) × (length (now heads) ≤ 500) × (0 < l) × (l ≤ length (now heads) + 1) ⌝ }
-    ensures { λ x. ⌜ slotIn x ≡ ofHead (now (heads .entry)) (a .0) (λ r. base + r) l ⌝ }
+    requires { ⌜ (base ≤ 626) × (length (now heads) ≤ 500) × (0 < l) × (l ≤ length (now heads) + 1) ⌝ }
+    ensures { λ x. ⌜ literalIn x ≡ held (ofHead (now (heads .entry)) (a .0) (λ r. base + r) l) ⌝ }
 {
     if l == 1 {
         return no(atom_var(a));

@@ -99,12 +99,15 @@ slot3 S a y l = two (var a) (− levelVar S a y) l
 
 -- ---- group 4, atom a: row i for bit i, two clauses for each j from 1 to i; those with j = i are the long ones
 
--- j of clause y, and whether it is the first of its two
+-- j of clause y, and whether it is the first or the second of its two
 abbrev pub bitOf : ℕ → ℕ
 bitOf y = suc (pred y / 2)
 
 abbrev pub isFirst : ℕ → Bool
 isFirst y = eqb (y % 2) 1
+
+abbrev pub isSecond : ℕ → Bool
+isSecond y = eqb (y % 2) 0
 
 abbrev pub slots4 : ℕ → ℕ → ℕ
 slots4 i y = cond (ltb (bitOf y) i) 3 (suc i)
@@ -112,8 +115,8 @@ slots4 i y = cond (ltb (bitOf y) i) 3 (suc i)
 abbrev pub slot4 : Sizes → ℕ → ℕ → ℕ → ℕ → Literal
 slot4 S a i y l =
     cond (ltb (bitOf y) i)
-    (three (var (levelVar S a (bitOf y))) (signed (eqb (y % 2) 0) (nextVar S a i)) (signed (isFirst y) (levelVar S a i)) l)
-    (cond (ltb l i) (− levelVar S a l) (cond (eqb l i) (signed (eqb (y % 2) 0) (nextVar S a i)) (signed (eqb (y % 2) 0) (levelVar S a i))))
+    (three (var (levelVar S a (bitOf y))) (signed (isSecond y) (nextVar S a i)) (signed (isFirst y) (levelVar S a i)) l)
+    (cond (ltb l i) (− levelVar S a l) (cond (eqb l i) (signed (isSecond y) (nextVar S a i)) (signed (isSecond y) (levelVar S a i))))
 
 -- ---- group 5, pair k: row i for bit i of the first chain, row w + i for bit i of the second
 

@@ -1,8 +1,7 @@
-use Rattle.slots.proofs.Heads.{slot-some, slot-none, head-first, head-own, head-other}
-use Rattle.encoding.specs.Literal.{var, −_}
+use Rattle.slots.proofs.Heads.{head-first, head-own, head-other}
+use Rattle.encoding.specs.Literal.{−_}
+use Rattle.encoding.specs.Literal.{−_}
 use mathlib.Core.Path.{_∙_, sym, ap}
-use native.Mathlib.Omega.{arith}
-use Prim.Native.Nat.{_+_, _-_}
 use denote.Ref.{now}
 use borrow.Author.Needs.{needs}
 use Rattle.slots.proofs.head_slot.Statement.{statement}
@@ -24,7 +23,7 @@ no-requires c κs = search needs
 
 -- src/lib.rt:286:9
 returns : tie.Need-returns
-returns c = slot-some (c .no .result) (− c .before .before .before .before .args .a .0) (c .no .ensures ∙ ap −_ (c .before .atom-var .ensures)) (c .before .before .before .before .pre .0) ∙ head-first (now (c .before .before .before .before .args .heads)) (c .before .before .before .before .args .a .0) (c .before .before .before .before .args .base) (c .before .before .before .before .args .l) (c .before .before .if1 .taken)
+returns c = c .no .ensures ∙ ap −_ (c .before .atom-var .ensures) ∙ head-first (now (c .before .before .before .before .args .heads)) (c .before .before .before .before .args .a .0) (c .before .before .before .before .args .base) (c .before .before .before .before .args .l) (c .before .before .if1 .taken)
 
 -- src/lib.rt:288:13
 sub-r : tie.Need-sub-r
@@ -44,7 +43,7 @@ yes-requires c κs = search needs
 
 -- src/lib.rt:290:9
 returns-2 : tie.Need-returns-2
-returns-2 c = slot-some (c .yes .result) (var (c .before .before .before .before .before .before .before .args .base + (c .before .before .before .before .before .before .before .args .l - 1))) (c .yes .ensures) (omega (arith, c .before .before .before .before .before .before .before .pre .3, c .before .before .before .before .before .if1 .left)) ∙ head-own (now (c .before .before .before .before .before .before .before .args .heads)) (c .before .before .before .before .before .before .before .args .a .0) (c .before .before .before .before .before .before .before .args .base) (c .before .before .before .before .before .before .before .args .l) (c .before .before .before .before .before .if1 .left) (sym (c .before .before .before .before .head .ensures) ∙ c .before .if2 .taken)
+returns-2 c = c .yes .ensures ∙ head-own (now (c .before .before .before .before .before .before .before .args .heads)) (c .before .before .before .before .before .before .before .args .a .0) (c .before .before .before .before .before .before .before .args .base) (c .before .before .before .before .before .before .before .args .l) (c .before .before .before .before .before .if1 .left) (sym (c .before .before .before .before .head .ensures) ∙ c .before .if2 .taken)
 
 -- src/lib.rt:292:5
 no-requires-2 : tie.Need-no-requires-2
@@ -52,7 +51,7 @@ no-requires-2 c κs = search needs
 
 -- src/lib.rt:281:1
 returns-3 : tie.Need-returns-3
-returns-3 c = slot-none (c .no2 .result) (c .no2 .ensures) ∙ head-other (now (c .before .before .before .before .before .before .before .args .heads)) (c .before .before .before .before .before .before .before .args .a .0) (c .before .before .before .before .before .before .before .args .base) (c .before .before .before .before .before .before .before .args .l) (c .before .before .before .before .before .if1 .left) (λ e. c .before .if2 .left (c .before .before .before .before .head .ensures ∙ e))
+returns-3 c = c .no2 .ensures ∙ head-other (now (c .before .before .before .before .before .before .before .args .heads)) (c .before .before .before .before .before .before .before .args .a .0) (c .before .before .before .before .before .before .before .args .base) (c .before .before .before .before .before .before .before .args .l) (c .before .before .before .before .before .if1 .left) (λ e. c .before .if2 .left (c .before .before .before .before .head .ensures ∙ e))
 
 pub head-slot-spec : {M : Type 1} → statement M
 head-slot-spec =
