@@ -1,8 +1,10 @@
 -- Tail: a buffer whose tail was lent and came back
+-- Begins: a buffer that begins with a text and is behind it as it was
 -- Lengths: how many digits a number has, and lengths and appending of literals as bytes
--- Writing: what the stores of put_decimal, put_number and put_literal leave in the buffer
+-- Writing: the digits of a number, store by store, and the text of a literal by its sign
 -- Computed: lines of three clauses
 pub mod Tail
+pub mod Begins
 pub mod Lengths
 pub mod Writing
 pub mod Computed

@@ -10,20 +10,46 @@ ghost use Rattle.text.specs.Decimal.{decimal};
 ghost use Rattle.digits.specs.Bytes.{literalText};
 
 // The last decimal digit of n, as a byte.
-fn digit(n: u32) -> u8
+fn digit(n: usize) -> u8
     ensures { λ r. ⌜ r ≡ 48 + n % 10 ⌝ }
 {
     48 + (n % 10) as u8
 }
 
-// Writes the digits of n at the front of the buffer and returns how many they are.
-pub fn put_decimal(n: u32, buf: &mut [u8]) -> usize
-    requires { ⌜ length (decimal n) ≤ length (now buf) ⌝ }
+// Writes the one to four digits of n at the front of the buffer and returns how many they are.
+fn put_small(n: usize, buf: &mut [u8]) -> usize
+    requires { ⌜ (n < 10000) × (length (decimal n) ≤ length (now buf)) ⌝ }
     ensures { λ r. ⌜ (r ≡ length (decimal n)) × (now (buf .exit) ≡ decimal n ++ drop r (now (buf .entry))) ⌝ }
 {
     if n < 10 {
         buf[0] = digit(n);
         return 1;
+    }
+    if n < 100 {
+        buf[0] = digit(n / 10);
+        buf[1] = digit(n);
+        return 2;
+    }
+    if n < 1000 {
+        buf[0] = digit(n / 100);
+        buf[1] = digit(n / 10);
+        buf[2] = digit(n);
+        return 3;
+    }
+    buf[0] = digit(n / 1000);
+    buf[1] = digit(n / 100);
+    buf[2] = digit(n / 10);
+    buf[3] = digit(n);
+    4
+}
+
+// Writes the digits of n at the front of the buffer and returns how many they are.
+pub fn put_decimal(n: usize, buf: &mut [u8]) -> usize
+    requires { ⌜ length (decimal n) ≤ length (now buf) ⌝ }
+    ensures { λ r. ⌜ (r ≡ length (decimal n)) × (now (buf .exit) ≡ decimal n ++ drop r (now (buf .entry))) ⌝ }
+{
+    if n < 10000 {
+        return put_small(n, &mut *buf);
     }
     let k = put_decimal(n / 10, &mut *buf);
     buf[k] = digit(n);
@@ -31,7 +57,7 @@ pub fn put_decimal(n: u32, buf: &mut [u8]) -> usize
 }
 
 // Writes the digits of n and the byte `end` at the front of the buffer and returns how many bytes they are.
-pub fn put_number(n: u32, end: u8, buf: &mut [u8]) -> usize
+pub fn put_number(n: usize, end: u8, buf: &mut [u8]) -> usize
     requires { ⌜ length (decimal n ++ (end ∷ [])) ≤ length (now buf) ⌝ }
     ensures { λ r. ⌜ (r ≡ length (decimal n ++ (end ∷ []))) × (now (buf .exit) ≡ (decimal n ++ (end ∷ [])) ++ drop r (now (buf .entry))) ⌝ }
 {
@@ -45,17 +71,17 @@ pub fn put_literal(x: i32, buf: &mut [u8]) -> usize
     requires { ⌜ (natAbs x < 2 ^ 31) × (length (literalText x ++ (32 ∷ [])) ≤ length (now buf)) ⌝ }
     ensures { λ r. ⌜ (r ≡ length (literalText x ++ (32 ∷ []))) × (now (buf .exit) ≡ (literalText x ++ (32 ∷ [])) ++ drop r (now (buf .entry))) ⌝ }
 {
-    let n = magnitude(x);
+    let n = magnitude(x) as usize;
     if is_negative(x) {
         buf[0] = 45;
-        let k = put_number(n, 32, &mut buf[1..]);
-        return k + 1;
+        return 1 + put_number(n, 32, &mut buf[1..]);
     }
     put_number(n, 32, &mut *buf)
 }
 
 // How many digits n has.
-pub fn decimal_length(n: u32) -> usize
+pub fn decimal_length(n: usize) -> usize
+    requires { ⌜ n < 2 ^ 32 ⌝ }
     ensures { λ r. ⌜ r ≡ length (decimal n) ⌝ }
 {
     if n < 10 {
@@ -93,7 +119,7 @@ pub fn literal_length(x: i32) -> usize
     requires { ⌜ natAbs x < 2 ^ 31 ⌝ }
     ensures { λ r. ⌜ r ≡ length (literalText x) + 1 ⌝ }
 {
-    let k = decimal_length(magnitude(x));
+    let k = decimal_length(magnitude(x) as usize);
     if is_negative(x) {
         return k + 2;
     }

@@ -4,17 +4,18 @@
 --   2  Encoding: width, variables and clauses (document 01, "Variables" and "Clauses, in order")
 --   3  Demand 3 for assignments: stable models and satisfying assignments correspond, one to one
 --   4  Demand 1 for program texts: what the reader answers to any bytes (document 01, "Program text" and rows 1 to 7)
---   5  Document 01's examples and wrong turns
---   6  Contracts: each public function meets its own
--- Nothing is assumed: a hypothesis of a statement is met by every well-formed program, and those of section 4 hold for any bytes.
-use Prim.Native.Nat.{ℕ, zero, suc, _+_, _-_, _*_, _^_, _%_, _≤_, _<_}
+--   5  The clause file's lines: what the line call and the call for a run of lines answer and write, for any bytes (rows 8 and 9)
+--   6  Document 01's examples and wrong turns
+--   7  Contracts: each public function meets its own
+-- Nothing is assumed: a hypothesis of a statement is met by every well-formed program, and those of sections 4 and 5 hold for any bytes.
+use Prim.Native.Nat.{ℕ, zero, suc, pred, _+_, _-_, _*_, _^_, _%_, _≤_, _<_}
 use mathlib.Core.Path.{_≡_, sym, _∙_, ap}
 use mathlib.Core.Logic.{_↔_, _⊎_}
 use mathlib.Core.Bool.{Bool, true, false, not, So}
-use mathlib.Core.List.{List, [], _∷_, map}
+use mathlib.Core.List.{List, [], _∷_, _++_, map}
 use lib.Count.{leadingZeros}
 use lib.Dec.{eqb, ltb}
-use lib.ListN.{length, take}
+use lib.ListN.{length, getD, take, drop}
 use Rattle.lists.specs.Lists.{all, joined}
 use Rattle.meaning.specs.Program.{Program, Atoms, isAtom, wellFormed}
 use Rattle.meaning.specs.Stage.{Definite, reduct, InUnion, Stable, FirstStage, leastModel, level, differ}
@@ -109,6 +110,74 @@ use Rattle.slots.proofs.rule_size.Statement.{statement as rule-size·statement}
 use Rattle.slots.proofs.rule_size.Met.{met as rule-size·met}
 use Rattle.slots.proofs.rule_slots.Statement.{statement as rule-slots·statement}
 use Rattle.slots.proofs.rule_slots.Met.{met as rule-slots·met}
+use Rattle.tabling.proofs.pairs_of.Statement.{statement as pairs-of·statement}
+use Rattle.tabling.proofs.pairs_of.Met.{met as pairs-of·met}
+use Rattle.tabling.proofs.totals_of.Statement.{statement as totals-of·statement}
+use Rattle.tabling.proofs.totals_of.Met.{met as totals-of·met}
+use Rattle.layout.proofs.items.Statement.{statement as layout-items·statement}
+use Rattle.layout.proofs.items.Met.{met as layout-items·met}
+use Rattle.layout.proofs.rows.Statement.{statement as layout-rows·statement}
+use Rattle.layout.proofs.rows.Met.{met as layout-rows·met}
+use Rattle.layout.proofs.size.Statement.{statement as layout-size·statement}
+use Rattle.layout.proofs.size.Met.{met as layout-size·met}
+use Rattle.layout.proofs.slots.Statement.{statement as layout-slots·statement}
+use Rattle.layout.proofs.slots.Met.{met as layout-slots·met}
+use Rattle.layout.proofs.slot.Statement.{statement as layout-slot·statement}
+use Rattle.layout.proofs.slot.Met.{met as layout-slot·met}
+use Rattle.printing.proofs.put_word.Statement.{statement as put-word·statement}
+use Rattle.printing.proofs.put_word.Met.{met as put-word·met}
+use Rattle.printing.proofs.put_refusal.Statement.{statement as put-refusal·statement}
+use Rattle.printing.proofs.put_refusal.Met.{met as put-refusal·met}
+use Rattle.printing.proofs.header_length.Statement.{statement as header-length·statement}
+use Rattle.printing.proofs.header_length.Met.{met as header-length·met}
+use Rattle.printing.proofs.put_header.Statement.{statement as put-header·statement}
+use Rattle.printing.proofs.put_header.Met.{met as put-header·met}
+use Rattle.printing.proofs.clause_length.Statement.{statement as clause-length·statement}
+use Rattle.printing.proofs.clause_length.Met.{met as clause-length·met}
+use Rattle.printing.proofs.put_clause.Statement.{statement as put-clause·statement}
+use Rattle.printing.proofs.put_clause.Met.{met as put-clause·met}
+use Rattle.slots.proofs.chain_of.Statement.{statement as chain-of·statement}
+use Rattle.slots.proofs.chain_of.Met.{met as chain-of·met}
+use Rattle.slots.proofs.chain_literal.Statement.{statement as chain-literal·statement}
+use Rattle.slots.proofs.chain_literal.Met.{met as chain-literal·met}
+use Rattle.layout.proofs.next_head.Statement.{statement as next-head·statement}
+use Rattle.layout.proofs.next_head.Met.{met as next-head·met}
+use Rattle.layout.proofs.past_empty.Statement.{statement as past-empty·statement}
+use Rattle.layout.proofs.past_empty.Met.{met as past-empty·met}
+use Rattle.layout.proofs.chain_at.Statement.{statement as chain-at·statement}
+use Rattle.layout.proofs.chain_at.Met.{met as chain-at·met}
+use Rattle.layout.proofs.literal_in.Statement.{statement as literal-in·statement}
+use Rattle.layout.proofs.literal_in.Met.{met as literal-in·met}
+use Rattle.places.proofs.start.Statement.{statement as places-start·statement}
+use Rattle.places.proofs.start.Met.{met as places-start·met}
+use Rattle.places.proofs.next.Statement.{statement as places-next·statement}
+use Rattle.places.proofs.next.Met.{met as places-next·met}
+use Rattle.lines.proofs.put_lines.Statement.{statement as put-lines·statement}
+use Rattle.lines.proofs.put_lines.Met.{met as put-lines·met}
+use Rattle.lines.proofs.line.Statement.{statement as line·statement}
+use Rattle.lines.proofs.line.Met.{met as line·met}
+use Rattle.lines.proofs.run.Statement.{statement as run·statement}
+use Rattle.lines.proofs.run.Met.{met as run·met}
+use Rattle.lines.proofs.line_number_of.Statement.{statement as line-number-of·statement}
+use Rattle.lines.proofs.line_number_of.Met.{met as line-number-of·met}
+use Rattle.lines.proofs.line_spot_of.Statement.{statement as line-spot-of·statement}
+use Rattle.lines.proofs.line_spot_of.Met.{met as line-spot-of·met}
+use Rattle.input.proofs.read_counted.Statement.{statement as read-counted·statement}
+use Rattle.input.proofs.read_counted.Met.{met as read-counted·met}
+use Rattle.digits.specs.Bytes.{lineText}
+use Rattle.table_laws.proofs.Bounds.{variables-fit, clauses-fit}
+use Rattle.printing.specs.Lines.{headerText}
+use Rattle.places.specs.Places.{placeAt, clauseIn}
+use Rattle.lines.specs.declared.LineRefusal.{LineRefusal}
+use Rattle.lines.specs.declared.LineVerdict.the-variants.{Written, Refused as LineRefused}
+use Rattle.lines.specs.declared.RunVerdict.the-variants.{WrittenRun, RefusedRun}
+use Rattle.lines.specs.Lines.{clauseTotal, lineOf, lineAnswer, lineBytes, runAnswer, runBytes}
+use Rattle.lines.specs.Rows.{LineRow, FirstLineRow, LineAnswers, RunWritten}
+use Rattle.lines.proofs.File as File
+use Rattle.lines.proofs.Rows.{answers-line-first, first-line-answers, first-line-unique, written-none, none-written}
+use Rattle.lines.proofs.Calls.{line-stays, line-writes, run-refused-as, run-stays, run-writes}
+use Rattle.input.specs.Counted.{countedOf}
+use Rattle.input.proofs.Counted.{counted-whole}
 use Rattle.text.specs.Text.{textOf, HasForm, Viable, Malformed}
 use Rattle.program.specs.declared.TextRefusal.{TextRefusal}
 use Rattle.program.specs.declared.ReadVerdict.the-variants.{Accepted, Refused}
@@ -116,7 +185,7 @@ use Rattle.program.specs.declared.Reading.{Reading}
 use Rattle.program.specs.Verdict.{emptyProgram, readOf}
 use Rattle.program.proofs.Computed.{computed as computedRow, cases, cases-hold}
 use Rattle.reader_laws.specs.Breach.{Breach, kept}
-use Rattle.reader_laws.specs.Row.{Row, FirstRow, Answers, Admitted}
+use Rattle.reader_laws.specs.Row.{Row, FirstRow, Answers, Limits, Admitted}
 use Rattle.reader_laws.proofs.Spot.{formless-malformed, spot-unique, form-not-malformed}
 use Rattle.reader_laws.proofs.Unique.{text-unique}
 use Rattle.reader_laws.proofs.Rows.{first-unique, answers-first, first-answers, accepted-none, none-accepted, answers-malformed, answers-breach}
@@ -349,7 +418,75 @@ program-text t =
       kept-nothing = refused-empty t;
     }
 
--- ---- 5 Examples and wrong turns
+-- ---- 5 Lines: the bytes t are any, j is any number, k any place and b any buffer
+
+pub record ClauseFile (P : Program) : Type 0 where
+  -- line 0 is "p cnf V C"
+  pub header : lineOf P 0 ≡ headerText (variables P (width (P .atoms))) (clauseTotal P)
+  -- line j, from 1 to C, is the print of clause j: each literal followed by one space, then 0 and byte 10
+  pub clause-line : (j : ℕ) → zero < j → j ≤ clauseTotal P → lineOf P j ≡ lineText (getD (clauses P (width (P .atoms))) (pred j) [])
+  -- C, by its formula, is the number of clauses
+  pub clause-total : clauseTotal P ≡ length (clauses P (width (P .atoms)))
+  -- code finds clause j at place j of the walk
+  pub placed : (j : ℕ) → zero < j → j ≤ clauseTotal P
+      → clauseIn P (width (P .atoms)) (placeAt P (width (P .atoms)) j .spot) ≡ getD (clauses P (width (P .atoms))) (pred j) []
+  -- at most 9,890 variables and 53,690 clauses, and no line passes 3,008 bytes
+  pub few-variables : variables P (width (P .atoms)) ≤ 9890
+  pub few-clauses : clauseTotal P ≤ 53690
+  pub short-lines : (j : ℕ) → j ≤ clauseTotal P → length (lineOf P j) ≤ 3008
+
+-- for every program within the limits, so for that of every accepted text
+pub clause-file : (P : Program) → Limits P → ClauseFile P
+clause-file P L =
+    record {
+      header = File.header-line P;
+      clause-line = File.clause-line P L;
+      clause-total = File.clause-total P L;
+      placed = File.placed P L;
+      few-variables = variables-fit P L;
+      few-clauses = clauses-fit P L;
+      short-lines = File.short-lines P L;
+    }
+
+pub record LineCall (t : List ℕ) (j k : ℕ) (b : List ℕ) : Type 0 where
+  -- the call answers row r with spot s exactly if r is the first row met, in the order: the reader's, then 9, then 8
+  pub refused : (r s : ℕ) → LineAnswers t j k (length b) r s ↔ FirstLineRow t j k (length b) r s
+  -- no two rows or spots are first
+  pub one-row : (r s l u : ℕ) → FirstLineRow t j k (length b) r s → FirstLineRow t j k (length b) l u → (r ≡ l) × (s ≡ u)
+  -- it accepts exactly if no row is met
+  pub accepted : ((x : ℕ) × (lineAnswer t j k (length b) ≡ Written x)) ↔ ((r s : ℕ) → LineRow t j k (length b) r s → ⊥)
+  -- then it returns the length of line j, which it has written from place k on; the other bytes stay
+  pub written : (x : ℕ) → lineAnswer t j k (length b) ≡ Written x → (P : Program) → Admitted t P
+      → (x ≡ length (lineOf P j)) × (lineBytes t j k b ≡ take k b ++ (lineOf P j ++ drop (k + x) b))
+  -- refused, it writes nothing
+  pub stays : (r : LineRefusal) → lineAnswer t j k (length b) ≡ LineRefused r → lineBytes t j k b ≡ b
+
+pub line-call : (t : List ℕ) (j k : ℕ) (b : List ℕ) → LineCall t j k b
+line-call t j k b =
+    record {
+      refused = λ r s. (answers-line-first t j k (length b) r s, first-line-answers t j k (length b) r s);
+      one-row = first-line-unique t j k (length b);
+      accepted = (λ a. written-none t j k (length b) (a .0) (a .1), none-written t j k (length b));
+      written = line-writes t j k b;
+      stays = line-stays t j k b;
+    }
+
+pub record RunCall (t : List ℕ) (j : ℕ) (b : List ℕ) : Type 0 where
+  -- a run is refused exactly as its first line is at place 0
+  pub refused : (r : LineRefusal) → (runAnswer t j (length b) ≡ RefusedRun r) ↔ (lineAnswer t j 0 (length b) ≡ LineRefused r)
+  -- then it writes nothing
+  pub stays : (r : LineRefusal) → runAnswer t j (length b) ≡ RefusedRun r → runBytes t j b ≡ b
+  -- accepted, it writes m lines, those that the line call writes for j, j + 1, .., one after the other, and as many as fit; the other bytes stay
+  pub written : (m x : ℕ) → runAnswer t j (length b) ≡ WrittenRun m x → (P : Program) → Admitted t P → RunWritten P j b m x (runBytes t j b)
+
+pub run-call : (t : List ℕ) (j : ℕ) (b : List ℕ) → RunCall t j b
+run-call t j b = record { refused = run-refused-as t j (length b); stays = run-stays t j b; written = run-writes t j b }
+
+-- the writer has at most 65,537 bytes of its input at hand, and the input's length: that gives the reader's answer to the whole input
+pub counted-input : (t : List ℕ) → countedOf (take 65537 t) (length t) ≡ readOf t
+counted-input = counted-whole
+
+-- ---- 6 Examples and wrong turns
 
 -- document 01's starred examples, with every V, C, level, set and spot that it gives, computed from the definitions
 pub starred : map computed examples ≡ examples
@@ -397,7 +534,7 @@ wrong-turns =
 pub texts : map computedRow cases ≡ cases
 texts = cases-hold
 
--- ---- 6 Contracts: each public function meets the one that stands at it in src/
+-- ---- 7 Contracts: each public function meets the one that stands at it in src/
 
 -- form, numbers, program
 pub record Reader (M : Type 1) : Type 2 where
@@ -462,6 +599,9 @@ pub record Slots (M : Type 1) : Type 2 where
   pub zero-slot : zero-slot·statement M
   pub next-slot : next-slot·statement M
   pub pair-slot : pair-slot·statement M
+  -- group 5 in two steps: the variables of a row's bit, and the literal
+  pub chain-of : chain-of·statement M
+  pub chain-literal : chain-literal·statement M
   pub rule-slot : rule-slot·statement M
   -- groups 2 and 7: an atom's clause with one rule, and its last clause
   pub implied-slot : implied-slot·statement M
@@ -476,4 +616,57 @@ pub record Slots (M : Type 1) : Type 2 where
   pub rule-slots : rule-slots·statement M
 
 pub slots : (M : Type 1) → Slots M
-slots M = record { body-slot = body-slot·met; zero-slot = zero-slot·met; next-slot = next-slot·met; pair-slot = pair-slot·met; rule-slot = rule-slot·met; implied-slot = implied-slot·met; head-slot = head-slot·met; body-slots = body-slots·met; next-slots = next-slots·met; chain-bit = chain-bit·met; chain-size = chain-size·met; chain-slots = chain-slots·met; rule-size = rule-size·met; rule-slots = rule-slots·met }
+slots M = record { body-slot = body-slot·met; zero-slot = zero-slot·met; next-slot = next-slot·met; pair-slot = pair-slot·met; chain-of = chain-of·met; chain-literal = chain-literal·met; rule-slot = rule-slot·met; implied-slot = implied-slot·met; head-slot = head-slot·met; body-slots = body-slots·met; next-slots = next-slots·met; chain-bit = chain-bit·met; chain-size = chain-size·met; chain-slots = chain-slots·met; rule-size = rule-size·met; rule-slots = rule-slots·met }
+
+-- tabling
+pub record Tables (M : Type 1) : Type 2 where
+  -- the table of pairs is `pairTable` of the program read, and V and C are its `totalsOf`
+  pub pairs-of : pairs-of·statement M
+  pub totals-of : totals-of·statement M
+
+pub tables : (M : Type 1) → Tables M
+tables M = record { pairs-of = pairs-of·met; totals-of = totals-of·met }
+
+-- layout, places
+pub record Walk (M : Type 1) : Type 2 where
+  -- how many items a group has, rows an item, clauses a row and slots a clause, and the literal in a slot
+  pub items : layout-items·statement M
+  pub rows : layout-rows·statement M
+  pub size : layout-size·statement M
+  pub slots : layout-slots·statement M
+  pub slot : layout-slot·statement M
+  -- the chain of a row of group 5, and what `slot` gives with it at hand
+  pub chain-at : chain-at·statement M
+  pub literal-in : literal-in·statement M
+  -- the next rule of an atom, and how many slots are done once the empty ones are passed
+  pub next-head : next-head·statement M
+  pub past-empty : past-empty·statement M
+  -- the place before the first clause, and from the place of clause j that of clause j + 1
+  pub start : places-start·statement M
+  pub next : places-next·statement M
+
+pub walks : (M : Type 1) → Walk M
+walks M = record { items = layout-items·met; rows = layout-rows·met; size = layout-size·met; slots = layout-slots·met; slot = layout-slot·met; chain-at = chain-at·met; literal-in = literal-in·met; next-head = next-head·met; past-empty = past-empty·met; start = places-start·met; next = places-next·met }
+
+-- printing, lines, input
+pub record Lines (M : Type 1) : Type 2 where
+  -- line j of any text's clause file, and a run of lines: `lineAnswer` and `lineBytes`, `runAnswer` and `runBytes`
+  pub line : line·statement M
+  pub run : run·statement M
+  -- a refusal's number and spot are `lineNumber` and `lineSpot`
+  pub line-number-of : line-number-of·statement M
+  pub line-spot-of : line-spot-of·statement M
+  -- the lines from a place on, as many as fit
+  pub put-lines : put-lines·statement M
+  -- the lines of a clause and of a refusal, and line 0, written into a lent buffer: the bytes behind them stay
+  pub put-clause : put-clause·statement M
+  pub clause-length : clause-length·statement M
+  pub put-header : put-header·statement M
+  pub header-length : header-length·statement M
+  pub put-refusal : put-refusal·statement M
+  pub put-word : put-word·statement M
+  -- the reader's answer from the front of a text and its length is `countedOf`
+  pub read-counted : read-counted·statement M
+
+pub lines : (M : Type 1) → Lines M
+lines M = record { line = line·met; run = run·met; line-number-of = line-number-of·met; line-spot-of = line-spot-of·met; put-lines = put-lines·met; put-clause = put-clause·met; clause-length = clause-length·met; put-header = put-header·met; header-length = header-length·met; put-refusal = put-refusal·met; put-word = put-word·met; read-counted = read-counted·met }

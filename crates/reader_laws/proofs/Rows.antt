@@ -23,7 +23,7 @@ use Rattle.program.specs.Verdict as Verdict
 use Rattle.reader_laws.specs.Judge.{Work, judged}
 use Rattle.reader_laws.specs.Scan.{accepts, leaves}
 use Rattle.reader_laws.specs.Breach.{Event, events, noEvent, Breached, too-many-atoms, unknown-head, unknown-atom, unordered, too-many-rules, bodies-full, Breach, Hit, hits, kept}
-use Rattle.reader_laws.specs.Row.{Row, overlong, malformed, breach, rank, NoLater, ranked, nearer, smaller, FirstRow, Answers}
+use Rattle.reader_laws.specs.Row.{Row, overlong, malformed, breach, rank, NoLaterBy, NoLater, ranked, nearer, smaller, FirstRow, Answers}
 use Rattle.reader_laws.proofs.Values.{stateOf, read-text}
 use Rattle.reader_laws.proofs.Scanned.{MalformedAt, read-rejects}
 use Rattle.reader_laws.proofs.Sound.{sound}
@@ -144,20 +144,38 @@ first-breach t P h rest b p e = record { met = breach P p own; first = λ l u r.
         (first-hit (P .atoms) (events P) (span-events P .1) h rest e (x .place) (x .is-event) l
         (breached-meets (P .atoms) (getD (events P) (x .place) noEvent) l (x .breached))))
 
--- there is one first row, with one spot
-pub first-unique : (t : List ℕ) (k s l u : ℕ) → FirstRow t k s → FirstRow t l u → (k ≡ l) × (s ≡ u)
-first-unique t k s l u a b = go (a .first l u (b .met)) (b .first k s (a .met))
+-- of two rows that come no later than one another, number and spot are the same
+pub no-later-both : (order : ℕ → ℕ) (k s l u : ℕ) → NoLaterBy order k s l u → NoLaterBy order l u k s → (k ≡ l) × (s ≡ u)
+no-later-both order k s l u = go
   where
-    go : NoLater k s l u → NoLater l u k s → (k ≡ l) × (s ≡ u)
-    go (ranked x) (ranked y) = absurd (lt-irrefl (rank k) (le-trans x (le-of-lt y)))
-    go (ranked x) (nearer r y) = absurd (lt-irrefl (rank k) (subst (λ (z : ℕ). rank k < z) r x))
-    go (ranked x) (smaller r y z) = absurd (lt-irrefl (rank k) (subst (λ (z : ℕ). rank k < z) r x))
-    go (nearer r x) (ranked y) = absurd (lt-irrefl (rank l) (subst (λ (z : ℕ). rank l < z) r y))
+    go : NoLaterBy order k s l u → NoLaterBy order l u k s → (k ≡ l) × (s ≡ u)
+    go (ranked x) (ranked y) = absurd (lt-irrefl (order k) (le-trans x (le-of-lt y)))
+    go (ranked x) (nearer r y) = absurd (lt-irrefl (order k) (subst (λ (z : ℕ). order k < z) r x))
+    go (ranked x) (smaller r y z) = absurd (lt-irrefl (order k) (subst (λ (z : ℕ). order k < z) r x))
+    go (nearer r x) (ranked y) = absurd (lt-irrefl (order l) (subst (λ (z : ℕ). order l < z) r y))
     go (nearer r x) (nearer q y) = absurd (lt-irrefl s (le-trans x (le-of-lt y)))
     go (nearer r x) (smaller q y z) = absurd (lt-irrefl s (subst (λ (z : ℕ). s < z) y x))
-    go (smaller r x z) (ranked y) = absurd (lt-irrefl (rank l) (subst (λ (z : ℕ). rank l < z) r y))
+    go (smaller r x z) (ranked y) = absurd (lt-irrefl (order l) (subst (λ (z : ℕ). order l < z) r y))
     go (smaller r x z) (nearer q y) = absurd (lt-irrefl u (subst (λ (z : ℕ). u < z) x y))
     go (smaller r x z) (smaller q y w) = (le-antisymm z w, x)
+
+-- there is one first row, with one spot
+pub first-unique : (t : List ℕ) (k s l u : ℕ) → FirstRow t k s → FirstRow t l u → (k ≡ l) × (s ≡ u)
+first-unique t k s l u a b = no-later-both rank k s l u (a .first l u (b .met)) (b .first k s (a .met))
+
+-- the rows of a text are 1 to 7
+pub row-few : (t : List ℕ) (k s : ℕ) → Row t k s → k ≤ 7
+row-few t k s (overlong x) = omega arith
+row-few t k s (malformed m) = omega arith
+row-few t k s (breach P p b) = few (b .breached)
+  where
+    few : {N : ℕ} {e : Event} {k : ℕ} → Breached N e k → k ≤ 7
+    few (too-many-atoms h) = omega arith
+    few (unknown-head h) = omega arith
+    few (unknown-atom h) = omega arith
+    few (unordered h) = omega arith
+    few too-many-rules = omega arith
+    few bodies-full = omega arith
 
 -- ---- the answer
 

@@ -1,5 +1,6 @@
 -- Rows 1 to 7 of document 01's table ("Verdicts"), as it has them, and the first row met in its order.
 --   Row t k s        row k is met by the text t, with spot s
+--   NoLaterBy        row k with spot s comes no later than row l with spot u, for an order of the rows
 --   FirstRow t k s   of the rows met it is the first in the order 1, 2, then the smallest spot among 3 to 7, the smaller number on a tie
 --   Limits P         the limits of "Program text": at most 126 atoms, 500 rules and 500 body atoms, each an atom, lists ascending strictly
 --   Answers t k s    the reader refuses t with row k and spot s
@@ -28,11 +29,14 @@ pub data Row (t : List ℕ) : ℕ → ℕ → Type 0 where
 abbrev pub rank : ℕ → ℕ
 rank k = cond (eqb k 1) 0 (cond (eqb k 2) 1 2)
 
--- row k with spot s comes no later than row l with spot u
-pub data NoLater (k s l u : ℕ) : Type 0 where
-  ranked : rank k < rank l → NoLater k s l u
-  nearer : rank k ≡ rank l → s < u → NoLater k s l u
-  smaller : rank k ≡ rank l → s ≡ u → k ≤ l → NoLater k s l u
+-- row k with spot s comes no later than row l with spot u: by rank, then by the smaller spot, then by the smaller number
+pub data NoLaterBy (order : ℕ → ℕ) (k s l u : ℕ) : Type 0 where
+  ranked : order k < order l → NoLaterBy order k s l u
+  nearer : order k ≡ order l → s < u → NoLaterBy order k s l u
+  smaller : order k ≡ order l → s ≡ u → k ≤ l → NoLaterBy order k s l u
+
+abbrev pub NoLater : ℕ → ℕ → ℕ → ℕ → Type 0
+NoLater = NoLaterBy rank
 
 pub record FirstRow (t : List ℕ) (k s : ℕ) : Type 0 where
   pub met : Row t k s

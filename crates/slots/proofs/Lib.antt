@@ -10,3 +10,5 @@ pub mod Body
 pub mod Heads
 -- Counts: sizes of rows, and numbers of slots
 pub mod Counts
+-- Chains: the slots of group 5
+pub mod Chains

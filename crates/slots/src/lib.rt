@@ -21,6 +21,7 @@ ghost use Rattle.walk.specs.Walk.{signed, chainFirst, chainNext, chainSlot, slo
 ghost use Rattle.walk.specs.Walk.{atomAt, slots1, slot1, impliedSlot, ofHead};
 ghost use Rattle.walk.specs.Walk.{two as twoOf, three as threeOf};
 ghost use Rattle.slots.specs.Signed.{literalIn, held};
+ghost use Rattle.slots.specs.Chain.{chainOf};
 
 // A variable and whether it stands positive.
 pub struct Signed {
@@ -154,33 +155,51 @@ pub fn next_slot(s: Sizes, a: Atom, i: u16, y: u16, l: u16) -> Signed
     with_sign(second, v)
 }
 
-// Group 5, pair k of body atom b and head h: slot l of clause y of row i.
+// The variables of a chain's bit: z, x and y, and g, which is z at the bit before.
+pub struct Chain {
+    pub z: Var,
+    pub x: Var,
+    pub y: Var,
+    pub g: Var,
+}
+
+// Group 5, pair k of body atom b and head h: the chain's bit of row i.
+pub fn chain_of(s: Sizes, k: u16, b: Atom, h: Atom, i: u16) -> Chain
+    requires { ⌜ (Bounded s) × (0 < k) × (k ≤ 500) × (0 < b .0) × (b .0 ≤ 126) × (0 < h .0) × (h .0 ≤ 126) × (0 < i) × (i ≤ s .w + s .w) ⌝ }
+    ensures { λ r. ⌜ r ≡ chainOf (sizesOf s) k (b .0) (h .0) i ⌝ }
+{
+    let w = s.w;
+    if i <= w {
+        return Chain {
+            z: below_var(s, k, i),
+            x: level_var(s, b, i),
+            y: level_var(s, h, i),
+            g: below_var(s, k, i - 1),
+        };
+    }
+    let j = i - w;
+    Chain {
+        z: next_below_var(s, k, j),
+        x: next_var(s, b, j),
+        y: level_var(s, h, j),
+        g: next_below_var(s, k, j - 1),
+    }
+}
+
+// Slot l of clause y of bit i.
+pub fn chain_literal(c: Chain, i: u16, y: u16, l: u16) -> Signed
+    ensures { λ r. ⌜ literalIn r ≡ chainSlot (c .z .0) (c .x .0) (c .y .0) (c .g .0) i y l ⌝ }
+{
+    chain_slot(c.z, c.x, c.y, c.g, i, y, l)
+}
+
+// Slot l of clause y of row i.
 pub fn pair_slot(s: Sizes, k: u16, b: Atom, h: Atom, i: u16, y: u16, l: u16) -> Signed
     requires { ⌜ (Bounded s) × (0 < k) × (k ≤ 500) × (0 < b .0) × (b .0 ≤ 126) × (0 < h .0) × (h .0 ≤ 126) × (0 < i) × (i ≤ s .w + s .w) ⌝ }
     ensures { λ r. ⌜ literalIn r ≡ slot5 (sizesOf s) k (b .0) (h .0) i y l ⌝ }
 {
-    let w = s.w;
-    if i <= w {
-        return chain_slot(
-            below_var(s, k, i),
-            level_var(s, b, i),
-            level_var(s, h, i),
-            below_var(s, k, i - 1),
-            i,
-            y,
-            l,
-        );
-    }
-    let j = i - w;
-    chain_slot(
-        next_below_var(s, k, j),
-        next_var(s, b, j),
-        level_var(s, h, j),
-        next_below_var(s, k, j - 1),
-        j,
-        y,
-        l,
-    )
+    let c = chain_of(s, k, b, h, i);
+    chain_literal(c, chain_bit(s.w, i), y, l)
 }
 
 // Group 6, rule r: slot l of its long clause, where k pairs stand before those of r.

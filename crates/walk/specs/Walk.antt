@@ -6,8 +6,10 @@
 --   slots P w g a i y        how many slots clause y of that row has
 --   slot P w g a i y l       the literal in slot l of that clause, if there is one
 --   walked P w               all clauses, in the walk's order
+--   RowAt P w g a i          group g has an item a, with a row i
+--   At P w g a i y           and that row has a clause y
 -- Assumes nothing.
-use Prim.Native.Nat.{ℕ, suc, pred, _+_, _-_, _*_, _/_, _%_}
+use Prim.Native.Nat.{ℕ, suc, pred, _+_, _-_, _*_, _/_, _%_, _≤_, _<_}
 use mathlib.Core.Bool.{Bool, cond}
 use mathlib.Core.List.{List, [], _∷_, _++_, map}
 use lib.Dec.{eqb, ltb, leb}
@@ -210,3 +212,18 @@ group P w g = each (itemCount P g) (λ a. each (rowCount P w g) (row P w g a))
 
 unfoldable pub walked : Program → ℕ → List Clause
 walked P w = each 7 (group P w)
+
+-- ---- the places
+
+pub record RowAt (P : Program) (w g a i : ℕ) : Type 0 where
+  pub group-some : 0 < g
+  pub group-in : g ≤ 7
+  pub item-some : 0 < a
+  pub item-in : a ≤ itemCount P g
+  pub row-some : 0 < i
+  pub row-in : i ≤ rowCount P w g
+
+pub record At (P : Program) (w g a i y : ℕ) : Type 0 where
+  pub row-at : RowAt P w g a i
+  pub clause-some : 0 < y
+  pub clause-in : y ≤ size P w g a i

@@ -1,0 +1,2 @@
+-- Counted: the front of a text and its length give the answer to the whole
+pub mod Counted

@@ -1,0 +1,16 @@
+-- Placed: the lines by the places of the clauses
+-- Runs: a run of lines, line by line
+-- Cases: answers and bytes for a program, by the tests on j and on the room
+-- Answer: the answers of the two calls
+-- Open: the two calls on a text
+-- Rows: the row answered is the first met
+-- Calls: what the two calls write
+-- File: the clause file of a program within the limits
+pub mod Placed
+pub mod Runs
+pub mod Cases
+pub mod Answer
+pub mod Open
+pub mod Rows
+pub mod Calls
+pub mod File

@@ -1,0 +1,25 @@
+use Rattle.lines.proofs.Placed.{short-fits}
+use lib.Dec.{leb}
+use Prim.Native.Nat.{ℕ}
+use mathlib.Core.Path.{ap}
+use borrow.Author.Needs.{needs}
+use Rattle.lines.proofs.fits.Statement.{statement}
+use Rattle.lines.proofs.fits.Tie as tie
+use Rattle.lines.proofs.fits.Reads as reads
+use Rattle.lines.proofs.fits.Lts as lts
+use Rattle.lines.proofs.line_length.Reads as line-length-reads
+
+-- src/lib.rt:83:9
+returns : tie.Need-returns
+returns c = short-fits (c .before .before .before .before .before .before .before .pre .0) (c .before .before .before .before .before .before .before .args .c .number) (c .before .before .before .before .before .before .before .pre .2) (c .if1 .taken)
+
+-- src/lib.rt:85:5
+line-length-requires : tie.Need-line-length-requires
+line-length-requires c κs = search needs
+
+-- src/lib.rt:78:1
+returns-2 : tie.Need-returns-2
+returns-2 c = ap (λ (k : ℕ). leb k (c .before .before .before .before .before .before .before .before .args .room)) (c .line-length .ensures)
+
+pub fits-spec : {M : Type 1} → statement M
+fits-spec = tie.close (tie.spec returns line-length-requires returns-2)

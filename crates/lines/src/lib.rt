@@ -1,0 +1,389 @@
+// The lines of a text's clause file: one line, and a run of lines, into a lent buffer (document 01, "Clauses, in order").
+use places::Place;
+use places::next;
+use places::start;
+use printing::clause_length;
+use printing::header_length;
+use printing::put_clause;
+use printing::put_header;
+use program::Program;
+use program::ReadVerdict;
+use program::TextRefusal;
+use program::number_of;
+use program::read;
+use program::spot_of;
+use tables::Pairs;
+use tables::Totals;
+use tabling::pairs_of;
+use tabling::totals_of;
+ghost use Prim.Native.Nat.{suc, _-_, _≤_};
+ghost use mathlib.Core.Path.{_≡_};
+ghost use mathlib.Core.List.{_++_};
+ghost use lib.Dec.{leb};
+ghost use lib.ListN.{length, drop};
+ghost use Rattle.lists.specs.Lists.{joined};
+ghost use Rattle.reader_laws.specs.Decoded.{decoded};
+ghost use Rattle.tables.specs.Tables.{Stored, programIn, Ready};
+ghost use Rattle.places.specs.Places.{placeAt};
+ghost use Rattle.lines.specs.Lines.{lineOf, lineNumber, lineSpot, answerIn, bytesIn, lineAnswer, lineBytes, partIn, runAnswerIn, runBytesIn, runAnswer, runBytes};
+
+// Why no line is written: the text is refused, the buffer is short, or there is no such clause, each with its spot.
+pub enum LineRefusal {
+    Text(TextRefusal),
+    ShortBuffer(usize),
+    NoSuchClause(usize),
+}
+
+// The length of the line written, or a refusal.
+pub enum LineVerdict {
+    Written(usize),
+    Refused(LineRefusal),
+}
+
+// How many lines are written, and how many bytes they are, or a refusal.
+pub enum RunVerdict {
+    WrittenRun(usize, usize),
+    RefusedRun(LineRefusal),
+}
+
+// A run of lines as far as it fits: how many lines, their bytes, and the place of the line after them.
+pub struct Part {
+    pub lines: usize,
+    pub bytes: usize,
+    pub place: Place,
+}
+
+// The length of the line at place c: line 0 stands before the first clause.
+fn line_length<'a>(
+    t: Totals,
+    heads: &'a [u16],
+    starts: &'a [u16],
+    bodies: &'a [u16],
+    before: &'a [u16],
+    partners: &'a [u16],
+    owners: &'a [u16],
+    c: Place,
+) -> usize
+    requires { ⌜ (Ready t (now heads) (now starts) (now bodies) (now before) (now partners) (now owners)) × (c ≡ placeAt (programIn (t .sizes) (now heads) (now starts) (now bodies)) (t .sizes .w) (c .number)) × (c .number ≤ t .clauses) ⌝ }
+    ensures { λ r. ⌜ r ≡ length (lineOf (programIn (t .sizes) (now (heads .entry)) (now (starts .entry)) (now (bodies .entry))) (c .number)) ⌝ }
+{
+    if c.number == 0 {
+        return header_length(t.vars, t.clauses);
+    }
+    let s = c.spot;
+    clause_length(
+        t,
+        heads,
+        starts,
+        bodies,
+        before,
+        partners,
+        owners,
+        s.group,
+        s.item,
+        s.row,
+        s.clause,
+    )
+}
+
+// Writes that line at the front of the buffer and returns its length.
+fn put_line<'a>(
+    t: Totals,
+    heads: &'a [u16],
+    starts: &'a [u16],
+    bodies: &'a [u16],
+    before: &'a [u16],
+    partners: &'a [u16],
+    owners: &'a [u16],
+    c: Place,
+    buf: &mut [u8],
+) -> usize
+    requires { ⌜ (Ready t (now heads) (now starts) (now bodies) (now before) (now partners) (now owners)) × (c ≡ placeAt (programIn (t .sizes) (now heads) (now starts) (now bodies)) (t .sizes .w) (c .number)) × (c .number ≤ t .clauses) × (length (lineOf (programIn (t .sizes) (now heads) (now starts) (now bodies)) (c .number)) ≤ length (now buf)) ⌝ }
+    ensures { λ r. ⌜ (r ≡ length (lineOf (programIn (t .sizes) (now (heads .entry)) (now (starts .entry)) (now (bodies .entry))) (c .number))) × (now (buf .exit) ≡ lineOf (programIn (t .sizes) (now (heads .entry)) (now (starts .entry)) (now (bodies .entry))) (c .number) ++ drop r (now (buf .entry))) ⌝ }
+{
+    if c.number == 0 {
+        return put_header(t.vars, t.clauses, &mut *buf);
+    }
+    let s = c.spot;
+    put_clause(
+        t,
+        heads,
+        starts,
+        bodies,
+        before,
+        partners,
+        owners,
+        s.group,
+        s.item,
+        s.row,
+        s.clause,
+        &mut *buf,
+    )
+}
+
+// Whether that line fits `room` bytes. No line passes 3,008 bytes.
+fn fits<'a>(
+    t: Totals,
+    heads: &'a [u16],
+    starts: &'a [u16],
+    bodies: &'a [u16],
+    before: &'a [u16],
+    partners: &'a [u16],
+    owners: &'a [u16],
+    c: Place,
+    room: usize,
+) -> bool
+    requires { ⌜ (Ready t (now heads) (now starts) (now bodies) (now before) (now partners) (now owners)) × (c ≡ placeAt (programIn (t .sizes) (now heads) (now starts) (now bodies)) (t .sizes .w) (c .number)) × (c .number ≤ t .clauses) ⌝ }
+    ensures { λ r. ⌜ r ≡ leb (length (lineOf (programIn (t .sizes) (now (heads .entry)) (now (starts .entry)) (now (bodies .entry))) (c .number))) room ⌝ }
+{
+    if 3008 <= room {
+        return true;
+    }
+    line_length(t, heads, starts, bodies, before, partners, owners, c) <= room
+}
+
+// Writes as many whole lines as fit the buffer, from the line at place c on.
+pub fn put_lines<'a>(
+    t: Totals,
+    heads: &'a [u16],
+    starts: &'a [u16],
+    bodies: &'a [u16],
+    before: &'a [u16],
+    partners: &'a [u16],
+    owners: &'a [u16],
+    c: Place,
+    buf: &mut [u8],
+) -> Part
+    requires { ⌜ (Ready t (now heads) (now starts) (now bodies) (now before) (now partners) (now owners)) × (c ≡ placeAt (programIn (t .sizes) (now heads) (now starts) (now bodies)) (t .sizes .w) (c .number)) × (c .number ≤ suc (t .clauses)) ⌝ }
+    ensures { λ r. ⌜ (r ≡ partIn (programIn (t .sizes) (now (heads .entry)) (now (starts .entry)) (now (bodies .entry))) (t .sizes .w) (c .number) (length (now (buf .entry)))) × (now (buf .exit) ≡ runBytesIn (programIn (t .sizes) (now (heads .entry)) (now (starts .entry)) (now (bodies .entry))) (c .number) (now (buf .entry))) ⌝ }
+{
+    let mut at = c;
+    let mut lines: usize = 0;
+    let mut to: usize = 0;
+    while at.number <= t.clauses {
+        if !fits(
+            t,
+            heads,
+            starts,
+            bodies,
+            before,
+            partners,
+            owners,
+            at,
+            buf.len() - to,
+        ) {
+            return Part {
+                lines: lines,
+                bytes: to,
+                place: at,
+            };
+        }
+        to += put_line(
+            t,
+            heads,
+            starts,
+            bodies,
+            before,
+            partners,
+            owners,
+            at,
+            &mut buf[to..],
+        );
+        at = next(t, heads, starts, bodies, before, partners, owners, at);
+        lines += 1;
+    }
+    Part {
+        lines: lines,
+        bytes: to,
+        place: at,
+    }
+}
+
+// The place of line j.
+fn place_of<'a>(
+    t: Totals,
+    heads: &'a [u16],
+    starts: &'a [u16],
+    bodies: &'a [u16],
+    before: &'a [u16],
+    partners: &'a [u16],
+    owners: &'a [u16],
+    j: usize,
+) -> Place
+    requires { ⌜ (Ready t (now heads) (now starts) (now bodies) (now before) (now partners) (now owners)) × (j ≤ t .clauses) ⌝ }
+    ensures { λ r. ⌜ r ≡ placeAt (programIn (t .sizes) (now (heads .entry)) (now (starts .entry)) (now (bodies .entry))) (t .sizes .w) j ⌝ }
+{
+    let mut at = start(t, heads, starts, bodies, before, partners, owners);
+    let mut n: usize = 0;
+    while n < j {
+        at = next(t, heads, starts, bodies, before, partners, owners, at);
+        n += 1;
+    }
+    at
+}
+
+// Line j into the buffer from place `from` on.
+fn line_in<'a>(
+    t: Totals,
+    heads: &'a [u16],
+    starts: &'a [u16],
+    bodies: &'a [u16],
+    before: &'a [u16],
+    partners: &'a [u16],
+    owners: &'a [u16],
+    j: usize,
+    from: usize,
+    buf: &mut [u8],
+) -> LineVerdict
+    requires { ⌜ Ready t (now heads) (now starts) (now bodies) (now before) (now partners) (now owners) ⌝ }
+    ensures { λ r. ⌜ (r ≡ answerIn (programIn (t .sizes) (now (heads .entry)) (now (starts .entry)) (now (bodies .entry))) j (length (now (buf .entry)) - from)) × (now (buf .exit) ≡ bytesIn (programIn (t .sizes) (now (heads .entry)) (now (starts .entry)) (now (bodies .entry))) j from (now (buf .entry))) ⌝ }
+{
+    if t.clauses < j {
+        return LineVerdict::Refused(LineRefusal::NoSuchClause(t.clauses));
+    }
+    let c = place_of(t, heads, starts, bodies, before, partners, owners, j);
+    let need = line_length(t, heads, starts, bodies, before, partners, owners, c);
+    if buf.len() < from {
+        return LineVerdict::Refused(LineRefusal::ShortBuffer(need));
+    }
+    if buf.len() - from < need {
+        return LineVerdict::Refused(LineRefusal::ShortBuffer(need));
+    }
+    LineVerdict::Written(put_line(
+        t,
+        heads,
+        starts,
+        bodies,
+        before,
+        partners,
+        owners,
+        c,
+        &mut buf[from..],
+    ))
+}
+
+// The lines from line j on, as many as fit the buffer.
+fn run_in<'a>(
+    t: Totals,
+    heads: &'a [u16],
+    starts: &'a [u16],
+    bodies: &'a [u16],
+    before: &'a [u16],
+    partners: &'a [u16],
+    owners: &'a [u16],
+    j: usize,
+    buf: &mut [u8],
+) -> RunVerdict
+    requires { ⌜ Ready t (now heads) (now starts) (now bodies) (now before) (now partners) (now owners) ⌝ }
+    ensures { λ r. ⌜ (r ≡ runAnswerIn (programIn (t .sizes) (now (heads .entry)) (now (starts .entry)) (now (bodies .entry))) j (length (now (buf .entry)))) × (now (buf .exit) ≡ runBytesIn (programIn (t .sizes) (now (heads .entry)) (now (starts .entry)) (now (bodies .entry))) j (now (buf .entry))) ⌝ }
+{
+    if t.clauses < j {
+        return RunVerdict::RefusedRun(LineRefusal::NoSuchClause(t.clauses));
+    }
+    let c = place_of(t, heads, starts, bodies, before, partners, owners, j);
+    let part = put_lines(
+        t,
+        heads,
+        starts,
+        bodies,
+        before,
+        partners,
+        owners,
+        c,
+        &mut *buf,
+    );
+    if part.lines == 0 {
+        let need = line_length(t, heads, starts, bodies, before, partners, owners, c);
+        return RunVerdict::RefusedRun(LineRefusal::ShortBuffer(need));
+    }
+    RunVerdict::WrittenRun(part.lines, part.bytes)
+}
+
+// Line j of a program that was read.
+fn line_of(p: Program, j: usize, from: usize, buf: &mut [u8]) -> LineVerdict
+    requires { ⌜ Stored p ⌝ }
+    ensures { λ r. ⌜ (r ≡ answerIn (decoded p) j (length (now (buf .entry)) - from)) × (now (buf .exit) ≡ bytesIn (decoded p) j from (now (buf .entry))) ⌝ }
+{
+    let k = pairs_of(p);
+    let t = totals_of(p, k.count, k.empty);
+    line_in(
+        t,
+        &p.heads,
+        &p.starts,
+        &p.bodies,
+        &k.before,
+        &k.bodies,
+        &k.heads,
+        j,
+        from,
+        &mut *buf,
+    )
+}
+
+// A run of its lines from line j on.
+fn run_of(p: Program, j: usize, buf: &mut [u8]) -> RunVerdict
+    requires { ⌜ Stored p ⌝ }
+    ensures { λ r. ⌜ (r ≡ runAnswerIn (decoded p) j (length (now (buf .entry)))) × (now (buf .exit) ≡ runBytesIn (decoded p) j (now (buf .entry))) ⌝ }
+{
+    let k = pairs_of(p);
+    let t = totals_of(p, k.count, k.empty);
+    run_in(
+        t,
+        &p.heads,
+        &p.starts,
+        &p.bodies,
+        &k.before,
+        &k.bodies,
+        &k.heads,
+        j,
+        &mut *buf,
+    )
+}
+
+// Line j of the text's clause file, written into the buffer from place `from` on: its length, or a refusal, which writes nothing.
+// The buffer's other bytes stay.
+pub fn line(text: &[u8], j: usize, from: usize, buf: &mut [u8]) -> LineVerdict
+    ensures { λ r. ⌜ (r ≡ lineAnswer (now (text .entry)) j from (length (now (buf .entry)))) × (now (buf .exit) ≡ lineBytes (now (text .entry)) j from (now (buf .entry))) ⌝ }
+{
+    let r = read(text);
+    let v = r.verdict;
+    match v {
+        ReadVerdict::Accepted => line_of(r.program, j, from, &mut *buf),
+        ReadVerdict::Refused(x) => LineVerdict::Refused(LineRefusal::Text(x)),
+    }
+}
+
+// As many whole lines as fit the buffer, from line j on: how many and how many bytes, or a refusal, which writes nothing.
+// The buffer's other bytes stay.
+pub fn run(text: &[u8], j: usize, buf: &mut [u8]) -> RunVerdict
+    ensures { λ r. ⌜ (r ≡ runAnswer (now (text .entry)) j (length (now (buf .entry)))) × (now (buf .exit) ≡ runBytes (now (text .entry)) j (now (buf .entry))) ⌝ }
+{
+    let r = read(text);
+    let v = r.verdict;
+    match v {
+        ReadVerdict::Accepted => run_of(r.program, j, &mut *buf),
+        ReadVerdict::Refused(x) => RunVerdict::RefusedRun(LineRefusal::Text(x)),
+    }
+}
+
+// The document's number of a refusal.
+pub fn line_number_of(r: LineRefusal) -> u8
+    ensures { λ n. ⌜ n ≡ lineNumber r ⌝ }
+{
+    match r {
+        LineRefusal::Text(x) => number_of(x),
+        LineRefusal::ShortBuffer(s) => 8,
+        LineRefusal::NoSuchClause(s) => 9,
+    }
+}
+
+// Its spot.
+pub fn line_spot_of(r: LineRefusal) -> usize
+    ensures { λ n. ⌜ n ≡ lineSpot r ⌝ }
+{
+    match r {
+        LineRefusal::Text(x) => spot_of(x),
+        LineRefusal::ShortBuffer(s) => s,
+        LineRefusal::NoSuchClause(s) => s,
+    }
+}

@@ -1,0 +1,8 @@
+-- Ahead: the spots of the clauses follow one another
+-- Steps: the steps of the search for the next clause
+-- HeadRow: the next row of an atom of group 2 that holds a clause
+-- Numbers: the clauses by their numbers
+pub mod Ahead
+pub mod Steps
+pub mod HeadRow
+pub mod Numbers

@@ -1,0 +1,4 @@
+// The writer on no bytes.
+fn main() {
+    writing::write_clauses();
+}

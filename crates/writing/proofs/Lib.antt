@@ -1,0 +1,2 @@
+-- Parts: the parts of the clause file, one after the other
+pub mod Parts

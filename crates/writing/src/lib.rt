@@ -1,0 +1,119 @@
+// The writer: reads a program text from standard input and prints its clause file, or why the text is refused (document 01, "Programs").
+use input::read_counted;
+use lines::Part;
+use lines::put_lines;
+use places::Place;
+use places::start;
+use printing::put_refusal;
+use program::Program;
+use program::ReadVerdict;
+use program::TextRefusal;
+use program::number_of;
+use program::spot_of;
+use tables::Pairs;
+use tables::Totals;
+use tabling::pairs_of;
+use tabling::totals_of;
+ghost use Prim.Native.Nat.{_*_, _≤_};
+ghost use mathlib.Core.Path.{_≡_};
+ghost use lib.ListN.{length};
+ghost use Rattle.io.specs.Counts.{Counts};
+ghost use Rattle.reader_laws.specs.Decoded.{decoded};
+ghost use Rattle.tables.specs.Tables.{Stored, pairTable, totalsOf};
+ghost use Rattle.places.specs.Places.{placeAt};
+ghost use Rattle.lines.specs.Lines.{partIn, runBytesIn};
+ghost use Rattle.writing.specs.Onward.{Onward};
+
+// How many bytes standard input still holds.
+fn rest_length() -> usize
+    ensures { λ r. ⌜ r ≤ 65536 * 1000000000000 ⌝ }
+{
+    let mut buf = io::large_buffer();
+    let mut turns: usize = 1000000000000;
+    let mut total: usize = 0;
+    while 0 < turns {
+        let n = io::read_full(0, &mut buf);
+        if n == 0 {
+            return total;
+        }
+        total += n;
+        turns -= 1;
+    }
+    total
+}
+
+// Prints the line of a refusal.
+fn say_refusal(x: TextRefusal) {
+    let mut out = [0u8; 64];
+    let n = put_refusal(number_of(x), spot_of(x), &mut out);
+    io::write_all(1, &out[..n]);
+}
+
+fn say_refused(v: ReadVerdict) {
+    let ReadVerdict::Refused(x) = v else {
+        return;
+    };
+    say_refusal(x);
+}
+
+// The place before the first clause, of a program with its table of pairs and its totals.
+fn first_place(p: Program, k: Pairs, t: Totals) -> Place
+    requires { ⌜ (Stored p) × (k ≡ pairTable (decoded p)) × (t ≡ totalsOf (decoded p)) ⌝ }
+    ensures { λ r. ⌜ r ≡ placeAt (decoded p) (t .sizes .w) 0 ⌝ }
+{
+    start(
+        t,
+        &p.heads,
+        &p.starts,
+        &p.bodies,
+        &k.before,
+        &k.bodies,
+        &k.heads,
+    )
+}
+
+// The lines from place c on, as many as fit.
+fn next_part(p: Program, k: Pairs, t: Totals, c: Place, out: &mut [u8]) -> Part
+    requires { ⌜ (Stored p) × (k ≡ pairTable (decoded p)) × (t ≡ totalsOf (decoded p)) × (c ≡ placeAt (decoded p) (t .sizes .w) (c .number)) × (c .number ≤ t .clauses) × (3008 ≤ length (now out)) ⌝ }
+    ensures { λ r. ⌜ (r ≡ partIn (decoded p) (t .sizes .w) (c .number) (length (now (out .entry)))) × (now (out .exit) ≡ runBytesIn (decoded p) (c .number) (now (out .entry))) × (Counts (r .bytes) (now (out .exit))) × (Onward (decoded p) t c (r .place)) ⌝ }
+{
+    put_lines(
+        t,
+        &p.heads,
+        &p.starts,
+        &p.bodies,
+        &k.before,
+        &k.bodies,
+        &k.heads,
+        c,
+        &mut *out,
+    )
+}
+
+// Prints all lines of a program.
+fn say_lines(p: Program)
+    requires { ⌜ Stored p ⌝ }
+{
+    let k = pairs_of(p);
+    let t = totals_of(p, k.count, k.empty);
+    let mut out = io::large_buffer();
+    let mut c = first_place(p, k, t);
+    while c.number <= t.clauses {
+        let part = next_part(p, k, t, c, &mut out);
+        io::write_all(1, &out[..part.bytes]);
+        c = part.place;
+    }
+}
+
+pub fn write_clauses() {
+    let mut text = [0u8; 65537];
+    let n = io::read_full(0, &mut text);
+    let total = n + rest_length();
+    let r = read_counted(&text[..n], total);
+    let v = r.verdict;
+    let ReadVerdict::Accepted = v else {
+        say_refused(v);
+        return;
+    };
+    say_lines(r.program);
+}
