@@ -25,7 +25,8 @@ use Rattle.lines.specs.declared.RunVerdict.the-variants.{WrittenRun, Ref
 use Rattle.lines.specs.declared.Part.{Part}
 use Rattle.lines.specs.Lines.{clauseTotal, linesOf, lineOf, answerIn, bytesIn, fitting, runIn, runAnswerIn, runBytesIn, partIn}
 use Rattle.lines.proofs.Cases.{answer-none, answer-short, answer-fits, bytes-none, bytes-short, bytes-fits, run-none, run-short, run-fits}
-use Rattle.lines.proofs.Placed.{total-is, lines-count, number-is, line-some}
+use Rattle.lines.proofs.Placed.{total-is, lines-count, line-some}
+use Rattle.places.proofs.Numbers.{number-is}
 
 module _ {P : Program} {t : Totals} {hs ss bs ks xs ys : List ℕ} (T : Tabled P t hs ss bs ks xs ys) (j : ℕ) where
   abbrev w : ℕ

@@ -2,7 +2,6 @@
 --   lines-count     there are C + 1 lines
 --   header-is       line 0
 --   clause-is       line n, from the place of clause n
---   placed-at       a clause stands there
 --   line-short      no line passes 3,008 bytes
 -- Assumes nothing.
 use Prim.Native.Nat.{ℕ, zero, suc, pred, _+_, _≤_, _<_, _^_}
@@ -18,21 +17,20 @@ use Rattle.lists.proofs.Tables.{getD-map}
 use Rattle.meaning.specs.Program.{Program}
 use Rattle.encoding.specs.Width.{width}
 use Rattle.encoding.specs.Clauses.{clauses}
-use Rattle.theory.proofs.Widths.{width-some, width-enough}
+use Rattle.theory.proofs.Widths.{width-enough}
 use Rattle.theory.proofs.Counts.{count-whole}
 use Rattle.digits.specs.Bytes.{lineText}
 use Rattle.digits.proofs.Lengths.{line-length}
-use Rattle.walk.specs.Walk.{clauseAt, At}
+use Rattle.walk.specs.Walk.{clauseAt}
 use Rattle.tables.specs.declared.Totals.{Totals}
 use Rattle.tables.specs.Tables.{Tabled}
 use Rattle.table_laws.proofs.Elements.{width-are, vars-are, clauses-are}
 use Rattle.table_laws.proofs.Bounds.{variables-fit, clauses-fit, lines-fit}
 use Rattle.printing.specs.Lines.{headerText}
 use Rattle.printing.proofs.Parts.{header-small, header-length}
-use Rattle.places.specs.declared.Spot.{Spot}
 use Rattle.places.specs.declared.Place.{Place}
-use Rattle.places.specs.Places.{placeAt, spotAt, spots, clauseIn}
-use Rattle.places.proofs.Numbers.{clause-at, stands-at, count-is}
+use Rattle.places.specs.Places.{placeAt}
+use Rattle.places.proofs.Numbers.{placed-clause}
 use Rattle.lines.specs.Lines.{linesOf, lineOf, clauseTotal}
 
 module _ {P : Program} {t : Totals} {hs ss bs ks xs ys : List ℕ} (T : Tabled P t hs ss bs ks xs ys) where
@@ -73,22 +71,9 @@ module _ {P : Program} {t : Totals} {hs ss bs ks xs ys : List ℕ} (T : Tabled P
 
   -- ---- at the place of clause n
 
-  module _ {c : Place} (e : c ≡ placeAt P w (c .number)) (p : 0 < c .number) (h : c .number ≤ t .clauses) where
-    spot-is : c .spot ≡ spotAt P w (c .number)
-    spot-is = ap (λ (d : Place). d .spot) e
-
-    listed : c .number ≤ length (spots P w)
-    listed = subst (λ (k : ℕ). c .number ≤ k) (sym (count-is T)) h
-
-    pub placed-at : At P w (c .spot .group) (c .spot .item) (c .spot .row) (c .spot .clause)
-    placed-at = subst (λ (d : Spot). At P w (d .group) (d .item) (d .row) (d .clause)) (sym spot-is) (stands-at P w (c .number) p listed .at)
-
-    pub clause-is : lineText (clauseAt P w (c .spot .group) (c .spot .item) (c .spot .row) (c .spot .clause)) ≡ lineOf P (c .number)
-    clause-is =
-        ap (λ (d : Spot). lineText (clauseIn P w d)) spot-is
-        ∙ ap lineText (clause-at P w (subst (λ (k : ℕ). 0 < k) (sym widths) (width-some (P .atoms))) (c .number) p listed)
-        ∙ ap (λ (k : ℕ). lineText (getD (clauses P k) (pred (c .number)) [])) widths
-        ∙ line-of-clause (c .number) p h
+  pub clause-is : {c : Place} → c ≡ placeAt P w (c .number) → 0 < c .number → c .number ≤ t .clauses
+      → lineText (clauseAt P w (c .spot .group) (c .spot .item) (c .spot .row) (c .spot .clause)) ≡ lineOf P (c .number)
+  clause-is {c} e p h = ap lineText (placed-clause T e p h) ∙ line-of-clause (c .number) p h
 
   -- ---- lengths
 
@@ -105,22 +90,6 @@ module _ {P : Program} {t : Totals} {hs ss bs ks xs ys : List ℕ} (T : Tabled P
   line-some zero h = subst (λ (l : List ℕ). 0 < length l) header-is (omega (arith, header-length (t .vars) (t .clauses)))
   line-some (suc n) h =
       subst (λ (l : List ℕ). 0 < length l) (line-of-clause (suc n) (omega arith) h) (omega (arith, line-length (getD (clauses P (width (P .atoms))) n [])))
-
-  -- ---- places by their numbers
-
-  module _ {n : ℕ} {c : Place} (e : c ≡ placeAt P w n) where
-    pub number-is : c .number ≡ n
-    number-is = ap (λ (d : Place). d .number) e
-
-    pub own-number : c ≡ placeAt P w (c .number)
-    own-number = e ∙ ap (placeAt P w) (sym number-is)
-
-    -- the place after it
-    pub one-on : {d : Place} → d ≡ placeAt P w (suc (c .number)) → d ≡ placeAt P w (n + 1)
-    one-on f = f ∙ ap (λ (k : ℕ). placeAt P w (suc k)) number-is ∙ ap (placeAt P w) (more n)
-      where
-        more : (n : ℕ) → suc n ≡ n + 1
-        more n = omega arith
 
 -- ---- what code has in its hands
 

@@ -27,7 +27,8 @@ use Rattle.tables.specs.Tables.{Tabled}
 use Rattle.places.specs.declared.Place.{Place}
 use Rattle.places.specs.Places.{placeAt}
 use Rattle.lines.specs.declared.Part.{Part}
-use Rattle.lines.proofs.Placed.{lines-count, line-short, clauses-short, own-number, number-is}
+use Rattle.lines.proofs.Placed.{lines-count, line-short, clauses-short}
+use Rattle.places.proofs.Numbers.{own-number, number-is}
 use Rattle.lines.specs.Lines.{linesOf, lineOf, fitting, partIn, runBytesIn}
 
 pub joined-append : (xs ys : List (List ℕ)) → joined (xs ++ ys) ≡ joined xs ++ joined ys

@@ -4,6 +4,7 @@
 --   stands-at        clause j stands at its spot
 --   clause-at        and is clause j of the clause list
 --   next-is          what follows clause j is clause j + 1
+--   placed-at, placed-clause, number-is, own-number, one-on    a place that code has at hand
 -- Assumes nothing.
 use Prim.Native.Nat.{ℕ, zero, suc, pred, _+_, _-_, _≤_, _<_}
 use native.Mathlib.Nat.{not-suc-le-zero, zero-add}
@@ -19,7 +20,7 @@ use Rattle.encoding.specs.Literal.{Clause}
 use Rattle.encoding.specs.Clauses.{clauses, clauseCount}
 use Rattle.theory.proofs.Widths.{width-some, width-enough}
 use Rattle.theory.proofs.Counts.{count-whole}
-use Rattle.walk.specs.Walk.{itemCount, rowCount, size, row, group, walked}
+use Rattle.walk.specs.Walk.{itemCount, rowCount, size, row, group, walked, clauseAt, At}
 use Rattle.walk.proofs.Walked.{walked-clauses}
 use Rattle.reader_laws.specs.Row.{Limits}
 use Rattle.tables.specs.declared.Totals.{Totals}
@@ -149,3 +150,36 @@ module _ {P : Program} {t : Totals} {hs ss bs ks xs ys : List ℕ} (T : Tabled P
       where
         more : (n : ℕ) → n + 1 ≡ suc n
         more n = omega arith
+
+  -- ---- places by their numbers
+
+  module _ {n : ℕ} {c : Place} (e : c ≡ placeAt P v n) where
+    pub number-is : c .number ≡ n
+    number-is = ap (λ (d : Place). d .number) e
+
+    pub own-number : c ≡ placeAt P v (c .number)
+    own-number = e ∙ ap (placeAt P v) (sym number-is)
+
+    -- the place after it
+    pub one-on : {d : Place} → d ≡ placeAt P v (suc (c .number)) → d ≡ placeAt P v (n + 1)
+    one-on f = f ∙ ap (λ (k : ℕ). placeAt P v (suc k)) number-is ∙ ap (placeAt P v) (more n)
+      where
+        more : (n : ℕ) → suc n ≡ n + 1
+        more n = omega arith
+
+  -- at the place of clause n stands clause n
+  module _ {c : Place} (e : c ≡ placeAt P v (c .number)) (p : 0 < c .number) (h : c .number ≤ t .clauses) where
+    spot-is : c .spot ≡ spotAt P v (c .number)
+    spot-is = ap (λ (d : Place). d .spot) e
+
+    in-list : c .number ≤ length (spots P v)
+    in-list = subst (λ (k : ℕ). c .number ≤ k) (sym count-is) h
+
+    pub placed-at : At P v (c .spot .group) (c .spot .item) (c .spot .row) (c .spot .clause)
+    placed-at = subst (λ (d : Spot). At P v (d .group) (d .item) (d .row) (d .clause)) (sym spot-is) (stands-at P v (c .number) p in-list .at)
+
+    pub placed-clause : clauseAt P v (c .spot .group) (c .spot .item) (c .spot .row) (c .spot .clause) ≡ getD (clauses P (width (P .atoms))) (pred (c .number)) []
+    placed-clause =
+        ap (clauseIn P v) spot-is
+        ∙ clause-at P v (subst (λ (k : ℕ). 0 < k) (sym (width-are P t hs ss bs ks xs ys T)) (width-some (P .atoms))) (c .number) p in-list
+        ∙ ap (λ (k : ℕ). getD (clauses P k) (pred (c .number)) []) (width-are P t hs ss bs ks xs ys T)

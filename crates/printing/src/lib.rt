@@ -69,7 +69,7 @@ pub fn put_header(v: usize, c: usize, buf: &mut [u8]) -> usize
 }
 
 // A literal as a signed number.
-fn number_of(x: Signed) -> i32
+pub fn number_of(x: Signed) -> i32
     ensures { λ r. ⌜ r ≡ literalNumber (literalIn x) ⌝ }
 {
     if x.positive {

@@ -1,5 +1,5 @@
 use Rattle.lines.proofs.Answer.{need-is, placed-within, placed-asks, placed-put, line-none, line-past, line-short, line-asks, line-written}
-use Rattle.lines.proofs.Placed.{own-number}
+use Rattle.places.proofs.Numbers.{own-number}
 use Prim.Native.Nat.{_-_}
 use lib.ListN.{length, take, drop}
 use denote.Ref.{now}

@@ -1,4 +1,5 @@
-use Rattle.lines.proofs.Placed.{header-asks, header-line, placed-at, clause-is, some-number}
+use Rattle.lines.proofs.Placed.{header-asks, header-line, clause-is, some-number}
+use Rattle.places.proofs.Numbers.{placed-at}
 use lib.ListN.{length}
 use mathlib.Core.Path.{_∙_, ap}
 use Rattle.lines.proofs.line_length.Statement.{statement}

@@ -1,5 +1,5 @@
 use denote.Ref.{now}
-use Rattle.lines.proofs.Placed.{own-number, number-is, one-on}
+use Rattle.places.proofs.Numbers.{own-number, number-is, one-on}
 use Rattle.places.specs.Places.{placeAt}
 use Rattle.tables.specs.Tables.{programIn}
 use borrow.Author.Needs.{needs}

@@ -1,4 +1,5 @@
-use Rattle.lines.proofs.Placed.{header-asks, header-line, placed-at, clause-is, some-number, as-line, line-in-room}
+use Rattle.lines.proofs.Placed.{header-asks, header-line, clause-is, some-number, as-line, line-in-room}
+use Rattle.places.proofs.Numbers.{placed-at}
 use denote.Ref.{now}
 use borrow.Author.Needs.{needs}
 use Rattle.lines.proofs.put_line.Statement.{statement}

@@ -1,5 +1,5 @@
 use Rattle.lines.proofs.Answer.{need-is, placed-within, placed-part, run-past, run-refused, run-written}
-use Rattle.lines.proofs.Placed.{own-number}
+use Rattle.places.proofs.Numbers.{own-number}
 use Rattle.lines.specs.declared.Part.{Part}
 use native.Mathlib.Omega.{arith}
 use mathlib.Core.Path.{ap}

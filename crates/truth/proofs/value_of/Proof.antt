@@ -1,0 +1,22 @@
+use Rattle.truth.proofs.Values.{value-is}
+use denote.Ref.{now}
+use borrow.Author.Needs.{needs}
+use Rattle.truth.proofs.value_of.Statement.{statement}
+use Rattle.truth.proofs.value_of.Tie as tie
+use Rattle.truth.proofs.value_of.Reads as reads
+use Rattle.truth.proofs.value_of.Lts as lts
+
+-- src/lib.rt:29:16
+sub-result : tie.Need-sub-result
+sub-result c = search needs
+
+-- src/lib.rt:29:5
+shared-slice-read-result : tie.Need-shared-slice-read-result
+shared-slice-read-result c = search needs
+
+-- src/lib.rt:25:1
+returns : tie.Need-returns
+returns c = value-is (now (c .before .args .assignment)) (c .before .args .v)
+
+pub value-of-spec : {M : Type 1} → statement M
+value-of-spec = tie.close (tie.spec sub-result shared-slice-read-result returns)

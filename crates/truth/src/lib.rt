@@ -1,0 +1,148 @@
+// Truth of literals and clauses under an assignment (document 01, "Check and filling out").
+use layout::chain_at;
+use layout::literal_in;
+use layout::past_empty;
+use layout::slots;
+use literals::is_negative;
+use literals::magnitude;
+use places::next;
+use places::start;
+use printing::number_of;
+use slots::Signed;
+use tables::Totals;
+ghost use Prim.Native.Nat.{_^_, _≤_, _<_};
+ghost use mathlib.Core.Path.{_≡_};
+ghost use lib.IntN.{natAbs};
+ghost use lib.ListN.{length};
+ghost use Rattle.lists.specs.Lists.{any};
+ghost use Rattle.encoding.specs.Literal.{literalTrue, clauseTrue};
+ghost use Rattle.walk.specs.Walk.{clauseAt, At};
+ghost use Rattle.tables.specs.Tables.{programIn, Ready};
+ghost use Rattle.printing.specs.Lines.{literalsIn};
+ghost use Rattle.truth.specs.Truth.{valueIn, numberTrue, firstFalse};
+
+// Whether variable v has 1.
+fn value_of(assignment: &[u8], v: usize) -> bool
+    requires { ⌜ (0 < v) × (v ≤ length (now assignment)) ⌝ }
+    ensures { λ r. ⌜ r ≡ valueIn (now (assignment .entry)) v ⌝ }
+{
+    assignment[v - 1] != 0
+}
+
+// Whether the literal x is true: its sign and its variable's value.
+fn holds(x: i32, assignment: &[u8]) -> bool
+    requires { ⌜ (natAbs x < 2 ^ 31) × (0 < natAbs x) × (natAbs x ≤ length (now assignment)) ⌝ }
+    ensures { λ r. ⌜ r ≡ numberTrue (now (assignment .entry)) x ⌝ }
+{
+    let v = value_of(assignment, magnitude(x) as usize);
+    if is_negative(x) {
+        return !v;
+    }
+    v
+}
+
+// Whether a slot holds a true literal.
+fn slot_holds(x: Signed, assignment: &[u8]) -> bool
+    requires { ⌜ x .var .0 ≤ length (now assignment) ⌝ }
+    ensures { λ r. ⌜ r ≡ any (literalTrue (valueIn (now (assignment .entry)))) (literalsIn x) ⌝ }
+{
+    if x.var.0 == 0 {
+        return false;
+    }
+    holds(number_of(x), assignment)
+}
+
+// Whether clause y of row i of item a of group g is true.
+pub fn clause_holds<'a>(
+    t: Totals,
+    heads: &'a [u16],
+    starts: &'a [u16],
+    bodies: &'a [u16],
+    before: &'a [u16],
+    partners: &'a [u16],
+    owners: &'a [u16],
+    g: u16,
+    a: u16,
+    i: u16,
+    y: u16,
+    assignment: &'a [u8],
+) -> bool
+    requires { ⌜ (Ready t (now heads) (now starts) (now bodies) (now before) (now partners) (now owners)) × (At (programIn (t .sizes) (now heads) (now starts) (now bodies)) (t .sizes .w) g a i y) × (t .vars ≤ length (now assignment)) ⌝ }
+    ensures { λ r. ⌜ r ≡ clauseTrue (valueIn (now (assignment .entry))) (clauseAt (programIn (t .sizes) (now (heads .entry)) (now (starts .entry)) (now (bodies .entry))) (t .sizes .w) g a i y) ⌝ }
+{
+    let k = slots(
+        t,
+        heads,
+        starts,
+        bodies,
+        before,
+        partners,
+        owners,
+        g,
+        a,
+        i,
+        y,
+    );
+    let c = chain_at(t, heads, starts, bodies, before, partners, owners, g, a, i);
+    let mut l: u16 = 0;
+    while l < k {
+        let x = literal_in(
+            t,
+            heads,
+            starts,
+            bodies,
+            before,
+            partners,
+            owners,
+            c,
+            g,
+            a,
+            i,
+            y,
+            l + 1,
+        );
+        if slot_holds(x, assignment) {
+            return true;
+        }
+        l = past_empty(t.sizes.m, heads, g, a, i, l + 1);
+    }
+    false
+}
+
+// The first clause that is false, 0 if none is.
+pub fn first_false<'a>(
+    t: Totals,
+    heads: &'a [u16],
+    starts: &'a [u16],
+    bodies: &'a [u16],
+    before: &'a [u16],
+    partners: &'a [u16],
+    owners: &'a [u16],
+    assignment: &'a [u8],
+) -> usize
+    requires { ⌜ (Ready t (now heads) (now starts) (now bodies) (now before) (now partners) (now owners)) × (t .vars ≤ length (now assignment)) ⌝ }
+    ensures { λ r. ⌜ r ≡ firstFalse (programIn (t .sizes) (now (heads .entry)) (now (starts .entry)) (now (bodies .entry))) (now (assignment .entry)) ⌝ }
+{
+    let mut at = start(t, heads, starts, bodies, before, partners, owners);
+    while at.number < t.clauses {
+        at = next(t, heads, starts, bodies, before, partners, owners, at);
+        let s = at.spot;
+        if !clause_holds(
+            t,
+            heads,
+            starts,
+            bodies,
+            before,
+            partners,
+            owners,
+            s.group,
+            s.item,
+            s.row,
+            s.clause,
+            assignment,
+        ) {
+            return at.number;
+        }
+    }
+    0
+}
