@@ -5,9 +5,10 @@
 --   3  Demand 3 for assignments: stable models and satisfying assignments correspond, one to one
 --   4  Demand 1 for program texts: what the reader answers to any bytes (document 01, "Program text" and rows 1 to 7)
 --   5  The clause file's lines: what the line call and the call for a run of lines answer and write, for any bytes (rows 8 and 9)
---   6  Document 01's examples and wrong turns
---   7  Contracts: each public function meets its own
--- Nothing is assumed: a hypothesis of a statement is met by every well-formed program, and those of sections 4 and 5 hold for any bytes.
+--   6  Solver answers: the form, and where a text leaves it (document 01, "Solver answer" and row 11)
+--   7  Document 01's examples and wrong turns
+--   8  Contracts: each public function meets its own
+-- Nothing is assumed: a hypothesis of a statement is met by every well-formed program, and those of sections 4 to 6 hold for any bytes.
 use Prim.Native.Nat.{ℕ, zero, suc, pred, _+_, _-_, _*_, _^_, _%_, _≤_, _<_}
 use mathlib.Core.Path.{_≡_, sym, _∙_, ap}
 use mathlib.Core.Logic.{_↔_, _⊎_}
@@ -164,6 +165,16 @@ use Rattle.lines.proofs.line_spot_of.Statement.{statement as line-spot-of·stat
 use Rattle.lines.proofs.line_spot_of.Met.{met as line-spot-of·met}
 use Rattle.input.proofs.read_counted.Statement.{statement as read-counted·statement}
 use Rattle.input.proofs.read_counted.Met.{met as read-counted·met}
+use Rattle.printing.proofs.number_of.Statement.{statement as literal-number·statement}
+use Rattle.printing.proofs.number_of.Met.{met as literal-number·met}
+use Rattle.truth.proofs.clause_holds.Statement.{statement as clause-holds·statement}
+use Rattle.truth.proofs.clause_holds.Met.{met as clause-holds·met}
+use Rattle.truth.proofs.first_false.Statement.{statement as first-false·statement}
+use Rattle.truth.proofs.first_false.Met.{met as first-false·met}
+use Rattle.answers.specs.Answer.{Answer, proper, answerText}
+use Rattle.answers.specs.Answer as Answers
+use Rattle.answers.proofs.Spot as AnswerSpot
+use Rattle.answers.proofs.Unique.{answer-unique}
 use Rattle.digits.specs.Bytes.{lineText}
 use Rattle.table_laws.proofs.Bounds.{variables-fit, clauses-fit}
 use Rattle.printing.specs.Lines.{headerText}
@@ -486,7 +497,27 @@ run-call t j b = record { refused = run-refused-as t j (length b); stays = run-s
 pub counted-input : (t : List ℕ) → countedOf (take 65537 t) (length t) ≡ readOf t
 counted-input = counted-whole
 
--- ---- 6 Examples and wrong turns
+-- ---- 6 Solver answers: the bytes t are any
+
+pub record AnswerText (t : List ℕ) : Type 0 where
+  -- a text has the form if it is what `answerText` prints for some proper answer; `HasForm` says so
+  -- no two proper answers have one text
+  pub one-answer : (a b : Answer) → So (proper a) → So (proper b) → t ≡ answerText a → t ≡ answerText b → a ≡ b
+  -- a text that has not the form is malformed at one spot, and a text of the form at none
+  pub malformed-somewhere : (Answers.HasForm t → ⊥) → (s : ℕ) × Answers.Malformed t s
+  pub one-spot : (s u : ℕ) → Answers.Malformed t s → Answers.Malformed t u → s ≡ u
+  pub form-at-none : Answers.HasForm t → (s : ℕ) → Answers.Malformed t s → ⊥
+
+pub answer-text : (t : List ℕ) → AnswerText t
+answer-text t =
+    record {
+      one-answer = λ a b p q e f. answer-unique a b p q (sym e ∙ f);
+      malformed-somewhere = AnswerSpot.formless-malformed t;
+      one-spot = AnswerSpot.spot-unique t;
+      form-at-none = λ f s. AnswerSpot.form-not-malformed t s f;
+    }
+
+-- ---- 7 Examples and wrong turns
 
 -- document 01's starred examples, with every V, C, level, set and spot that it gives, computed from the definitions
 pub starred : map computed examples ≡ examples
@@ -534,7 +565,7 @@ wrong-turns =
 pub texts : map computedRow cases ≡ cases
 texts = cases-hold
 
--- ---- 7 Contracts: each public function meets the one that stands at it in src/
+-- ---- 8 Contracts: each public function meets the one that stands at it in src/
 
 -- form, numbers, program
 pub record Reader (M : Type 1) : Type 2 where
@@ -627,7 +658,7 @@ pub record Tables (M : Type 1) : Type 2 where
 pub tables : (M : Type 1) → Tables M
 tables M = record { pairs-of = pairs-of·met; totals-of = totals-of·met }
 
--- layout, places
+-- layout, places, truth
 pub record Walk (M : Type 1) : Type 2 where
   -- how many items a group has, rows an item, clauses a row and slots a clause, and the literal in a slot
   pub items : layout-items·statement M
@@ -644,9 +675,12 @@ pub record Walk (M : Type 1) : Type 2 where
   -- the place before the first clause, and from the place of clause j that of clause j + 1
   pub start : places-start·statement M
   pub next : places-next·statement M
+  -- truth of the clause at a place, and the first clause that is false, under the assignment of a buffer
+  pub clause-holds : clause-holds·statement M
+  pub first-false : first-false·statement M
 
 pub walks : (M : Type 1) → Walk M
-walks M = record { items = layout-items·met; rows = layout-rows·met; size = layout-size·met; slots = layout-slots·met; slot = layout-slot·met; chain-at = chain-at·met; literal-in = literal-in·met; next-head = next-head·met; past-empty = past-empty·met; start = places-start·met; next = places-next·met }
+walks M = record { items = layout-items·met; rows = layout-rows·met; size = layout-size·met; slots = layout-slots·met; slot = layout-slot·met; chain-at = chain-at·met; literal-in = literal-in·met; next-head = next-head·met; past-empty = past-empty·met; start = places-start·met; next = places-next·met; clause-holds = clause-holds·met; first-false = first-false·met }
 
 -- printing, lines, input
 pub record Lines (M : Type 1) : Type 2 where
@@ -665,8 +699,10 @@ pub record Lines (M : Type 1) : Type 2 where
   pub header-length : header-length·statement M
   pub put-refusal : put-refusal·statement M
   pub put-word : put-word·statement M
+  -- a slot's literal as a signed number
+  pub literal-number : literal-number·statement M
   -- the reader's answer from the front of a text and its length is `countedOf`
   pub read-counted : read-counted·statement M
 
 pub lines : (M : Type 1) → Lines M
-lines M = record { line = line·met; run = run·met; line-number-of = line-number-of·met; line-spot-of = line-spot-of·met; put-lines = put-lines·met; put-clause = put-clause·met; clause-length = clause-length·met; put-header = put-header·met; header-length = header-length·met; put-refusal = put-refusal·met; put-word = put-word·met; read-counted = read-counted·met }
+lines M = record { line = line·met; run = run·met; line-number-of = line-number-of·met; line-spot-of = line-spot-of·met; put-lines = put-lines·met; put-clause = put-clause·met; clause-length = clause-length·met; put-header = put-header·met; header-length = header-length·met; put-refusal = put-refusal·met; put-word = put-word·met; literal-number = literal-number·met; read-counted = read-counted·met }
