@@ -23,7 +23,7 @@ use slots::rule_slot;
 use slots::rule_slots;
 use slots::zero_slot;
 use tables::Totals;
-ghost use Prim.Native.Nat.{suc, _+_, _-_, _*_, _≤_, _<_};
+ghost use Prim.Native.Nat.{_+_, _-_, _*_, _≤_, _<_};
 ghost use mathlib.Core.Path.{_≡_};
 ghost use lib.ListN.{length, getD, take, drop};
 ghost use Rattle.literals.specs.Sizes.{sizesOf, Bounded};

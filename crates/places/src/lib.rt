@@ -10,7 +10,7 @@ ghost use mathlib.Core.Path.{_≡_};
 ghost use mathlib.Core.Bool.{false};
 ghost use lib.ListN.{length};
 ghost use Rattle.tables.specs.Tables.{programIn, Ready};
-ghost use Rattle.places.specs.Places.{placeAt, before as beforeGroup, past as pastAll};
+ghost use Rattle.places.specs.Places.{placeAt};
 ghost use Rattle.places.specs.Ahead.{ahead, firstOf, In, isOver, headRow, Onward};
 
 // A clause's group, item, row and number in its row, and how many clauses follow in the row, rows in the item and items in the group.

@@ -171,10 +171,22 @@ use Rattle.truth.proofs.clause_holds.Statement.{statement as clause-holds·stat
 use Rattle.truth.proofs.clause_holds.Met.{met as clause-holds·met}
 use Rattle.truth.proofs.first_false.Statement.{statement as first-false·statement}
 use Rattle.truth.proofs.first_false.Met.{met as first-false·met}
+use Rattle.answer_reader.proofs.status.Statement.{statement as answer-status·statement}
+use Rattle.answer_reader.proofs.status.Met.{met as answer-status·met}
+use Rattle.answer_reader.proofs.next_literal.Statement.{statement as answer-next-literal·statement}
+use Rattle.answer_reader.proofs.next_literal.Met.{met as answer-next-literal·met}
+use Rattle.answer_reader.proofs.close.Statement.{statement as answer-close·statement}
+use Rattle.answer_reader.proofs.close.Met.{met as answer-close·met}
+use Rattle.answer_reader.proofs.form.Statement.{statement as answer-form·statement}
+use Rattle.answer_reader.proofs.form.Met.{met as answer-form·met}
+use Rattle.answer_reader.specs.declared.Formed.the-variants.{Model, NoModel, Malformed as LeftForm}
+use Rattle.answer_reader.specs.Results.{formOf}
+use Rattle.answer_reader.proofs.Promised.{IsModel as IsModelText, form-malformed, malformed-form, form-model, model-form, form-none, none-form}
 use Rattle.answers.specs.Answer.{Answer, proper, answerText}
 use Rattle.answers.specs.Answer as Answers
 use Rattle.answers.proofs.Spot as AnswerSpot
 use Rattle.answers.proofs.Unique.{answer-unique}
+use Rattle.answers.proofs.Whole.{OfStatus}
 use Rattle.digits.specs.Bytes.{lineText}
 use Rattle.table_laws.proofs.Bounds.{variables-fit, clauses-fit}
 use Rattle.printing.specs.Lines.{headerText}
@@ -507,6 +519,12 @@ pub record AnswerText (t : List ℕ) : Type 0 where
   pub malformed-somewhere : (Answers.HasForm t → ⊥) → (s : ℕ) × Answers.Malformed t s
   pub one-spot : (s u : ℕ) → Answers.Malformed t s → Answers.Malformed t u → s ≡ u
   pub form-at-none : Answers.HasForm t → (s : ℕ) → Answers.Malformed t s → ⊥
+  -- code decides the form over the whole answer: malformed at s exactly if it is so
+  pub malformed : (s : ℕ) → (formOf t ≡ LeftForm s) ↔ Answers.Malformed t s
+  -- a model exactly if t prints a proper answer with the status SATISFIABLE, whose literals are read one by one from the end e of its status line on
+  pub a-model : (e : ℕ) → (formOf t ≡ Model e) ↔ IsModelText t e
+  -- no model exactly if it prints one with another status
+  pub no-model : (formOf t ≡ NoModel) ↔ ((s : Answers.Status) × OfStatus t s)
 
 pub answer-text : (t : List ℕ) → AnswerText t
 answer-text t =
@@ -515,6 +533,9 @@ answer-text t =
       malformed-somewhere = AnswerSpot.formless-malformed t;
       one-spot = AnswerSpot.spot-unique t;
       form-at-none = λ f s. AnswerSpot.form-not-malformed t s f;
+      malformed = λ s. (form-malformed t s, malformed-form t s);
+      a-model = λ e. (form-model t e, model-form t e);
+      no-model = (form-none t, λ w. none-form t (w .0) (w .1));
     }
 
 -- ---- 7 Examples and wrong turns
@@ -706,3 +727,15 @@ pub record Lines (M : Type 1) : Type 2 where
 
 pub lines : (M : Type 1) → Lines M
 lines M = record { line = line·met; run = run·met; line-number-of = line-number-of·met; line-spot-of = line-spot-of·met; put-lines = put-lines·met; put-clause = put-clause·met; clause-length = clause-length·met; put-header = put-header·met; header-length = header-length·met; put-refusal = put-refusal·met; put-word = put-word·met; literal-number = literal-number·met; read-counted = read-counted·met }
+
+-- answer_reader
+pub record AnswerReader (M : Type 1) : Type 2 where
+  -- the status of a solver answer, the next literal from a position on, and what follows literal 0, for any bytes
+  pub status : answer-status·statement M
+  pub next-literal : answer-next-literal·statement M
+  pub close : answer-close·statement M
+  -- the form of the whole answer is `formOf`
+  pub form : answer-form·statement M
+
+pub answer-reader : (M : Type 1) → AnswerReader M
+answer-reader M = record { status = answer-status·met; next-literal = answer-next-literal·met; close = answer-close·met; form = answer-form·met }

@@ -1,0 +1,71 @@
+-- What the code answers, from the definitions of the crate answers.
+--   mostNumber        the largest magnitude of a literal that is handed out
+--   capped l          l as a signed number, of no larger magnitude
+--   foundFor, nextFor, closeFor   the answers about the status, the next literal and the end
+--   noComment, commentState       before the status: byte b begins a line that is no c line; the state after byte b otherwise
+--   closedForm e c    the form of an answer whose literals begin at e, by what follows literal 0
+--   modelFrom e p t   the same, by what stands in t from position p on
+--   formFor t x       the form of the whole text t, whose status is x
+--   formOf t          the answer about the form of the whole text t
+-- Assumes nothing.
+use Prim.Native.Nat.{ℕ, _+_, min}
+use mathlib.Core.Bool.{Bool, not, _&&_, cond}
+use mathlib.Core.List.{List}
+use lib.Dec.{eqb}
+use lib.IntN.{ℤ}
+use lib.ListN.{drop}
+use Rattle.encoding.specs.Literal.{Literal, literalNumber}
+use Literal.{var, −_}
+use Rattle.answers.specs.Automaton.{accepts, leaves}
+use Rattle.answers.specs.Reading.{Found, Next, Close, statusOf}
+use Rattle.answer_reader.specs.declared.Found.{Found as FoundAnswer}
+use Rattle.answer_reader.specs.declared.Found.the-variants.{Satisfiable, Other, Left as FoundLeft}
+use Rattle.answer_reader.specs.declared.Next.{Next as NextAnswer}
+use Rattle.answer_reader.specs.declared.Next.the-variants.{Literal as NextLiteral, Last, Left as NextLeft}
+use Rattle.answer_reader.specs.declared.Closed.{Closed}
+use Rattle.answer_reader.specs.declared.Closed.the-variants.{Fine, Left as CloseLeft}
+use Rattle.answer_reader.specs.declared.Formed.{Formed}
+use Rattle.answer_reader.specs.declared.Formed.the-variants.{Model, NoModel, Malformed}
+
+-- 2^31 - 1
+abbrev pub mostNumber : ℕ
+mostNumber = 2147483647
+
+abbrev pub capped : Literal → ℤ
+capped (var v) = literalNumber (var (min mostNumber v))
+capped (− v) = literalNumber (− (min mostNumber v))
+
+abbrev pub foundFor : Found → FoundAnswer
+foundFor (Found.satisfiable e) = Satisfiable e
+foundFor (Found.other s) = Other
+foundFor (Found.left s) = FoundLeft s
+
+abbrev pub nextFor : Next → NextAnswer
+nextFor (Next.literal l first behind) = NextLiteral (capped l) first behind
+nextFor (Next.last behind) = Last behind
+nextFor (Next.left s) = NextLeft s
+
+abbrev pub closeFor : Close → Closed
+closeFor Close.fine = Fine
+closeFor (Close.left s) = CloseLeft s
+
+unfoldable pub noComment : ℕ → ℕ → Bool
+noComment q b = eqb q 0 && not (eqb b 99)
+
+unfoldable pub commentState : ℕ → ℕ → ℕ
+commentState q b = cond (eqb q 0) 32 (cond (eqb b 10) 0 32)
+
+abbrev pub closedForm : ℕ → Closed → Formed
+closedForm e Fine = Model e
+closedForm e (CloseLeft s) = Malformed s
+
+unfoldable pub modelFrom : ℕ → ℕ → List ℕ → Formed
+modelFrom e p t = cond (accepts 35 (drop p t)) (Model e) (Malformed (p + leaves 35 (drop p t)))
+
+abbrev pub formFor : List ℕ → Found → Formed
+formFor t (Found.satisfiable e) = cond (accepts 0 t) (Model e) (Malformed (leaves 0 t))
+formFor t (Found.other s) = NoModel
+formFor t (Found.left s) = Malformed s
+
+unfoldable pub formOf : List ℕ → Formed
+formOf t = formFor t (statusOf t)
