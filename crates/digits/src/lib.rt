@@ -44,6 +44,19 @@ fn put_small(n: usize, buf: &mut [u8]) -> usize
 }
 
 // Writes the digits of n at the front of the buffer and returns how many they are.
+fn put_large(n: usize, buf: &mut [u8]) -> usize
+    requires { ⌜ length (decimal n) ≤ length (now buf) ⌝ }
+    ensures { λ r. ⌜ (r ≡ length (decimal n)) × (now (buf .exit) ≡ decimal n ++ drop r (now (buf .entry))) ⌝ }
+{
+    if n < 10000 {
+        return put_small(n, &mut *buf);
+    }
+    let k = put_large(n / 10, &mut *buf);
+    buf[k] = digit(n);
+    k + 1
+}
+
+// The same, without recursion for numbers of up to four digits.
 pub fn put_decimal(n: usize, buf: &mut [u8]) -> usize
     requires { ⌜ length (decimal n) ≤ length (now buf) ⌝ }
     ensures { λ r. ⌜ (r ≡ length (decimal n)) × (now (buf .exit) ≡ decimal n ++ drop r (now (buf .entry))) ⌝ }
@@ -51,9 +64,7 @@ pub fn put_decimal(n: usize, buf: &mut [u8]) -> usize
     if n < 10000 {
         return put_small(n, &mut *buf);
     }
-    let k = put_decimal(n / 10, &mut *buf);
-    buf[k] = digit(n);
-    k + 1
+    put_large(n, &mut *buf)
 }
 
 // Writes the digits of n and the byte `end` at the front of the buffer and returns how many bytes they are.

@@ -37,7 +37,7 @@ use Rattle.printing.proofs.Held.{held-is}
 use Rattle.digits.proofs.Begins.{Begins, begins-same, begins-byte}
 
 -- some of the literals that `each` puts together, and all of them
-each-fits : (f : ℕ → List Literal) (l k : ℕ) → l ≤ k → length (literalsText (each l f)) ≤ length (literalsText (each k f))
+pub each-fits : (f : ℕ → List Literal) (l k : ℕ) → l ≤ k → length (literalsText (each l f)) ≤ length (literalsText (each k f))
 each-fits f l k h = subst (λ (n : ℕ). length (literalsText (each l f)) ≤ length (literalsText (each n f))) (whole l k h) (go (k - l))
   where
     whole : (l k : ℕ) → l ≤ k → (k - l) + l ≡ k

@@ -6,3 +6,5 @@ pub mod Held
 pub mod Clause
 pub mod Parts
 pub mod Computed
+-- ChainLine: the line of a chain's clause
+pub mod ChainLine

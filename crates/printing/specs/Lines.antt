@@ -2,6 +2,7 @@
 --   headerText v c           "p cnf", v variables and c clauses in decimal, each behind one space, then byte 10
 --   refusedText number spot  "(refused", the number and the spot in decimal, each behind one space, ")" and byte 10
 --   literalsIn x             the literal of a slot that code has as x: none where x is of variable 0
+--   chainClause c i y        clause y of bit i of the chain c
 -- Assumes nothing.
 use Prim.Native.Nat.{ℕ}
 use mathlib.Core.Bool.{cond}
@@ -9,7 +10,10 @@ use mathlib.Core.List.{List, [], _∷_, _++_}
 use lib.Dec.{eqb}
 use Rattle.lists.specs.Ascii.{ascii}
 use Rattle.text.specs.Decimal.{decimal}
-use Rattle.encoding.specs.Literal.{Literal}
+use Rattle.lists.specs.Lists.{each}
+use Rattle.encoding.specs.Literal.{Literal, Clause, variable}
+use Rattle.walk.specs.Walk.{chainSlots, chainSlot}
+use Rattle.slots.specs.declared.Chain.{Chain}
 use Rattle.slots.specs.declared.Signed.{Signed}
 use Rattle.slots.specs.Signed.{literalIn}
 
@@ -21,3 +25,10 @@ refusedText number spot = ((ascii "(refused " ++ (decimal number ++ (32 ∷ []))
 
 abbrev pub literalsIn : Signed → List Literal
 literalsIn x = cond (eqb (x .var .0) 0) [] (literalIn x ∷ [])
+
+-- a literal, none where it is of variable 0
+abbrev pub shown : Literal → List Literal
+shown l = cond (eqb (variable l) 0) [] (l ∷ [])
+
+abbrev pub chainClause : Chain → ℕ → ℕ → Clause
+chainClause c i y = each (chainSlots i y) (λ l. shown (chainSlot (c .z .0) (c .x .0) (c .y .0) (c .g .0) i y l))

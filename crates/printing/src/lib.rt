@@ -5,13 +5,16 @@ use digits::put_decimal;
 use digits::put_literal;
 use digits::put_number;
 use layout::chain_at;
-use layout::literal_in;
 use layout::past_empty;
 use layout::slot;
 use layout::slots;
 use literals::literal;
 use literals::negated;
+use slots::Chain;
 use slots::Signed;
+use slots::chain_bit;
+use slots::chain_literal;
+use slots::chain_slots;
 use tables::Totals;
 ghost use Prim.Native.Nat.{_^_, _≤_, _<_};
 ghost use mathlib.Core.Path.{_≡_};
@@ -22,7 +25,7 @@ ghost use Rattle.digits.specs.Bytes.{literalsText, lineText};
 ghost use Rattle.slots.specs.Signed.{literalIn};
 ghost use Rattle.walk.specs.Walk.{clauseAt, At};
 ghost use Rattle.tables.specs.Tables.{programIn, Ready};
-ghost use Rattle.printing.specs.Lines.{headerText, refusedText, literalsIn};
+ghost use Rattle.printing.specs.Lines.{headerText, refusedText, literalsIn, chainClause};
 
 // Writes the bytes `word` at the front of the buffer and returns how many they are.
 pub fn put_word(word: &[u8], buf: &mut [u8]) -> usize
@@ -152,6 +155,24 @@ pub fn clause_length<'a>(
     to + 2
 }
 
+// Writes the line of clause y of bit i of a chain at the front of the buffer and returns how many bytes it has.
+fn put_chain(c: Chain, i: u16, y: u16, buf: &mut [u8]) -> usize
+    requires { ⌜ length (lineText (chainClause c i y)) ≤ length (now buf) ⌝ }
+    ensures { λ r. ⌜ (r ≡ length (lineText (chainClause c i y))) × (now (buf .exit) ≡ lineText (chainClause c i y) ++ drop r (now (buf .entry))) ⌝ }
+{
+    let k = chain_slots(i, y);
+    let mut l: u16 = 0;
+    let mut end: usize = 0;
+    while l < k {
+        let x = chain_literal(c, i, y, l + 1);
+        end += put_signed(x, &mut buf[end..]);
+        l += 1;
+    }
+    buf[end] = 48;
+    buf[end + 1] = 10;
+    end + 2
+}
+
 // Writes that line at the front of the buffer and returns how many bytes it has.
 pub fn put_clause<'a>(
     t: Totals,
@@ -170,6 +191,10 @@ pub fn put_clause<'a>(
     requires { ⌜ (Ready t (now heads) (now starts) (now bodies) (now before) (now partners) (now owners)) × (At (programIn (t .sizes) (now heads) (now starts) (now bodies)) (t .sizes .w) g a i y) × (length (lineText (clauseAt (programIn (t .sizes) (now heads) (now starts) (now bodies)) (t .sizes .w) g a i y)) ≤ length (now buf)) ⌝ }
     ensures { λ r. ⌜ (r ≡ length (lineText (clauseAt (programIn (t .sizes) (now (heads .entry)) (now (starts .entry)) (now (bodies .entry))) (t .sizes .w) g a i y))) × (now (buf .exit) ≡ lineText (clauseAt (programIn (t .sizes) (now (heads .entry)) (now (starts .entry)) (now (bodies .entry))) (t .sizes .w) g a i y) ++ drop r (now (buf .entry))) ⌝ }
 {
+    if g == 5 {
+        let c = chain_at(t, heads, starts, bodies, before, partners, owners, g, a, i);
+        return put_chain(c, chain_bit(t.sizes.w, i), y, &mut *buf);
+    }
     let k = slots(
         t,
         heads,
@@ -183,11 +208,10 @@ pub fn put_clause<'a>(
         i,
         y,
     );
-    let c = chain_at(t, heads, starts, bodies, before, partners, owners, g, a, i);
     let mut l: u16 = 0;
     let mut to: usize = 0;
     while l < k {
-        let x = literal_in(
+        let x = slot(
             t,
             heads,
             starts,
@@ -195,7 +219,6 @@ pub fn put_clause<'a>(
             before,
             partners,
             owners,
-            c,
             g,
             a,
             i,

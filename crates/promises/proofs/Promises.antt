@@ -5,7 +5,7 @@
 --   3  Demand 3 for assignments: stable models and satisfying assignments correspond, one to one
 --   4  Demand 1 for program texts: what the reader answers to any bytes (document 01, "Program text" and rows 1 to 7)
 --   5  The clause file's lines: what the line call and the call for a run of lines answer and write, for any bytes (rows 8 and 9)
---   6  Solver answers: the form, and where a text leaves it (document 01, "Solver answer" and row 11)
+--   6  Solver answers: the form, where a text leaves it, and its assignment (document 01, "Solver answer" and rows 11, 13, 14 and 15)
 --   7  Document 01's examples and wrong turns
 --   8  Contracts: each public function meets its own
 -- Nothing is assumed: a hypothesis of a statement is met by every well-formed program, and those of sections 4 to 6 hold for any bytes.
@@ -182,6 +182,16 @@ use Rattle.answer_reader.proofs.form.Met.{met as answer-form·met}
 use Rattle.answer_reader.specs.declared.Formed.the-variants.{Model, NoModel, Malformed as LeftForm}
 use Rattle.answer_reader.specs.Results.{formOf}
 use Rattle.answer_reader.proofs.Promised.{IsModel as IsModelText, form-malformed, malformed-form, form-model, model-form, form-none, none-form}
+use Rattle.assigning.proofs.fill.Statement.{statement as assigning-fill·statement}
+use Rattle.assigning.proofs.fill.Met.{met as assigning-fill·met}
+use Rattle.assigning.proofs.assign.Statement.{statement as assigning-assign·statement}
+use Rattle.assigning.proofs.assign.Met.{met as assigning-assign·met}
+use Rattle.assigning.proofs.first_unset.Statement.{statement as assigning-first-unset·statement}
+use Rattle.assigning.proofs.first_unset.Met.{met as assigning-first-unset·met}
+use Rattle.assigning.specs.Assign.{Outcome, literalsFrom, assignedOf, assignedBytes, firstUnset, filledWith}
+use Rattle.assigning.specs.Assign as Assign
+use Rattle.assigning.proofs.Steps.{literalAt, variableAt, Named}
+use Rattle.assigning.proofs.Rows.{AllFit, StrayAt, RepeatedAt, Missing, literals-named, assigned-stray, stray-assigned, assigned-repeated, repeated-assigned, assigned-done, done-assigned, named-value, missing-unset, unset-nothing, nothing-unset}
 use Rattle.answers.specs.Answer.{Answer, proper, answerText}
 use Rattle.answers.specs.Answer as Answers
 use Rattle.answers.proofs.Spot as AnswerSpot
@@ -538,6 +548,33 @@ answer-text t =
       no-model = (form-none t, λ w. none-form t (w .0) (w .1));
     }
 
+-- the literals of an answer from position p on, assigned one after the other to n variables without values
+pub record Assigning (t : List ℕ) (p n : ℕ) (b : List ℕ) : Type 0 where
+  -- the outcome is stray at s exactly if the first literal that is above n or names a variable once more is above n, and its first byte is at s
+  pub stray : (s : ℕ) → (assignedOf n (literalsFrom t p) (filledWith n 2 b) ≡ Outcome.stray s) ↔ StrayAt n (literalsFrom t p) s
+  -- it is repeated at s exactly if that literal names a variable once more
+  pub repeated : (s : ℕ) → (assignedOf n (literalsFrom t p) (filledWith n 2 b) ≡ Outcome.repeated s) ↔ RepeatedAt n (literalsFrom t p) s
+  -- it is done exactly if each literal is of a variable from 1 to n and none is named twice
+  pub done : (assignedOf n (literalsFrom t p) (filledWith n 2 b) ≡ Outcome.done) ↔ AllFit n (literalsFrom t p)
+  -- then the byte of a variable that a literal names is 1 if the literal is positive, 0 if it is negative
+  pub values : AllFit n (literalsFrom t p) → (k : ℕ) → k < length (literalsFrom t p)
+      → getD (assignedBytes n (literalsFrom t p) (filledWith n 2 b)) (variableAt (literalsFrom t p) k - 1) 0 ≡ Assign.valueOf (literalAt (literalsFrom t p) k)
+  -- and the first variable without a value is the smallest that no literal names; there is none exactly if each is named
+  pub missing : AllFit n (literalsFrom t p) → (v : ℕ) → Missing n (literalsFrom t p) v → firstUnset n (assignedBytes n (literalsFrom t p) (filledWith n 2 b)) ≡ v
+  pub none-missing : AllFit n (literalsFrom t p)
+      → (firstUnset n (assignedBytes n (literalsFrom t p) (filledWith n 2 b)) ≡ 0) ↔ ((v : ℕ) → zero < v → v ≤ n → Named (literalsFrom t p) v)
+
+pub assigning : (t : List ℕ) (p n : ℕ) (b : List ℕ) → Assigning t p n b
+assigning t p n b =
+    record {
+      stray = λ s. (assigned-stray n (literalsFrom t p) b (literals-named t p) s, stray-assigned n (literalsFrom t p) b (literals-named t p) s);
+      repeated = λ s. (assigned-repeated n (literalsFrom t p) b (literals-named t p) s, repeated-assigned n (literalsFrom t p) b (literals-named t p) s);
+      done = (assigned-done n (literalsFrom t p) b (literals-named t p), done-assigned n (literalsFrom t p) b (literals-named t p));
+      values = named-value n (literalsFrom t p) b (literals-named t p);
+      missing = missing-unset n (literalsFrom t p) b (literals-named t p);
+      none-missing = λ f. (unset-nothing n (literalsFrom t p) b (literals-named t p) f, nothing-unset n (literalsFrom t p) b (literals-named t p) f);
+    }
+
 -- ---- 7 Examples and wrong turns
 
 -- document 01's starred examples, with every V, C, level, set and spot that it gives, computed from the definitions
@@ -728,7 +765,7 @@ pub record Lines (M : Type 1) : Type 2 where
 pub lines : (M : Type 1) → Lines M
 lines M = record { line = line·met; run = run·met; line-number-of = line-number-of·met; line-spot-of = line-spot-of·met; put-lines = put-lines·met; put-clause = put-clause·met; clause-length = clause-length·met; put-header = put-header·met; header-length = header-length·met; put-refusal = put-refusal·met; put-word = put-word·met; literal-number = literal-number·met; read-counted = read-counted·met }
 
--- answer_reader
+-- answer_reader, assigning
 pub record AnswerReader (M : Type 1) : Type 2 where
   -- the status of a solver answer, the next literal from a position on, and what follows literal 0, for any bytes
   pub status : answer-status·statement M
@@ -736,6 +773,10 @@ pub record AnswerReader (M : Type 1) : Type 2 where
   pub close : answer-close·statement M
   -- the form of the whole answer is `formOf`
   pub form : answer-form·statement M
+  -- its literals, assigned to a lent buffer of which the other bytes stay; the first variable without a value; the first bytes of a buffer
+  pub assign : assigning-assign·statement M
+  pub first-unset : assigning-first-unset·statement M
+  pub fill : assigning-fill·statement M
 
 pub answer-reader : (M : Type 1) → AnswerReader M
-answer-reader M = record { status = answer-status·met; next-literal = answer-next-literal·met; close = answer-close·met; form = answer-form·met }
+answer-reader M = record { status = answer-status·met; next-literal = answer-next-literal·met; close = answer-close·met; form = answer-form·met; assign = assigning-assign·met; first-unset = assigning-first-unset·met; fill = assigning-fill·met }

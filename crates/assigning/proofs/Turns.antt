@@ -1,0 +1,86 @@
+-- One turn of each loop over a buffer, and its end.
+--   fill-none, fill-goes, fill-all         no byte is filled; one more is; all are
+--   unset-more, unset-here, unset-nowhere  the byte at i has a value; it has none; each has one
+--   unset-first                            what the first variable without a value is
+-- Assumes nothing.
+use Prim.Native.Nat.{ℕ, zero, suc, _+_, _-_, _≤_, _<_}
+use native.Mathlib.Numerals.{add-one}
+use native.Mathlib.Omega.{arith}
+use mathlib.Core.Path.{_≡_, refl, sym, _∙_, ap, subst}
+use mathlib.Core.Bool.{Bool, true, false, So}
+use mathlib.Core.List.{List, _∷_, _++_}
+use lib.Dec.{eqb, ltb}
+use lib.ListN.{length, getD, set, drop, replicate, length-replicate}
+use lib.Seq.{drop-cons, set-at}
+use borrow.Author.Tests.{eq-eqb, ne-eqb, eqb-true, eqb-false, ltb-true, ltb-false}
+use Rattle.lists.specs.Lists.{first}
+use Rattle.lists.proofs.First.{IsFirst, first-is, first-pos, first-le, first-none}
+use Rattle.assigning.specs.Assign.{firstUnset, filledWith}
+
+-- ---- filling
+
+one-more : (i x : ℕ) (ys : List ℕ) → replicate i x ++ (x ∷ ys) ≡ x ∷ (replicate i x ++ ys)
+one-more zero x ys = refl
+one-more (suc i) x ys = ap (λ (zs : List ℕ). x ∷ zs) (one-more i x ys)
+
+pub fill-none : (b : List ℕ) (x : ℕ) → b ≡ filledWith 0 x b
+unfolding filledWith
+fill-none b x = refl
+
+pub fill-goes : (b c : List ℕ) (i x : ℕ) → i < length b → c ≡ filledWith i x b → set c i x ≡ filledWith (i + 1) x b
+unfolding filledWith
+fill-goes b c i x h e =
+    ap (λ (d : List ℕ). set d i x) (e ∙ ap (λ (d : List ℕ). replicate i x ++ d) (drop-cons b i 0 h))
+    ∙ set-at (replicate i x) (getD b i 0) (drop (suc i) b) x i (length-replicate i x) ∙ one-more i x (drop (suc i) b)
+    ∙ ap (λ (k : ℕ). filledWith k x b) (sym (add-one i))
+
+pub fill-all : (b c : List ℕ) (i n x : ℕ) → i ≤ n → n ≤ i → c ≡ filledWith i x b → c ≡ filledWith n x b
+fill-all b c i n x h g e = e ∙ ap (λ (k : ℕ). filledWith k x b) (omega (arith, h, g))
+
+-- ---- the first byte without a value
+
+-- the bytes below i have values
+abbrev pub SetBelow : List ℕ → ℕ → Type 0
+SetBelow b i = (k : ℕ) → k < i → getD b k 0 ≡ 2 → ⊥
+
+unsetAt : List ℕ → ℕ → Bool
+unsetAt b v = eqb (getD b (v - 1) 0) 2
+
+unset-is : (n : ℕ) (b : List ℕ) → firstUnset n b ≡ first n (unsetAt b)
+unfolding firstUnset unsetAt
+unset-is n b = refl
+
+unset-at : (b : List ℕ) (i : ℕ) → unsetAt b (suc i) ≡ eqb (getD b i 0) 2
+unfolding unsetAt
+unset-at b i = ap (λ (k : ℕ). eqb (getD b k 0) 2) (omega arith)
+
+pub unset-more : (b : List ℕ) (i : ℕ) → SetBelow b i → (getD b i 0 ≡ 2 → ⊥) → SetBelow b (i + 1)
+unset-more b i below here k h = go (eqb k i) refl
+  where
+    go : (d : Bool) → eqb k i ≡ d → getD b k 0 ≡ 2 → ⊥
+    go true e q = here (subst (λ (j : ℕ). getD b j 0 ≡ 2) (eqb-true k i e) q)
+    go false e q =
+        let other : k ≡ i → ⊥ = eqb-false k i e in
+        below k (omega (arith, h, other)) q
+
+pub unset-here : (n : ℕ) (b : List ℕ) (i : ℕ) → SetBelow b i → i < n → getD b i 0 ≡ 2 → i + 1 ≡ firstUnset n b
+unset-here n b i below h e = go (first n (unsetAt b)) refl ∙ sym (unset-is n b)
+  where
+    here : So (unsetAt b (suc i))
+    here = unset-at b i ∙ eq-eqb (getD b i 0) 2 e
+
+    go : (f : ℕ) → first n (unsetAt b) ≡ f → i + 1 ≡ first n (unsetAt b)
+    go zero p = absurd (omega (arith, p, first-pos n (unsetAt b) i h here))
+    go (suc j) p = later j p (ltb j i) refl
+      where
+        later : (j : ℕ) → first n (unsetAt b) ≡ suc j → (d : Bool) → ltb j i ≡ d → i + 1 ≡ first n (unsetAt b)
+        later j p true l =
+            absurd (below j (ltb-true j i l) (eqb-true (getD b j 0) 2 (sym (unset-at b j) ∙ subst (λ (f : ℕ). So (unsetAt b f)) p (first-is n (unsetAt b) .passes (omega (arith, p))))))
+        later j p false l = omega (arith, p, ltb-false j i l, first-le n (unsetAt b) i h here)
+
+pub unset-nowhere : (n : ℕ) (b : List ℕ) (i : ℕ) → SetBelow b i → n ≤ i → 0 ≡ firstUnset n b
+unset-nowhere n b i below h = sym (unset-is n b ∙ first-none n (unsetAt b) (λ j l. unset-at b j ∙ ne-eqb (getD b j 0) 2 (below j (omega (arith, h, l)))))
+
+pub unset-first : (n : ℕ) (b : List ℕ) → IsFirst n (λ v. eqb (getD b (v - 1) 0) 2) (firstUnset n b)
+unfolding firstUnset
+unset-first n b = first-is n (λ v. eqb (getD b (v - 1) 0) 2)

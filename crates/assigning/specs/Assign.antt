@@ -1,0 +1,101 @@
+-- An answer's literals, assigned one after the other to a buffer of bytes (document 01, "Check and filling out"; rows 13, 14 and 15). The byte of
+-- variable v stands at v - 1: 1 or 0 is its value, 2 says that it has none yet. n is the number of variables.
+--   literalsFrom t p      the literals of t from position p on, with the indices of their first bytes
+--   valueOf l             the value that l gives its variable
+--   putOutcome n v s b    what it is to give a value to variable v, whose literal's first byte is s: stray, repeated or done
+--   putBytes n v x b      the buffer after it, where the value is x
+--   assignedOf n xs b     the first outcome of the literals xs that is not done
+--   assignedBytes n xs b  the buffer at that moment
+--   firstUnset n b        the smallest variable that has no value, 0 if each has one
+--   filledWith n x b      b with x in its first n places
+--   numberValue x         the value that the literal with number x gives
+--   assignedFor o         the code's answer for an outcome
+-- Assumes nothing.
+use Prim.Native.Nat.{ℕ, zero, suc, _-_}
+use mathlib.Core.Bool.{cond}
+use mathlib.Core.List.{List, [], _∷_, _++_}
+use lib.Dec.{eqb, ltb}
+use lib.IntN.{ℤ}
+use lib.ListN.{length, getD, set, drop, replicate}
+use Rattle.lists.specs.Lists.{first}
+use Rattle.encoding.specs.Literal.{Literal, variable}
+use Literal.{var, −_}
+use Rattle.literals.specs.Signed.{isNegative}
+use Rattle.answers.specs.Reading.{Next, nextLiteral, Spotted}
+use Rattle.assigning.specs.declared.Assigned.{Assigned}
+use Rattle.assigning.specs.declared.Assigned.the-variants.{Done, Stray, Repeated}
+
+-- ---- literals
+
+-- a literal and those from the position behind it on
+abbrev pub literalThen : Next → (ℕ → List Spotted) → List Spotted
+literalThen (Next.literal l first behind) rest = record { literal = l; first = first } ∷ rest behind
+literalThen (Next.last behind) rest = []
+literalThen (Next.left spot) rest = []
+
+-- no more than f literals
+unfoldable pub literalsWithin : ℕ → List ℕ → ℕ → List Spotted
+literalsWithin zero t p = []
+literalsWithin (suc f) t p = literalThen (nextLiteral t p) (literalsWithin f t)
+
+unfoldable pub literalsFrom : List ℕ → ℕ → List Spotted
+literalsFrom t p = literalsWithin (length t) t p
+
+abbrev pub valueOf : Literal → ℕ
+valueOf (var v) = 1
+valueOf (− v) = 0
+
+-- ---- one literal
+
+pub data Outcome : Type 0 where
+  done : Outcome
+  stray : (spot : ℕ) → Outcome
+  repeated : (spot : ℕ) → Outcome
+
+unfoldable pub putOutcome : ℕ → ℕ → ℕ → List ℕ → Outcome
+putOutcome n v s b = cond (ltb n v) (Outcome.stray s) (cond (eqb (getD b (v - 1) 0) 2) Outcome.done (Outcome.repeated s))
+
+unfoldable pub putBytes : ℕ → ℕ → ℕ → List ℕ → List ℕ
+putBytes n v x b = cond (ltb n v) b (cond (eqb (getD b (v - 1) 0) 2) (set b (v - 1) x) b)
+
+-- ---- one after the other
+
+-- the first of two outcomes that is not done
+abbrev pub thenOutcome : Outcome → Outcome → Outcome
+thenOutcome Outcome.done o = o
+thenOutcome (Outcome.stray s) o = Outcome.stray s
+thenOutcome (Outcome.repeated s) o = Outcome.repeated s
+
+-- the buffer later on if the outcome is done, else the buffer now
+abbrev pub thenBytes : Outcome → List ℕ → List ℕ → List ℕ
+thenBytes Outcome.done later b = later
+thenBytes (Outcome.stray s) later b = b
+thenBytes (Outcome.repeated s) later b = b
+
+abbrev pub assignedOf : ℕ → List Spotted → List ℕ → Outcome
+assignedOf n [] b = Outcome.done
+assignedOf n (x ∷ xs) b =
+    thenOutcome (putOutcome n (variable (x .literal)) (x .first) b) (assignedOf n xs (putBytes n (variable (x .literal)) (valueOf (x .literal)) b))
+
+abbrev pub assignedBytes : ℕ → List Spotted → List ℕ → List ℕ
+assignedBytes n [] b = b
+assignedBytes n (x ∷ xs) b =
+    thenBytes (putOutcome n (variable (x .literal)) (x .first) b) (assignedBytes n xs (putBytes n (variable (x .literal)) (valueOf (x .literal)) b)) b
+
+-- ---- the whole buffer
+
+unfoldable pub firstUnset : ℕ → List ℕ → ℕ
+firstUnset n b = first n (λ v. eqb (getD b (v - 1) 0) 2)
+
+unfoldable pub filledWith : ℕ → ℕ → List ℕ → List ℕ
+filledWith n x b = replicate n x ++ drop n b
+
+-- ---- for the code
+
+abbrev pub numberValue : ℤ → ℕ
+numberValue x = cond (isNegative x) 0 1
+
+abbrev pub assignedFor : Outcome → Assigned
+assignedFor Outcome.done = Done
+assignedFor (Outcome.stray s) = Stray s
+assignedFor (Outcome.repeated s) = Repeated s

@@ -1,0 +1,112 @@
+-- The line of a chain's clause, literal by literal.
+--   text-chain, chain-fits, chain-next, chain-end    one literal more, and the end, in a buffer that has room for the line
+--   chain-clause, chain-asks, chain-put              it is the clause of the walk, in group 5
+-- Assumes nothing.
+use Prim.Native.Nat.{ℕ, zero, suc, _+_, _≤_, _<_}
+use native.Mathlib.Nat.{le-antisymm}
+use native.Mathlib.Numerals.{add-one}
+use native.Mathlib.Omega.{arith}
+use mathlib.Core.Path.{_≡_, refl, sym, _∙_, ap, ap₂, subst}
+use mathlib.Core.Bool.{Bool, true, false, cond}
+use mathlib.Core.List.{List, [], _∷_, _++_, append-assoc}
+use lib.Dec.{eqb}
+use lib.ListN.{length, drop, set}
+use borrow.Author.Tests.{ne-eqb}
+use Rattle.lists.specs.Lists.{each}
+use Rattle.lists.proofs.Tables.{each-ext}
+use Rattle.meaning.specs.Program.{Program}
+use Rattle.encoding.specs.Literal.{Literal, var, −_, variable}
+use Rattle.digits.specs.Bytes.{literalsText, lineText}
+use Rattle.digits.proofs.Lengths.{literals-append, line-length}
+use Rattle.digits.proofs.Begins.{Begins, begins-same, begins-byte}
+use Rattle.walk.specs.Walk.{slots, slot, clauseAt, chainSlots, chainSlot, chainBit, At}
+use Rattle.slots.specs.declared.Signed.{Signed}
+use Rattle.slots.specs.declared.Chain.{Chain}
+use Rattle.slots.specs.Signed.{literalIn, held}
+use Rattle.tables.specs.declared.Totals.{Totals}
+use Rattle.tables.specs.Tables.{Tabled}
+use Rattle.table_laws.proofs.Bounds.{Slotted, empty, holds}
+use Rattle.layout.specs.RowChain.{chainAt}
+use Rattle.layout.proofs.Groups.{slots-pair}
+use Rattle.layout.proofs.RowChains.{literal-pair}
+use Rattle.printing.specs.Lines.{literalsIn, shown, chainClause}
+use Rattle.printing.proofs.Clause.{each-fits, slotted}
+
+-- what is shown of a literal that code has
+shown-is : (x : Signed) → literalsIn x ≡ shown (literalIn x)
+shown-is x = go (x .positive)
+  where
+    go : (d : Bool) → cond (eqb (x .var .0) 0) [] (cond d (var (x .var .0)) (− (x .var .0)) ∷ []) ≡ shown (cond d (var (x .var .0)) (− (x .var .0)))
+    go true = refl
+    go false = refl
+
+shown-held : (ls : List Literal) → Slotted ls → shown (held ls) ≡ ls
+shown-held ls (empty q) = ap (λ (zs : List Literal). shown (held zs)) q ∙ sym q
+shown-held ls (holds x q p h) =
+    ap (λ (zs : List Literal). shown (held zs)) q
+    ∙ ap (λ (d : Bool). cond d [] (x ∷ [])) (ne-eqb (variable x) 0 (λ e. omega (arith, e, p))) ∙ sym q
+
+module _ (c : Chain) (i y : ℕ) where
+  -- the literal in slot l, and the text of the first l slots
+  abbrev at : ℕ → List Literal
+  at l = shown (chainSlot (c .z .0) (c .x .0) (c .y .0) (c .g .0) i y l)
+
+  abbrev text : ℕ → List ℕ
+  text l = literalsText (each l at)
+
+  module _ (x : Signed) {k l : ℕ} (e : k ≡ chainSlots i y) (h : l < k) (q : literalIn x ≡ chainSlot (c .z .0) (c .x .0) (c .y .0) (c .g .0) i y (l + 1)) where
+    text-more : text (l + 1) ≡ text l ++ literalsText (literalsIn x)
+    text-more =
+        ap text (add-one l) ∙ literals-append (each l at) (at (suc l))
+        ∙ ap (λ (zs : List Literal). text l ++ literalsText zs) (ap at (sym (add-one l)) ∙ ap shown (sym q) ∙ sym (shown-is x))
+
+    more : l + 1 ≤ chainSlots i y
+    more = omega (arith, h, e)
+
+    pub chain-fits : {n : ℕ} → length (lineText (chainClause c i y)) ≤ n → length (text l ++ literalsText (literalsIn x)) ≤ n
+    chain-fits {n} f =
+        subst (λ (t : List ℕ). length t ≤ n) text-more
+        (omega (arith, each-fits at (l + 1) (chainSlots i y) more, line-length (chainClause c i y), f))
+
+    pub chain-next : {b d : List ℕ} {to : ℕ} → Begins b d (text l ++ literalsText (literalsIn x)) to → Begins b d (text (l + 1)) to
+    chain-next B = begins-same B (sym text-more)
+
+  module _ {b d : List ℕ} {k l to : ℕ} (f : length (lineText (chainClause c i y)) ≤ length b) (e : k ≡ chainSlots i y) (h : l ≤ k) (n : k ≤ l) (B : Begins b d (text l) to) where
+    whole : Begins b d (literalsText (chainClause c i y)) to
+    whole = subst (λ (j : ℕ). Begins b d (text j) to) (le-antisymm h n ∙ e) B
+
+    pub chain-room : to + 2 ≤ length d
+    chain-room = omega (arith, whole .place, line-length (chainClause c i y), f, B .same)
+
+    pub chain-end : (u v : ℕ) → u ≡ 48 → v ≡ 10 → Begins b (set (set d to u) (to + 1) v) (lineText (chainClause c i y)) (to + 2)
+    chain-end u v p q =
+        subst (λ (m : ℕ). Begins b (set (set d to u) (to + 1) v) (lineText (chainClause c i y)) m) (two-more to)
+        (begins-same (begins-byte (begins-byte whole u (omega (arith, chain-room, B .same))) v (omega (arith, chain-room, B .same))) line-is)
+      where
+        two-more : (m : ℕ) → m + 1 + 1 ≡ m + 2
+        two-more m = omega arith
+
+        line-is : (literalsText (chainClause c i y) ++ (u ∷ [])) ++ (v ∷ []) ≡ lineText (chainClause c i y)
+        line-is =
+            append-assoc (literalsText (chainClause c i y)) (u ∷ []) (v ∷ [])
+            ∙ ap₂ (λ (u v : ℕ). literalsText (chainClause c i y) ++ (u ∷ v ∷ [])) p q
+
+-- in group 5
+module _ {P : Program} {t : Totals} {hs ss bs ks xs ys : List ℕ} (T : Tabled P t hs ss bs ks xs ys) {g a i y : ℕ} (A : At P (t .sizes .w) g a i y) where
+  pub chain-clause : {c : Chain} {j : ℕ} → g ≡ 5 → c ≡ chainAt P (t .sizes .w) g a i → j ≡ chainBit (t .sizes .w) i
+      → chainClause c j y ≡ clauseAt P (t .sizes .w) g a i y
+  chain-clause {c} {j} e p q =
+      each-ext (chainSlots j y) (λ l. shown (chainSlot (c .z .0) (c .x .0) (c .y .0) (c .g .0) j y l)) (slot P (t .sizes .w) g a i y)
+      (λ l h. ap shown (literal-pair T (A .row-at) y (suc l) e p q refl) ∙ shown-held (slot P (t .sizes .w) g a i y (suc l)) (slotted T A (suc l) (omega arith) (subst (λ (n : ℕ). suc l ≤ n) many h)))
+      ∙ ap (λ (n : ℕ). each n (slot P (t .sizes .w) g a i y)) many
+    where
+      many : chainSlots j y ≡ slots P (t .sizes .w) g a i y
+      many = slots-pair T A e q refl
+
+  module _ {c : Chain} {j : ℕ} (e : g ≡ 5) (p : c ≡ chainAt P (t .sizes .w) g a i) (q : j ≡ chainBit (t .sizes .w) i) where
+    pub chain-asks : {n : ℕ} → length (lineText (clauseAt P (t .sizes .w) g a i y)) ≤ n → length (lineText (chainClause c j y)) ≤ n
+    chain-asks {n} f = subst (λ (ls : List Literal). length (lineText ls) ≤ n) (sym (chain-clause e p q)) f
+
+    pub chain-put : (b : List ℕ) {r : ℕ} {d : List ℕ} → (r ≡ length (lineText (chainClause c j y))) × (d ≡ lineText (chainClause c j y) ++ drop r b)
+        → (r ≡ length (lineText (clauseAt P (t .sizes .w) g a i y))) × (d ≡ lineText (clauseAt P (t .sizes .w) g a i y) ++ drop r b)
+    chain-put b {r} {d} u = subst (λ (ls : List Literal). (r ≡ length (lineText ls)) × (d ≡ lineText ls ++ drop r b)) (chain-clause e p q) u
