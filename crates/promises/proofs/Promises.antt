@@ -8,7 +8,8 @@
 --   6  Solver answers: the form, where a text leaves it, and its assignment (document 01, "Solver answer" and rows 11, 13, 14 and 15)
 --   7  Document 01's examples and wrong turns
 --   8  Contracts: each public function meets its own
--- Nothing is assumed: a hypothesis of a statement is met by every well-formed program, and those of sections 4 to 6 hold for any bytes.
+-- Nothing is assumed: a hypothesis of sections 1 to 3 is met by every well-formed program, that of `clause-file` by the program of every accepted text,
+-- and the other statements of sections 4 to 6 hold for any bytes. A function of section 8 may ask for a bound or for tables; its contract in src/ says so.
 use Prim.Native.Nat.{ℕ, zero, suc, pred, _+_, _-_, _*_, _^_, _%_, _≤_, _<_}
 use mathlib.Core.Path.{_≡_, sym, _∙_, ap}
 use mathlib.Core.Logic.{_↔_, _⊎_}
@@ -515,7 +516,8 @@ pub record RunCall (t : List ℕ) (j : ℕ) (b : List ℕ) : Type 0 where
 pub run-call : (t : List ℕ) (j : ℕ) (b : List ℕ) → RunCall t j b
 run-call t j b = record { refused = run-refused-as t j (length b); stays = run-stays t j b; written = run-writes t j b }
 
--- the writer has at most 65,537 bytes of its input at hand, and the input's length: that gives the reader's answer to the whole input
+-- the first 65,537 bytes of an input and its length give the reader's answer to the whole input; that the writer hands over these two is not stated here,
+-- since what standard input holds is not part of the definitions
 pub counted-input : (t : List ℕ) → countedOf (take 65537 t) (length t) ≡ readOf t
 counted-input = counted-whole
 
