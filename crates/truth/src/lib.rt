@@ -22,7 +22,7 @@ ghost use Rattle.printing.specs.Lines.{literalsIn};
 ghost use Rattle.truth.specs.Truth.{valueIn, numberTrue, firstFalse};
 
 // Whether variable v has 1.
-fn value_of(assignment: &[u8], v: usize) -> bool
+pub fn value_of(assignment: &[u8], v: usize) -> bool
     requires { ⌜ (0 < v) × (v ≤ length (now assignment)) ⌝ }
     ensures { λ r. ⌜ r ≡ valueIn (now (assignment .entry)) v ⌝ }
 {

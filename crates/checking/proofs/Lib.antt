@@ -1,0 +1,3 @@
+pub mod Agree
+pub mod Rows
+pub mod Open

@@ -1,0 +1,288 @@
+-- The result of the check, by the tests that the code makes.
+--   gives-refused, gives-zeroed    what a refusal answers and leaves
+--   judged-missing, judged-false, judged-accepted   rows 15 and 16, and acceptance
+--   assigned-judged, assigned-stray, assigned-repeated   rows 13 and 14, then these
+--   short-assignment, short-levels, overlong, form-malformed, form-none, form-model   rows 8, 10, 11 and 12, then these
+-- Assumes nothing.
+use Prim.Native.Nat.{ℕ, suc, _+_, _-_, _*_, _≤_, _<_}
+use native.Mathlib.Omega.{arith}
+use mathlib.Core.Path.{_≡_, refl, sym, _∙_, ap, ap₂, subst}
+use mathlib.Core.Bool.{Bool, true, false, So, cond}
+use mathlib.Core.List.{List, _++_}
+use lib.Dec.{ltb}
+use lib.ListN.{length, getD, take, drop, replicate, take-append-drop, length-replicate}
+use lib.Seq.{take-at, drop-at}
+use borrow.Author.Tests.{lt-ltb, le-ltb}
+use Rattle.lists.specs.Lists.{tab}
+use Rattle.lists.proofs.Tables.{length-tab, getD-here}
+use Rattle.meaning.specs.Program.{Program}
+use Rattle.encoding.specs.Width.{width}
+use Rattle.encoding.specs.Fill.{counter}
+use Rattle.encoding.specs.Clauses.{sizes, variables}
+use Rattle.literals.specs.declared.Sizes.{Sizes}
+use Rattle.literals.specs.Sizes.{sizesOf, Bounded}
+use Rattle.answer_reader.specs.declared.Formed.{Formed}
+use Rattle.answer_reader.specs.declared.Formed.the-variants.{Model as FormModel, NoModel, Malformed}
+use Rattle.answer_reader.specs.Results.{formOf}
+use Rattle.assigning.specs.declared.Assigned.{Assigned}
+use Rattle.assigning.specs.declared.Assigned.the-variants.{Done, Stray, Repeated}
+use Rattle.assigning.specs.Assign.{Outcome, literalsFrom, assignedOf, assignedBytes, firstUnset, filledWith, assignedFor}
+use Rattle.answers.specs.Reading.{Spotted}
+use Rattle.assigning.proofs.Steps.{rest-kept}
+use Rattle.assigning.proofs.Rows.{literals-named}
+use Rattle.offering.proofs.Values.{any-outcome, any-bytes}
+use Rattle.tables.specs.declared.Totals.{Totals}
+use Rattle.tables.specs.Tables.{countersOf, totalsOf, Tabled}
+use Rattle.table_laws.proofs.Elements.{vars-are, bounded}
+use Rattle.table_laws.proofs.Bounds.{variables-fit}
+use Rattle.truth.specs.Truth.{valueIn, firstFalse}
+use Rattle.results.specs.Results.{Result, trueCount, highest, levelIn, counters, assignmentAfter, levelsAfter}
+use Rattle.checking.specs.declared.CheckRefusal.{CheckRefusal}
+use Rattle.checking.specs.declared.CheckRefusal.the-variants.{Text, ShortBuffer, OverlongAnswer, MalformedAnswer, NoModelOffered, StrayVariable, RepeatedVariable, MissingVariable, FalseClause}
+use Rattle.checking.specs.declared.CheckVerdict.{CheckVerdict}
+use Rattle.checking.specs.declared.CheckVerdict.the-variants.{Model, Refused}
+use Rattle.checking.specs.Check.{zeroes, varTotal, refuse, judged, noValues, afterAssigning, assignedResult, formResult, answerResult, checkResult, verdictOf, Gives}
+use Rattle.checking.proofs.Agree.{highest-same, unset-front, false-front, true-front, counters-front}
+
+-- ---- refusals
+
+module _ (P : Program) {x : Result CheckRefusal} {q : CheckRefusal} (e : x ≡ refuse q) (b l : List ℕ) where
+  -- one that writes nothing
+  pub gives-refused : zeroes q ≡ false → Gives P x (Refused q) b b l l
+  gives-refused z =
+      subst (λ (y : Result CheckRefusal). Gives P y (Refused q) b b l l) (sym e) (refl, sym (ap (λ d. cond d (filledWith (varTotal P) 0 b) b) z), refl)
+
+  -- one that leaves zeros
+  pub gives-zeroed : zeroes q ≡ true → {r : CheckVerdict} {c : List ℕ} → (r ≡ Refused q) × (c ≡ filledWith (varTotal P) 0 b) → Gives P x r b c l l
+  gives-zeroed z {r} {c} u =
+      subst (λ (y : Result CheckRefusal). Gives P y r b c l l) (sym e) (u .0, u .1 ∙ sym (ap (λ d. cond d (filledWith (varTotal P) 0 b) b) z), refl)
+
+-- ---- rows 15 and 16
+
+module _ (P : Program) (bs : List ℕ) where
+  -- by the two tests
+  abbrev judgedBy : Bool → Bool → Result CheckRefusal
+  judgedBy d f =
+      cond d (refuse (MissingVariable (firstUnset (varTotal P) bs)))
+      (cond f (refuse (FalseClause (firstFalse P bs))) (Result.accepted bs (counters (sizes P (width (P .atoms))) bs)))
+
+  judged-by : {d f : Bool} → ltb 0 (firstUnset (varTotal P) bs) ≡ d → ltb 0 (firstFalse P bs) ≡ f → judged P bs ≡ judgedBy d f
+  unfolding judged
+  judged-by p q = ap₂ judgedBy p q
+
+  judged-15 : 0 < firstUnset (varTotal P) bs → judged P bs ≡ refuse (MissingVariable (firstUnset (varTotal P) bs))
+  judged-15 h = judged-by (lt-ltb 0 (firstUnset (varTotal P) bs) h) refl
+
+  judged-16 : firstUnset (varTotal P) bs ≤ 0 → 0 < firstFalse P bs → judged P bs ≡ refuse (FalseClause (firstFalse P bs))
+  judged-16 h g = judged-by (le-ltb 0 (firstUnset (varTotal P) bs) h) (lt-ltb 0 (firstFalse P bs) g)
+
+  judged-none : firstUnset (varTotal P) bs ≤ 0 → firstFalse P bs ≤ 0 → judged P bs ≡ Result.accepted bs (counters (sizes P (width (P .atoms))) bs)
+  judged-none h g = judged-by (le-ltb 0 (firstUnset (varTotal P) bs) h) (le-ltb 0 (firstFalse P bs) g)
+
+  -- whatever it is, it leaves nothing of the first V bytes of the buffer
+  judged-rest : (b c : List ℕ) → drop (varTotal P) b ≡ drop (varTotal P) c
+      → assignmentAfter zeroes (varTotal P) (judged P bs) b ≡ assignmentAfter zeroes (varTotal P) (judged P bs) c
+  unfolding judged filledWith
+  judged-rest b c e = go (ltb 0 (firstUnset (varTotal P) bs)) (ltb 0 (firstFalse P bs))
+    where
+      go : (d f : Bool) → assignmentAfter zeroes (varTotal P) (judgedBy d f) b ≡ assignmentAfter zeroes (varTotal P) (judgedBy d f) c
+      go true f = ap (λ (y : List ℕ). replicate (varTotal P) 0 ++ y) e
+      go false true = ap (λ (y : List ℕ). replicate (varTotal P) 0 ++ y) e
+      go false false = ap (λ (y : List ℕ). bs ++ y) e
+
+-- ---- the outcome of assigning, from the code's answer
+
+abbrev toOutcome : Assigned → Outcome
+toOutcome Done = Outcome.done
+toOutcome (Stray s) = Outcome.stray s
+toOutcome (Repeated s) = Outcome.repeated s
+
+from-answer : (o : Outcome) {y : Assigned} → assignedFor o ≡ y → o ≡ toOutcome y
+from-answer o e = there o ∙ ap toOutcome e
+  where
+    there : (o : Outcome) → o ≡ toOutcome (assignedFor o)
+    there Outcome.done = refl
+    there (Outcome.stray s) = refl
+    there (Outcome.repeated s) = refl
+
+-- ---- the same, with the totals at hand
+
+levels-room : (P : Program) {b : ℕ} → varTotal P ≤ b → countersOf P .n + 2 * countersOf P .m + countersOf P .n * countersOf P .w ≤ b
+unfolding variables
+levels-room P h = omega (arith, h)
+
+module _ {P : Program} {t : Totals} {hs ss bs ks xs ys : List ℕ} (T : Tabled P t hs ss bs ks xs ys) where
+  sizes-are : t .sizes ≡ countersOf P
+  unfolding totalsOf
+  sizes-are = ap (λ (y : Totals). y .sizes) (T .totals-are)
+
+  pub atoms-is : t .sizes .n ≡ P .atoms
+  atoms-is = ap (λ (s : Sizes). s .n) sizes-are
+
+  vars-is : t .vars ≡ varTotal P
+  vars-is = vars-are P t hs ss bs ks xs ys T
+
+  pub vars-few : t .vars ≤ 9890
+  vars-few = subst (λ (k : ℕ). k ≤ 9890) (sym vars-is) (variables-fit P (T .limits))
+
+  -- what holds of V holds of the number of variables at hand
+  at-vars : (Q : ℕ → Type 0) → Q (varTotal P) → Q (t .vars)
+  at-vars Q q = subst Q (sym vars-is) q
+
+  pub counters-asks : {b l : ℕ} → t .vars ≤ b → t .sizes .n ≤ l → (Bounded (t .sizes)) × (t .sizes .n + 2 * t .sizes .m + t .sizes .n * t .sizes .w ≤ b) × (t .sizes .n ≤ l)
+  counters-asks {b} {l} h g =
+      (bounded P t hs ss bs ks xs ys T, subst (λ (s : Sizes). s .n + 2 * s .m + s .n * s .w ≤ b) (sym sizes-are) (levels-room P (subst (λ (k : ℕ). k ≤ b) vars-is h)), g)
+
+  pub atoms-room : {b : ℕ} → t .vars ≤ b → t .sizes .n ≤ b
+  atoms-room {b} h = omega (arith, counters-asks {b = b} {l = t .sizes .n} h (omega arith) .1)
+
+  -- ---- rows 15 and 16, and acceptance
+
+  module _ (b l : List ℕ) {u : ℕ} (e : u ≡ firstUnset (t .vars) b) where
+    unset-is : firstUnset (varTotal P) (take (varTotal P) b) ≡ u
+    unset-is = unset-front b (varTotal P) ∙ ap (λ (k : ℕ). firstUnset k b) (sym vars-is) ∙ sym e
+
+    pub judged-missing : 0 < u → {r : CheckVerdict} {c : List ℕ} → (r ≡ Refused (MissingVariable u)) × (c ≡ filledWith (t .vars) 0 b)
+        → Gives P (judged P (take (t .vars) b)) r b c l l
+    judged-missing h {r} {c} w =
+        at-vars (λ k. Gives P (judged P (take k b)) r b c l l)
+        (gives-zeroed P (judged-15 P (take (varTotal P) b) (subst (λ (k : ℕ). 0 < k) (sym unset-is) h) ∙ ap (λ (k : ℕ). refuse (MissingVariable k)) unset-is) b l refl
+        (w .0, w .1 ∙ ap (λ (k : ℕ). filledWith k 0 b) vars-is))
+
+    module _ (z : u ≤ 0) {j : ℕ} (f : j ≡ firstFalse P b) where
+      none-unset : firstUnset (varTotal P) (take (varTotal P) b) ≤ 0
+      none-unset = subst (λ (k : ℕ). k ≤ 0) (sym unset-is) z
+
+      false-is : firstFalse P (take (varTotal P) b) ≡ j
+      false-is = false-front P (T .limits) b ∙ sym f
+
+      pub judged-false : 0 < j → {r : CheckVerdict} {c : List ℕ} → (r ≡ Refused (FalseClause j)) × (c ≡ filledWith (t .vars) 0 b)
+          → Gives P (judged P (take (t .vars) b)) r b c l l
+      judged-false h {r} {c} w =
+          at-vars (λ k. Gives P (judged P (take k b)) r b c l l)
+          (gives-zeroed P (judged-16 P (take (varTotal P) b) none-unset (subst (λ (k : ℕ). 0 < k) (sym false-is) h) ∙ ap (λ (k : ℕ). refuse (FalseClause k)) false-is) b l refl
+          (w .0, w .1 ∙ ap (λ (k : ℕ). filledWith k 0 b) vars-is))
+
+      pub judged-accepted : j ≤ 0 → {m : List ℕ} {k h : ℕ} → m ≡ tab (t .sizes .n) (counter (sizesOf (t .sizes)) (valueIn b)) ++ drop (t .sizes .n) l
+          → k ≡ trueCount (t .sizes .n) b → h ≡ highest (t .sizes .n) (levelIn m) → Gives P (judged P (take (t .vars) b)) (Model k h) b b l m
+      judged-accepted g {m} {k} {h} x y w =
+          at-vars (λ k′. Gives P (judged P (take k′ b)) (Model k h) b b l m)
+          (subst (λ (q : Result CheckRefusal). Gives P q (Model k h) b b l m)
+          (sym (judged-none P (take (varTotal P) b) none-unset (subst (λ (k : ℕ). k ≤ 0) (sym false-is) g)))
+          (ap₂ Model (y ∙ ap (λ (i : ℕ). trueCount i b) atoms-is ∙ sym (true-front P (T .limits) b)) (w ∙ ap (λ (i : ℕ). highest i (levelIn m)) atoms-is ∙ highest-same (P .atoms) (levelIn m) (levelIn cs) same-level),
+          sym (take-append-drop (varTotal P) b),
+          levels-are))
+        where
+          cs : List ℕ
+          cs = counters (sizes P (width (P .atoms))) (take (varTotal P) b)
+
+          levels-are : m ≡ cs ++ drop (P .atoms) l
+          levels-are =
+              x ∙ ap (λ (s : Sizes). tab (s .n) (counter (sizesOf s) (valueIn b)) ++ drop (s .n) l) sizes-are
+              ∙ ap (λ (y : List ℕ). y ++ drop (P .atoms) l) (sym (counters-front P (T .limits) b))
+
+          same-level : (i : ℕ) → i < P .atoms → levelIn m (suc i) ≡ levelIn cs (suc i)
+          same-level i p =
+              ap (λ (y : List ℕ). getD y i 0) levels-are
+              ∙ getD-here cs (drop (P .atoms) l) 0 (P .atoms) i (length-tab (P .atoms) (counter (sizes P (width (P .atoms))) (valueIn (take (varTotal P) b)))) p
+
+  -- ---- rows 13 and 14
+
+  module _ (answer : List ℕ) (from : ℕ) (b l : List ℕ) where
+    abbrev ls : List Spotted
+    ls = literalsFrom answer from
+
+    abbrev values : List ℕ
+    values = assignedBytes (varTotal P) ls (noValues (varTotal P))
+
+    values-length : length values ≡ varTotal P
+    values-length = rest-kept (varTotal P) ls (noValues (varTotal P)) (literals-named answer from) .1 ∙ length-replicate (varTotal P) 2
+
+    -- b₁ is the buffer without values, b₂ that after the literals are assigned
+    module _ {a : Assigned} {b₁ b₂ : List ℕ} (f : b₁ ≡ filledWith (t .vars) 2 b)
+        (e : (a ≡ assignedFor (assignedOf (t .vars) ls b₁)) × (b₂ ≡ assignedBytes (t .vars) ls b₁)) where
+      outcome-is : a ≡ assignedFor (assignedOf (varTotal P) ls (noValues (varTotal P)))
+      outcome-is =
+          e .0 ∙ ap (λ (y : List ℕ). assignedFor (assignedOf (t .vars) ls y)) f ∙ ap (λ (k : ℕ). assignedFor (assignedOf k ls (filledWith k 2 b))) vars-is
+          ∙ ap assignedFor (any-outcome (varTotal P) ls (literals-named answer from) b)
+
+      -- the outcome that the code's answer says
+      outcome-of : {y : Assigned} → a ≡ y → assignedOf (varTotal P) ls (noValues (varTotal P)) ≡ toOutcome y
+      outcome-of q = from-answer (assignedOf (varTotal P) ls (noValues (varTotal P))) (sym outcome-is ∙ q)
+
+      bytes-are : b₂ ≡ values ++ drop (varTotal P) b
+      bytes-are =
+          e .1 ∙ ap (assignedBytes (t .vars) ls) f ∙ ap (λ (k : ℕ). assignedBytes k ls (filledWith k 2 b)) vars-is ∙ any-bytes (varTotal P) ls (literals-named answer from) b
+
+      rest-is : drop (varTotal P) b₂ ≡ drop (varTotal P) b
+      rest-is = ap (drop (varTotal P)) bytes-are ∙ drop-at values (drop (varTotal P) b) (varTotal P) values-length
+
+      -- each literal is assigned
+      pub assigned-judged : a ≡ Done → {r : CheckVerdict} {c m : List ℕ} → Gives P (judged P (take (t .vars) b₂)) r b₂ c l m
+          → Gives P (assignedResult P answer from) r b c l m
+      assigned-judged d {r} {c} {m} w =
+          subst (λ (o : Outcome). Gives P (afterAssigning o (judged P values)) r b c l m) (sym (outcome-of d))
+          (then (subst (λ (y : List ℕ). Gives P (judged P y) r b₂ c l m) front-is w))
+        where
+          front-is : take (t .vars) b₂ ≡ values
+          front-is = ap₂ take vars-is bytes-are ∙ take-at values (drop (varTotal P) b) (varTotal P) values-length
+
+          then : Gives P (judged P values) r b₂ c l m → Gives P (judged P values) r b c l m
+          then w = (w .0, w .1 ∙ judged-rest P values b₂ b rest-is, w .2)
+
+      zeros-are : {c : List ℕ} → c ≡ filledWith (t .vars) 0 b₂ → c ≡ filledWith (varTotal P) 0 b
+      unfolding filledWith
+      zeros-are w = w ∙ ap (λ (k : ℕ). filledWith k 0 b₂) vars-is ∙ ap (λ (y : List ℕ). replicate (varTotal P) 0 ++ y) rest-is
+
+      module _ {r : CheckVerdict} {c : List ℕ} where
+        pub assigned-stray : {s : ℕ} → a ≡ Stray s → (r ≡ Refused (StrayVariable s)) × (c ≡ filledWith (t .vars) 0 b₂) → Gives P (assignedResult P answer from) r b c l l
+        assigned-stray d w =
+            gives-zeroed P (ap (λ (o : Outcome). afterAssigning o (judged P values)) (outcome-of d)) b l refl (w .0, zeros-are (w .1))
+
+        pub assigned-repeated : {s : ℕ} → a ≡ Repeated s → (r ≡ Refused (RepeatedVariable s)) × (c ≡ filledWith (t .vars) 0 b₂) → Gives P (assignedResult P answer from) r b c l l
+        assigned-repeated d w =
+            gives-zeroed P (ap (λ (o : Outcome). afterAssigning o (judged P values)) (outcome-of d)) b l refl (w .0, zeros-are (w .1))
+
+  -- ---- rows 8, 10, 11 and 12
+
+  module _ (answer : List ℕ) (k : ℕ) (b l : List ℕ) where
+    abbrev x : Result CheckRefusal
+    x = checkResult P answer k (length b) (length l)
+
+    pub short-assignment : length b < t .vars → Gives P x (Refused (ShortBuffer (t .vars))) b b l l
+    short-assignment h =
+        subst (λ (v : ℕ). Gives P x (Refused (ShortBuffer v)) b b l l) (sym vars-is)
+        (gives-refused P (ap (λ d. cond d (refuse (ShortBuffer (varTotal P))) (cond (ltb (length l) (P .atoms)) (refuse (ShortBuffer (P .atoms))) (answerResult P answer k))) (lt-ltb (length b) (varTotal P) (subst (λ (v : ℕ). length b < v) vars-is h))) b l refl)
+
+    module _ (enough : t .vars ≤ length b) where
+      past-assignment : x ≡ cond (ltb (length l) (P .atoms)) (refuse (ShortBuffer (P .atoms))) (answerResult P answer k)
+      past-assignment =
+          ap (λ d. cond d (refuse (ShortBuffer (varTotal P))) (cond (ltb (length l) (P .atoms)) (refuse (ShortBuffer (P .atoms))) (answerResult P answer k)))
+          (le-ltb (length b) (varTotal P) (subst (λ (v : ℕ). v ≤ length b) vars-is enough))
+
+      pub short-levels : length l < t .sizes .n → Gives P x (Refused (ShortBuffer (t .sizes .n))) b b l l
+      short-levels h =
+          subst (λ (v : ℕ). Gives P x (Refused (ShortBuffer v)) b b l l) (sym atoms-is)
+          (gives-refused P (past-assignment ∙ ap (λ d. cond d (refuse (ShortBuffer (P .atoms))) (answerResult P answer k)) (lt-ltb (length l) (P .atoms) (subst (λ (v : ℕ). length l < v) atoms-is h))) b l refl)
+
+      module _ (room : t .sizes .n ≤ length l) where
+        past-levels : x ≡ answerResult P answer k
+        past-levels =
+            past-assignment ∙ ap (λ d. cond d (refuse (ShortBuffer (P .atoms))) (answerResult P answer k)) (le-ltb (length l) (P .atoms) (subst (λ (v : ℕ). v ≤ length l) atoms-is room))
+
+        pub overlong : 65536 < k → Gives P x (Refused (OverlongAnswer k)) b b l l
+        overlong h = gives-refused P (past-levels ∙ ap (λ d. cond d (refuse (OverlongAnswer k)) (formResult P answer (formOf answer))) (lt-ltb 65536 k h)) b l refl
+
+        module _ (short : k ≤ 65536) {f : Formed} (e : f ≡ formOf answer) where
+          by-form : {g : Formed} → f ≡ g → x ≡ formResult P answer g
+          by-form q =
+              past-levels ∙ ap (λ d. cond d (refuse (OverlongAnswer k)) (formResult P answer (formOf answer))) (le-ltb 65536 k short) ∙ ap (formResult P answer) (sym e ∙ q)
+
+          pub form-malformed : {s : ℕ} → f ≡ Malformed s → Gives P x (Refused (MalformedAnswer s)) b b l l
+          form-malformed q = gives-refused P (by-form q) b l refl
+
+          pub form-none : f ≡ NoModel → Gives P x (Refused NoModelOffered) b b l l
+          form-none q = gives-refused P (by-form q) b l refl
+
+          pub form-model : {i : ℕ} → f ≡ FormModel i → {r : CheckVerdict} {c m : List ℕ} → Gives P (assignedResult P answer i) r b c l m → Gives P x r b c l m
+          form-model q {r} {c} {m} w = subst (λ (y : Result CheckRefusal). Gives P y r b c l m) (sym (by-form q)) w

@@ -1,0 +1,47 @@
+-- Answer texts and lists of values (document 01, "Solver answer", "Check and filling out"): an answer that gives each variable its value, in order, and
+-- the values that an answer's literals give.
+--   valueBytes bs       the values bs as bytes, 1 or 0
+--   valueLiteral x v    the literal of variable v that is true where v has the value x
+--   literalsFor bs      the literals of variables 1, 2, .. that are true where these have the values bs
+--   offered bs          the answer with these literals in one v line, without comments
+--   offeredText bs      its text
+--   isPositive v l      l is the positive literal of variable v
+--   valuesOf n xs       the values of variables 1 to n by the literals xs: v has the value true if its positive literal is one of them
+-- Assumes nothing.
+use Prim.Native.Nat.{ℕ}
+use mathlib.Core.Bool.{Bool, true, false, cond}
+use mathlib.Core.List.{List, [], map}
+use lib.Dec.{eqb}
+use lib.ListN.{length}
+use Rattle.lists.specs.Lists.{any, tab}
+use Rattle.encoding.specs.Literal.{Literal, valueOf}
+use Literal.{var, −_}
+use Rattle.answers.specs.Answer.{Answer, answerText}
+use Rattle.answers.specs.Reading.{Spotted}
+
+abbrev pub valueBytes : List Bool → List ℕ
+valueBytes bs = map (λ b. cond b 1 0) bs
+
+-- ---- from values to an answer
+
+abbrev pub valueLiteral : Bool → ℕ → Literal
+valueLiteral true v = var v
+valueLiteral false v = − v
+
+unfoldable pub literalsFor : List Bool → List Literal
+literalsFor bs = tab (length bs) (λ v. valueLiteral (valueOf bs v) v)
+
+abbrev pub offered : List Bool → Answer
+offered bs = Answer.model [] [] (literalsFor bs) []
+
+unfoldable pub offeredText : List Bool → List ℕ
+offeredText bs = answerText (offered bs)
+
+-- ---- from an answer's literals to values
+
+abbrev pub isPositive : ℕ → Literal → Bool
+isPositive v (var u) = eqb u v
+isPositive v (− u) = false
+
+unfoldable pub valuesOf : ℕ → List Spotted → List Bool
+valuesOf n xs = tab n (λ v. any (λ (x : Spotted). isPositive v (x .literal)) xs)
