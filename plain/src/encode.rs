@@ -106,6 +106,23 @@ impl<'a> Encoding<'a> {
         self.n + 2 * self.m + 2 * self.n * self.w + 2 * self.k * self.w
     }
 
+    /// w
+    pub fn width(&self) -> usize {
+        self.w
+    }
+
+    /// V and n, or row 8 if the assignment or the levels have fewer bytes.
+    pub fn room(&self, assignment: &[u8], levels: &[u8]) -> Result<(usize, usize), Refusal> {
+        let (v, n) = (self.variable_count(), self.n);
+        if assignment.len() < v {
+            return Err((8, v));
+        }
+        if levels.len() < n {
+            return Err((8, n));
+        }
+        Ok((v, n))
+    }
+
     /// C
     pub fn clause_count(&self) -> usize {
         let (n, m, k, w) = (self.n, self.m, self.k, self.w);
@@ -125,6 +142,12 @@ impl<'a> Encoding<'a> {
             + 2 * n * w
             + 4 * n * w * w
             + k * (36 * w - 18)
+    }
+
+    /// The counter of atom a under the values of all variables.
+    pub fn counter(&self, a: usize, values: &[u8]) -> u8 {
+        let bits = &values[self.v(a) as usize..][..self.w];
+        bits.iter().rev().fold(0, |sum, &bit| 2 * sum + bit)
     }
 
     /// e

@@ -1,7 +1,8 @@
 //! Replies compared with the shared vectors, in the folder that QS_VECTORS names. Skipped if it is not set.
 
+use plain::calls::{bytes, hex, reply, Call};
 use plain::encode::Encoding;
-use plain::{line, read};
+use plain::{check, fill_out, line, read};
 use std::path::PathBuf;
 
 fn calls(name: &str) -> Option<Vec<(Vec<String>, Vec<String>)>> {
@@ -21,24 +22,6 @@ fn calls(name: &str) -> Option<Vec<(Vec<String>, Vec<String>)>> {
     assert!(!calls.is_empty());
     eprintln!("{name}: {} calls", calls.len());
     Some(calls)
-}
-
-fn bytes(hex: &str) -> Vec<u8> {
-    if hex == "-" {
-        return Vec::new();
-    }
-    assert!(hex.len().is_multiple_of(2));
-    (0..hex.len())
-        .step_by(2)
-        .map(|i| u8::from_str_radix(&hex[i..i + 2], 16).unwrap())
-        .collect()
-}
-
-fn hex(bytes: &[u8]) -> String {
-    if bytes.is_empty() {
-        return "-".to_string();
-    }
-    bytes.iter().map(|byte| format!("{byte:02x}")).collect()
 }
 
 #[test]
@@ -85,4 +68,26 @@ fn line_vectors() {
             i + 1
         );
     }
+}
+
+/// Compares the replies to calls on two inputs and two lent buffers.
+fn replies(name: &str, call: Call) {
+    for (i, (line, said)) in calls(name).unwrap_or_default().iter().enumerate() {
+        assert_eq!(
+            reply(call, &line.join(" ")),
+            said.join(" "),
+            "call {}",
+            i + 1
+        );
+    }
+}
+
+#[test]
+fn check_vectors() {
+    replies("check.txt", check);
+}
+
+#[test]
+fn fill_vectors() {
+    replies("fill.txt", fill_out);
 }

@@ -8,22 +8,22 @@
 -- Assumes nothing.
 use Prim.Native.Nat.{ℕ}
 use mathlib.Core.Path.{_≡_, refl, sym, _∙_, ap, subst}
-use mathlib.Core.Bool.{Bool, true, false, So}
+use mathlib.Core.Bool.{Bool, true, false}
 use mathlib.Core.List.{List}
 use Rattle.lists.specs.Lists.{all}
 use Rattle.lists.proofs.Bools.{and-left}
-use Rattle.encoding.specs.Literal.{Literal}
-use Rattle.answers.specs.Answer.{Comment, Line, Status, Answer, oneLine, proper, answerText, HasForm, Malformed}
+use Rattle.answers.specs.Answer.{Status, Answer, oneLine, proper, HasForm, OfStatus, Malformed}
 use Rattle.answers.specs.Automaton.{accepts, leaves}
-use Rattle.answers.specs.Reading.{Found, statusOf, Close, Spotted, Reads, statusEnd, spotsOf}
+use Rattle.answers.specs.Reading.{Found, statusOf, Close, Spotted, Reads}
 use Rattle.answers.proofs.Accepted.{form-accepted}
 use Rattle.answers.proofs.Sound.{sound}
 use Rattle.answers.proofs.Spot.{rejected-malformed, spot-unique, form-not-malformed}
 use Rattle.answers.proofs.StatusLaws.{status-model, status-none}
-use Rattle.answers.proofs.Whole.{OfModel, OfStatus, Outcome, whole}
+use Rattle.answers.proofs.Whole.{OfModel, Outcome, whole}
 use Rattle.answer_reader.specs.declared.Formed.{Formed}
 use Rattle.answer_reader.specs.declared.Formed.the-variants.{Model, NoModel, Malformed as MalformedAt}
 use Rattle.answer_reader.specs.Results.{formFor, formOf}
+use Rattle.answers.specs.Reading.{IsModel}
 
 lineEndOf : Found → ℕ
 lineEndOf (Found.satisfiable e) = e
@@ -31,16 +31,6 @@ lineEndOf (Found.other s) = 0
 lineEndOf (Found.left s) = 0
 
 -- ---- what each form means
-
-pub record IsModel (t : List ℕ) (e : ℕ) : Type 0 where
-  pub before : List Comment
-  pub lines : List Line
-  pub literals : List Literal
-  pub after : List Comment
-  pub is-proper : So (proper (Answer.model before lines literals after))
-  pub its-text : t ≡ answerText (Answer.model before lines literals after)
-  pub its-end : e ≡ statusEnd before
-  pub its-literals : Reads t e (spotsOf (Answer.model before lines literals after)) Close.fine
 
 pub data Judged (t : List ℕ) : Formed → Type 0 where
   a-model : (e : ℕ) → IsModel t e → Judged t (Model e)

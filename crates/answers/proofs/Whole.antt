@@ -1,6 +1,5 @@
 -- What a text is, by what is read of it piece by piece (specs/Reading.antt).
 --   OfModel t xs          t is the text of a proper answer with status SATISFIABLE whose literals stand as in xs
---   OfStatus t s          t is the text of a proper answer with status s
 --   status-left           a text that leaves the form up to its status line is malformed there
 --   status-other          a text with another status line is that of an answer with it
 --   literals-left         a text that leaves the form behind "s SATISFIABLE" is malformed there
@@ -18,7 +17,7 @@ use lib.ListN.{length, drop}
 use Rattle.lists.specs.Lists.{all}
 use Rattle.lists.proofs.Bools.{and-left}
 use Rattle.encoding.specs.Literal.{Literal}
-use Rattle.answers.specs.Answer.{Comment, Line, Status, Answer, oneLine, proper, answerText, HasForm, Malformed}
+use Rattle.answers.specs.Answer.{Comment, Line, Status, Answer, oneLine, proper, answerText, HasForm, OfStatus, Malformed}
 use Rattle.answers.specs.Reading.{Found, statusOf, Close, Spotted, Reads, statusEnd, spotsOf}
 use Rattle.answers.proofs.Sound.{sound}
 use Rattle.answers.proofs.Spot.{rejected-malformed}
@@ -34,12 +33,6 @@ pub record OfModel (t : List ℕ) (xs : List Spotted) : Type 0 where
   pub is-proper : So (proper (Answer.model before lines literals after))
   pub its-text : t ≡ answerText (Answer.model before lines literals after)
   pub its-spots : xs ≡ spotsOf (Answer.model before lines literals after)
-
-pub record OfStatus (t : List ℕ) (s : Status) : Type 0 where
-  pub before : List Comment
-  pub rest : List ℕ
-  pub is-proper : So (proper (Answer.noModel before s rest))
-  pub its-text : t ≡ answerText (Answer.noModel before s rest)
 
 -- ---- the kinds of status, told apart
 

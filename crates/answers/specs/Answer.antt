@@ -6,6 +6,7 @@
 --   answerText a      its bytes
 --   literalsOf a      its literals but the last 0, in order
 --   HasForm t         t is the text of some proper answer
+--   OfStatus t s      t is that of one with the status s, another than SATISFIABLE
 --   Viable t          some ending of t gives the form
 --   Malformed t s     s is the first byte after which no ending gives the form, or the length if the text stops short
 -- Assumes nothing.
@@ -104,6 +105,13 @@ pub record HasForm (t : List ℕ) : Type 0 where
   pub answer : Answer
   pub is-proper : So (proper answer)
   pub its-text : t ≡ answerText answer
+
+-- the text of a proper answer with another status than SATISFIABLE
+pub record OfStatus (t : List ℕ) (s : Status) : Type 0 where
+  pub before : List Comment
+  pub rest : List ℕ
+  pub is-proper : So (proper (Answer.noModel before s rest))
+  pub its-text : t ≡ answerText (Answer.noModel before s rest)
 
 pub record Viable (t : List ℕ) : Type 0 where
   pub ending : List ℕ

@@ -12,10 +12,11 @@
 --   closeOf t i       whether only a line end and c lines stand from i on; or the spot where t leaves the form
 --   Reads t p xs c    from position p on the literals are xs, with the indices of their first bytes, and then the text ends as c says
 --   spotsOf a         the literals of an answer with the indices of their first bytes in its text
+--   IsModel t e       t offers a model, and its status line ends at e
 -- Assumes nothing.
 use Prim.Native.Nat.{ℕ, suc, _+_, _*_, _-_, min, max}
 use mathlib.Core.Path.{_≡_}
-use mathlib.Core.Bool.{not, _&&_, cond}
+use mathlib.Core.Bool.{not, _&&_, So, cond}
 use mathlib.Core.List.{List, [], _∷_, _++_}
 use lib.Dec.{eqb}
 use lib.ListN.{length, drop}
@@ -23,7 +24,7 @@ use Rattle.form.specs.Automaton.{digitTest}
 use Rattle.encoding.specs.Literal.{Literal, literalNumber}
 use Literal.{var, −_}
 use Rattle.digits.specs.Bytes.{literalText}
-use Rattle.answers.specs.Answer.{Comment, Line, Status, Answer, commentText, commentsText, spacedText, linesText, satisfiableText, statusText}
+use Rattle.answers.specs.Answer.{Comment, Line, Status, Answer, proper, answerText, commentText, commentsText, spacedText, linesText, satisfiableText, statusText}
 use Rattle.answers.specs.Automaton.{seekStep, endStep}
 
 -- ---- the status
@@ -143,3 +144,16 @@ unfoldable pub spotsOf : Answer → List Spotted
 spotsOf (Answer.model before lines vs after) =
     lineSpots (statusEnd before + 1) lines ++ spacedSpots (statusEnd before + 1 + length (linesText lines) + 1) vs
 spotsOf (Answer.noModel before status rest) = []
+
+-- ---- a text that offers a model
+
+-- t is the text of a proper answer with the status SATISFIABLE, whose literals are read one by one from the end e of its status line on
+pub record IsModel (t : List ℕ) (e : ℕ) : Type 0 where
+  pub before : List Comment
+  pub lines : List Line
+  pub literals : List Literal
+  pub after : List Comment
+  pub is-proper : So (proper (Answer.model before lines literals after))
+  pub its-text : t ≡ answerText (Answer.model before lines literals after)
+  pub its-end : e ≡ statusEnd before
+  pub its-literals : Reads t e (spotsOf (Answer.model before lines literals after)) Close.fine

@@ -29,10 +29,11 @@ use borrow.Author.Tests.{eqb-true, eqb-false}
 use Rattle.lists.proofs.Tests.{le-or-lt}
 use Rattle.encoding.specs.Literal.{variable}
 use Rattle.answers.specs.Reading.{Next, nextLiteral, Spotted}
-use Rattle.assigning.specs.Assign.{literalThen, literalsWithin, literalsFrom, valueOf, Outcome, assignedOf, assignedBytes, firstUnset, filledWith}
+use Rattle.assigning.specs.Assign.{literalThen, literalsWithin, literalsFrom, valueOf, literalAt, variableAt, spotAt, Unnamed, Named, Outcome, assignedOf, assignedBytes, firstUnset, filledWith}
 use Rattle.assigning.proofs.Turns.{unset-first}
 use Rattle.assigning.proofs.Taking.{ahead}
-use Rattle.assigning.proofs.Steps.{literalAt, variableAt, spotAt, AllNamed, New, Old, State, Says, says, value-not-two, Unnamed, Named, byte-kept, byte-given, rest-kept}
+use Rattle.assigning.specs.Rows.{Old, Fit, AllFit, StrayAt, RepeatedAt, Missing}
+use Rattle.assigning.proofs.Steps.{AllNamed, State, Says, says, value-not-two, byte-kept, byte-given, rest-kept}
 
 -- ---- the literals of an answer
 
@@ -52,27 +53,6 @@ unfolding literalsFrom
 literals-named t p = within-named t (length t) p
 
 -- ---- what each outcome means
-
-abbrev pub Fit : ℕ → List Spotted → ℕ → Type 0
-Fit n xs j = (variableAt xs j ≤ n) × New xs j
-
-abbrev pub AllFit : ℕ → List Spotted → Type 0
-AllFit n xs = (j : ℕ) → j < length xs → Fit n xs j
-
-pub record StrayAt (n : ℕ) (xs : List Spotted) (s : ℕ) : Type 0 where
-  pub place : ℕ
-  pub inside : place < length xs
-  pub spot : s ≡ spotAt xs place
-  pub above : n < variableAt xs place
-  pub before : (j : ℕ) → j < place → Fit n xs j
-
-pub record RepeatedAt (n : ℕ) (xs : List Spotted) (s : ℕ) : Type 0 where
-  pub place : ℕ
-  pub inside : place < length xs
-  pub spot : s ≡ spotAt xs place
-  pub within : variableAt xs place ≤ n
-  pub again : Old xs place
-  pub before : (j : ℕ) → j < place → Fit n xs j
 
 pub data Meant (n : ℕ) (xs : List Spotted) : Outcome → Type 0 where
   all-fit : AllFit n xs → Meant n xs Outcome.done
@@ -200,12 +180,6 @@ module _ (n : ℕ) (xs : List Spotted) (b : List ℕ) (named : AllNamed xs) wher
       ∙ omega (arith, h, length-append (replicate n 2) (drop n b), length-replicate {A = ℕ} n 2, length-drop n b)
 
 -- ---- the smallest variable that is missing
-
-pub record Missing (n : ℕ) (xs : List Spotted) (v : ℕ) : Type 0 where
-  pub positive : 0 < v
-  pub within : v ≤ n
-  pub unnamed : Unnamed xs v
-  pub before : (u : ℕ) → 0 < u → u < v → Named xs u
 
 pub named-or-not : (xs : List Spotted) (v : ℕ) → Named xs v ⊎ Unnamed xs v
 named-or-not [] v = inr (λ k h e. absurd (omega (arith, h)))

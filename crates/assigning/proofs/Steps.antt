@@ -1,5 +1,4 @@
 -- The outcome and the buffer of a list of literals that is assigned, by its places.
---   literalAt, variableAt, spotAt   the literal at a place of a list, its variable, the index of its first byte
 --   AllNamed xs           each literal of xs is of a variable from 1 on
 --   Good n seen xs j      the literal at place j is of a variable up to n that is not seen and that no literal before it names
 --   State n seen b        the variables that have a value in b are those that are seen
@@ -8,7 +7,6 @@
 --   value-not-two         no literal gives the value 2
 --   byte-kept             the byte of a variable that no literal names stays
 --   byte-given            where all are done, the byte of a variable is the value of the literal that names it
---   Unnamed, Named        no literal names a variable; some literal does
 --   rest-kept             the bytes from n on stay, and the length
 -- Assumes nothing.
 use Prim.Native.Nat.{ℕ, zero, suc, _-_, _≤_, _<_}
@@ -25,32 +23,13 @@ use borrow.Author.Tests.{eqb-true, eqb-false, ltb-true, ltb-false}
 use Rattle.encoding.specs.Literal.{Literal, variable}
 use Literal.{var, −_}
 use Rattle.answers.specs.Reading.{Spotted}
-use Rattle.assigning.specs.Assign.{valueOf, Outcome, putOutcome, putBytes, thenOutcome, thenBytes, assignedOf, assignedBytes}
+use Rattle.assigning.specs.Assign.{valueOf, literalAt, variableAt, spotAt, Unnamed, Outcome, putOutcome, putBytes, thenOutcome, thenBytes, assignedOf, assignedBytes}
+use Rattle.assigning.specs.Rows.{New, Old}
 
 -- ---- places
 
-abbrev pub nobody : Spotted
-nobody = record { literal = var 0; first = 0 }
-
-abbrev pub literalAt : List Spotted → ℕ → Literal
-literalAt xs k = getD xs k nobody .literal
-
-abbrev pub variableAt : List Spotted → ℕ → ℕ
-variableAt xs k = variable (literalAt xs k)
-
-abbrev pub spotAt : List Spotted → ℕ → ℕ
-spotAt xs k = getD xs k nobody .first
-
 abbrev pub AllNamed : List Spotted → Type 0
 AllNamed xs = (k : ℕ) → k < length xs → 0 < variableAt xs k
-
--- no literal before place j names the variable at j
-abbrev pub New : List Spotted → ℕ → Type 0
-New xs j = (i : ℕ) → i < j → variableAt xs i ≡ variableAt xs j → ⊥
-
--- some literal before place j does
-abbrev pub Old : List Spotted → ℕ → Type 0
-Old xs j = (i : ℕ) × (i < j) × (variableAt xs i ≡ variableAt xs j)
 
 abbrev pub Good : ℕ → (ℕ → Bool) → List Spotted → ℕ → Type 0
 Good n seen xs j = (variableAt xs j ≤ n) × (seen (variableAt xs j) ≡ false) × New xs j
@@ -190,14 +169,6 @@ says n (x ∷ xs) seen b st nm =
         (rest (subst (State n (also v seen)) (sym c) (state-more n seen b v w st positive h (value-not-two (x .literal)))) (λ k q. nm (suc k) (omega (arith, q)))))
 
 -- ---- the buffer
-
--- no literal names v
-abbrev pub Unnamed : List Spotted → ℕ → Type 0
-Unnamed xs v = (k : ℕ) → k < length xs → variableAt xs k ≡ v → ⊥
-
--- some literal does
-abbrev pub Named : List Spotted → ℕ → Type 0
-Named xs v = (k : ℕ) × (k < length xs) × (variableAt xs k ≡ v)
 
 pub byte-kept : (n : ℕ) (xs : List Spotted) (b : List ℕ) (u : ℕ) → AllNamed xs → 0 < u → Unnamed xs u → getD (assignedBytes n xs b) (u - 1) 0 ≡ getD b (u - 1) 0
 byte-kept n [] b u nm p f = refl

@@ -2,6 +2,8 @@
 -- variable v stands at v - 1: 1 or 0 is its value, 2 says that it has none yet. n is the number of variables.
 --   literalsFrom t p      the literals of t from position p on, with the indices of their first bytes
 --   valueOf l             the value that l gives its variable
+--   literalAt, variableAt, spotAt   the literal at a place of a list, its variable, the index of its first byte
+--   Named, Unnamed        some literal of a list is of a variable; none is
 --   putOutcome n v s b    what it is to give a value to variable v, whose literal's first byte is s: stray, repeated or done
 --   putBytes n v x b      the buffer after it, where the value is x
 --   assignedOf n xs b     the first outcome of the literals xs that is not done
@@ -11,7 +13,8 @@
 --   numberValue x         the value that the literal with number x gives
 --   assignedFor o         the code's answer for an outcome
 -- Assumes nothing.
-use Prim.Native.Nat.{ℕ, zero, suc, _-_}
+use Prim.Native.Nat.{ℕ, zero, suc, _-_, _<_}
+use mathlib.Core.Path.{_≡_}
 use mathlib.Core.Bool.{cond}
 use mathlib.Core.List.{List, [], _∷_, _++_}
 use lib.Dec.{eqb, ltb}
@@ -44,6 +47,28 @@ literalsFrom t p = literalsWithin (length t) t p
 abbrev pub valueOf : Literal → ℕ
 valueOf (var v) = 1
 valueOf (− v) = 0
+
+-- ---- by place
+
+abbrev pub nobody : Spotted
+nobody = record { literal = var 0; first = 0 }
+
+abbrev pub literalAt : List Spotted → ℕ → Literal
+literalAt xs k = getD xs k nobody .literal
+
+abbrev pub variableAt : List Spotted → ℕ → ℕ
+variableAt xs k = variable (literalAt xs k)
+
+abbrev pub spotAt : List Spotted → ℕ → ℕ
+spotAt xs k = getD xs k nobody .first
+
+-- some literal is of variable v
+abbrev pub Named : List Spotted → ℕ → Type 0
+Named xs v = (k : ℕ) × (k < length xs) × (variableAt xs k ≡ v)
+
+-- none is
+abbrev pub Unnamed : List Spotted → ℕ → Type 0
+Unnamed xs v = (k : ℕ) → k < length xs → variableAt xs k ≡ v → ⊥
 
 -- ---- one literal
 

@@ -18,6 +18,15 @@ pub struct Parsed {
     pub value: usize,
 }
 
+// How many bytes each of four fields stands for, and whether a line has four, all of the form.
+pub struct Lengths {
+    pub good: bool,
+    pub first: usize,
+    pub second: usize,
+    pub third: usize,
+    pub fourth: usize,
+}
+
 // The first index of b in s from `from` on, or the length of s.
 fn end_at(s: &[u8], from: usize, b: u8) -> usize
     requires { ⌜ from ≤ length (now s) ⌝ }
@@ -144,6 +153,29 @@ pub fn decode_field(line: &[u8], k: usize, bytes: &mut [u8]) -> Decoded
     let a = f.from;
     let e = f.to;
     decode(&line[a..e], &mut *bytes)
+}
+
+// Puts what the four fields of a line stand for into four buffers.
+pub fn decode_four(
+    line: &[u8],
+    first: &mut [u8],
+    second: &mut [u8],
+    third: &mut [u8],
+    fourth: &mut [u8],
+) -> Lengths
+    ensures { λ r. ⌜ (Counts (r .first) (now (first .exit))) × (Counts (r .second) (now (second .exit))) × (Counts (r .third) (now (third .exit))) × (Counts (r .fourth) (now (fourth .exit))) ⌝ }
+{
+    let a = decode_field(line, 0, &mut *first);
+    let b = decode_field(line, 1, &mut *second);
+    let c = decode_field(line, 2, &mut *third);
+    let d = decode_field(line, 3, &mut *fourth);
+    Lengths {
+        good: field_count(line) == 4 && a.good && b.good && c.good && d.good,
+        first: a.length,
+        second: b.length,
+        third: c.length,
+        fourth: d.length,
+    }
 }
 
 // The number that field k holds.

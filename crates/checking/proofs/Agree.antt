@@ -1,19 +1,19 @@
 -- What is computed of the values of the variables 1 to V depends on these alone.
---   first-same, highest-same      the first number that passes, and the highest level, of functions that agree on 1 to n
+--   first-same                    the first number that passes, of tests that agree on 1 to n
 --   value-front                   the values in the first n bytes of a buffer
 --   unset-front, false-front, true-front, counters-front   so the first variable without a value, the first false clause, the number of true atoms and
 --                                 the counters are those of the first V bytes
 -- Assumes nothing.
-use Prim.Native.Nat.{ℕ, zero, suc, pred, _+_, _-_, _*_, _≤_, _<_, max}
-use native.Mathlib.Nat.{mul-le-mul-right, suc-pred-eq-of-pos}
+use Prim.Native.Nat.{ℕ, zero, suc, _-_, _≤_, _<_}
+use native.Mathlib.Nat.{mul-le-mul-right}
 use native.Mathlib.Omega.{arith}
-use mathlib.Core.Path.{_≡_, refl, sym, _∙_, ap, ap₂, subst}
+use mathlib.Core.Path.{_≡_, refl, ap, ap₂}
 use mathlib.Core.Bool.{Bool, not, _||_, So, cond}
 use mathlib.Core.List.{List, [], _∷_}
 use lib.Dec.{eqb}
 use lib.ListN.{length, getD, take}
 use lib.Seq.{getD-take}
-use Rattle.lists.specs.Lists.{all, any, first, orLast}
+use Rattle.lists.specs.Lists.{all, first, orLast}
 use Rattle.lists.proofs.Bools.{and-left, and-right}
 use Rattle.lists.proofs.Tests.{all-at}
 use Rattle.lists.proofs.Tables.{tab-ext, sum-ext}
@@ -29,15 +29,11 @@ use Rattle.theory.proofs.Widths.{width-enough}
 use Rattle.reader_laws.specs.Row.{Limits}
 use Rattle.assigning.specs.Assign.{firstUnset}
 use Rattle.truth.specs.Truth.{valueIn, falseAt, firstFalse}
-use Rattle.results.specs.Results.{trueCount, highest, counters}
+use Rattle.results.specs.Results.{trueCount, counters}
 
 pub first-same : (n : ℕ) (p q : ℕ → Bool) → ((i : ℕ) → i < n → p (suc i) ≡ q (suc i)) → first n p ≡ first n q
 first-same zero p q e = refl
 first-same (suc n) p q e = ap₂ (λ (f : ℕ) (b : Bool). orLast f b (suc n)) (first-same n p q (λ i h. e i (omega (arith, h)))) (e n (omega arith))
-
-pub highest-same : (n : ℕ) (f g : ℕ → ℕ) → ((i : ℕ) → i < n → f (suc i) ≡ g (suc i)) → highest n f ≡ highest n g
-highest-same zero f g e = refl
-highest-same (suc n) f g e = ap₂ max (highest-same n f g (λ i h. e i (omega (arith, h)))) (e n (omega arith))
 
 -- ---- values that agree on the variables of a clause
 

@@ -10,12 +10,12 @@ use Rattle.program.specs.declared.ReadVerdict.{ReadVerdict}
 use Rattle.program.specs.declared.ReadVerdict.the-variants.{Accepted, Refused as TextRefused}
 use Rattle.program.specs.declared.TextRefusal.{TextRefusal}
 use Rattle.program.specs.Verdict.{readOf}
-use Rattle.results.specs.Results.{Result}
+use Rattle.results.specs.Results.{Result, programOf}
 use Rattle.checking.specs.declared.CheckRefusal.{CheckRefusal}
 use Rattle.checking.specs.declared.CheckRefusal.the-variants.{Text}
 use Rattle.checking.specs.declared.CheckVerdict.{CheckVerdict}
 use Rattle.checking.specs.declared.CheckVerdict.the-variants.{Refused}
-use Rattle.checking.specs.Check.{checkResult, afterReading, programOf, readResult, checkOf, checkAnswer, checkAssignment, checkLevels, Gives}
+use Rattle.checking.specs.Check.{checkResult, afterReading, readResult, checkOf, checkAnswer, checkAssignment, checkLevels, Gives}
 use Rattle.checking.proofs.Rows.{gives-refused}
 
 module _ (t : List ℕ) (k : ℕ) (b l : List ℕ) {r : CheckVerdict} {c m : List ℕ} where

@@ -4,10 +4,10 @@
 --   assigned-judged, assigned-stray, assigned-repeated   rows 13 and 14, then these
 --   short-assignment, short-levels, overlong, form-malformed, form-none, form-model   rows 8, 10, 11 and 12, then these
 -- Assumes nothing.
-use Prim.Native.Nat.{ℕ, suc, _+_, _-_, _*_, _≤_, _<_}
+use Prim.Native.Nat.{ℕ, suc, _+_, _*_, _≤_, _<_}
 use native.Mathlib.Omega.{arith}
 use mathlib.Core.Path.{_≡_, refl, sym, _∙_, ap, ap₂, subst}
-use mathlib.Core.Bool.{Bool, true, false, So, cond}
+use mathlib.Core.Bool.{Bool, true, false, cond}
 use mathlib.Core.List.{List, _++_}
 use lib.Dec.{ltb}
 use lib.ListN.{length, getD, take, drop, replicate, take-append-drop, length-replicate}
@@ -36,13 +36,14 @@ use Rattle.tables.specs.Tables.{countersOf, totalsOf, Tabled}
 use Rattle.table_laws.proofs.Elements.{vars-are, bounded}
 use Rattle.table_laws.proofs.Bounds.{variables-fit}
 use Rattle.truth.specs.Truth.{valueIn, firstFalse}
-use Rattle.results.specs.Results.{Result, trueCount, highest, levelIn, counters, assignmentAfter, levelsAfter}
+use Rattle.results.specs.Results.{Result, trueCount, highest, levelIn, counters, assignmentAfter, varTotal}
 use Rattle.checking.specs.declared.CheckRefusal.{CheckRefusal}
-use Rattle.checking.specs.declared.CheckRefusal.the-variants.{Text, ShortBuffer, OverlongAnswer, MalformedAnswer, NoModelOffered, StrayVariable, RepeatedVariable, MissingVariable, FalseClause}
+use Rattle.checking.specs.declared.CheckRefusal.the-variants.{ShortBuffer, OverlongAnswer, MalformedAnswer, NoModelOffered, StrayVariable, RepeatedVariable, MissingVariable, FalseClause}
 use Rattle.checking.specs.declared.CheckVerdict.{CheckVerdict}
 use Rattle.checking.specs.declared.CheckVerdict.the-variants.{Model, Refused}
-use Rattle.checking.specs.Check.{zeroes, varTotal, refuse, judged, noValues, afterAssigning, assignedResult, formResult, answerResult, checkResult, verdictOf, Gives}
-use Rattle.checking.proofs.Agree.{highest-same, unset-front, false-front, true-front, counters-front}
+use Rattle.checking.specs.Check.{zeroes, refuse, judged, noValues, afterAssigning, assignedResult, formResult, answerResult, checkResult, Gives}
+use Rattle.results.proofs.Counting.{highest-same}
+use Rattle.checking.proofs.Agree.{unset-front, false-front, true-front, counters-front}
 
 -- ---- refusals
 
@@ -70,13 +71,13 @@ module _ (P : Program) (bs : List ℕ) where
   unfolding judged
   judged-by p q = ap₂ judgedBy p q
 
-  judged-15 : 0 < firstUnset (varTotal P) bs → judged P bs ≡ refuse (MissingVariable (firstUnset (varTotal P) bs))
+  pub judged-15 : 0 < firstUnset (varTotal P) bs → judged P bs ≡ refuse (MissingVariable (firstUnset (varTotal P) bs))
   judged-15 h = judged-by (lt-ltb 0 (firstUnset (varTotal P) bs) h) refl
 
-  judged-16 : firstUnset (varTotal P) bs ≤ 0 → 0 < firstFalse P bs → judged P bs ≡ refuse (FalseClause (firstFalse P bs))
+  pub judged-16 : firstUnset (varTotal P) bs ≤ 0 → 0 < firstFalse P bs → judged P bs ≡ refuse (FalseClause (firstFalse P bs))
   judged-16 h g = judged-by (le-ltb 0 (firstUnset (varTotal P) bs) h) (lt-ltb 0 (firstFalse P bs) g)
 
-  judged-none : firstUnset (varTotal P) bs ≤ 0 → firstFalse P bs ≤ 0 → judged P bs ≡ Result.accepted bs (counters (sizes P (width (P .atoms))) bs)
+  pub judged-none : firstUnset (varTotal P) bs ≤ 0 → firstFalse P bs ≤ 0 → judged P bs ≡ Result.accepted bs (counters (sizes P (width (P .atoms))) bs)
   judged-none h g = judged-by (le-ltb 0 (firstUnset (varTotal P) bs) h) (le-ltb 0 (firstFalse P bs) g)
 
   -- whatever it is, it leaves nothing of the first V bytes of the buffer
@@ -168,10 +169,11 @@ module _ {P : Program} {t : Totals} {hs ss bs ks xs ys : List ℕ} (T : Tabled P
       judged-accepted g {m} {k} {h} x y w =
           at-vars (λ k′. Gives P (judged P (take k′ b)) (Model k h) b b l m)
           (subst (λ (q : Result CheckRefusal). Gives P q (Model k h) b b l m)
-          (sym (judged-none P (take (varTotal P) b) none-unset (subst (λ (k : ℕ). k ≤ 0) (sym false-is) g)))
-          (ap₂ Model (y ∙ ap (λ (i : ℕ). trueCount i b) atoms-is ∙ sym (true-front P (T .limits) b)) (w ∙ ap (λ (i : ℕ). highest i (levelIn m)) atoms-is ∙ highest-same (P .atoms) (levelIn m) (levelIn cs) same-level),
-          sym (take-append-drop (varTotal P) b),
-          levels-are))
+          (sym (judged-none P (take (varTotal P) b) none-unset (subst (λ (k : ℕ). k ≤ 0) (sym false-is) g))) (
+            ap₂ Model (y ∙ ap (λ (i : ℕ). trueCount i b) atoms-is ∙ sym (true-front P (T .limits) b)) (w ∙ ap (λ (i : ℕ). highest i (levelIn m)) atoms-is ∙ highest-same (P .atoms) (levelIn m) (levelIn cs) same-level),
+            sym (take-append-drop (varTotal P) b),
+            levels-are,
+          ))
         where
           cs : List ℕ
           cs = counters (sizes P (width (P .atoms))) (take (varTotal P) b)

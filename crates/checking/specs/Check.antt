@@ -23,13 +23,12 @@ use Rattle.program.specs.declared.Reading.{Reading}
 use Rattle.program.specs.declared.ReadVerdict.{ReadVerdict}
 use Rattle.program.specs.declared.ReadVerdict.the-variants.{Accepted, Refused as TextRefused}
 use Rattle.program.specs.Verdict.{readOf, textNumber, textSpot}
-use Rattle.reader_laws.specs.Decoded.{decoded}
 use Rattle.answer_reader.specs.declared.Formed.{Formed}
 use Rattle.answer_reader.specs.declared.Formed.the-variants.{Model as FormModel, NoModel, Malformed}
 use Rattle.answer_reader.specs.Results.{formOf}
 use Rattle.assigning.specs.Assign.{Outcome, literalsFrom, assignedOf, assignedBytes, firstUnset}
 use Rattle.truth.specs.Truth.{firstFalse}
-use Rattle.results.specs.Results.{Result, trueCount, highest, levelIn, counters, assignmentAfter, levelsAfter}
+use Rattle.results.specs.Results.{Result, trueCount, highest, levelIn, counters, assignmentAfter, levelsAfter, varTotal, programOf}
 use Rattle.checking.specs.declared.CheckRefusal.{CheckRefusal}
 use Rattle.checking.specs.declared.CheckRefusal.the-variants.{Text, ShortBuffer, OverlongAnswer, MalformedAnswer, NoModelOffered, StrayVariable, RepeatedVariable, MissingVariable, FalseClause}
 use Rattle.checking.specs.declared.CheckVerdict.{CheckVerdict}
@@ -71,9 +70,6 @@ zeroes (MissingVariable v) = true
 zeroes (FalseClause j) = true
 
 -- ---- the rows, last to first
-
-abbrev pub varTotal : Program → ℕ
-varTotal P = variables P (width (P .atoms))
 
 abbrev pub refuse : CheckRefusal → Result CheckRefusal
 refuse r = Result.refused r
@@ -122,10 +118,6 @@ verdictOf n (Result.refused r) = Refused r
 -- of program P, the result x is answered by r and leaves the buffers b and l as c and m
 abbrev pub Gives : Program → Result CheckRefusal → CheckVerdict → List ℕ → List ℕ → List ℕ → List ℕ → Type 0
 Gives P x r b c l m = (r ≡ verdictOf (P .atoms) x) × (c ≡ assignmentAfter zeroes (varTotal P) x b) × (m ≡ levelsAfter (P .atoms) x l)
-
--- the program that a reading accepted
-abbrev pub programOf : Reading → Program
-programOf r = decoded (r .program)
 
 abbrev pub readResult : Reading → List ℕ → ℕ → ℕ → ℕ → Result CheckRefusal
 readResult r t k a l = afterReading (r .verdict) (checkResult (programOf r) t k a l)

@@ -27,7 +27,8 @@ ghost use Rattle.program.specs.declared.ReadVerdict.the-variants.{Accepted};
 ghost use Rattle.tables.specs.Tables.{Stored, programIn, Ready};
 ghost use Rattle.assigning.specs.Assign.{filledWith};
 ghost use Rattle.checking.specs.declared.CheckVerdict.the-variants.{Refused};
-ghost use Rattle.checking.specs.Check.{checkNumber, checkSpot, Gives, judged, assignedResult, checkResult, readResult, programOf, checkAnswer, checkAssignment, checkLevels};
+ghost use Rattle.results.specs.Results.{programOf};
+ghost use Rattle.checking.specs.Check.{checkNumber, checkSpot, Gives, judged, assignedResult, checkResult, readResult, checkAnswer, checkAssignment, checkLevels};
 
 // Why no model is shown, each with its spot.
 pub enum CheckRefusal {
@@ -125,9 +126,7 @@ fn assigned<'a>(
             &mut *assignment,
             &mut *levels,
         ),
-        Assigned::Stray(s) => {
-            zeroed(CheckRefusal::StrayVariable(s), t.vars, &mut *assignment)
-        }
+        Assigned::Stray(s) => { zeroed(CheckRefusal::StrayVariable(s), t.vars, &mut *assignment) }
         Assigned::Repeated(s) => {
             zeroed(CheckRefusal::RepeatedVariable(s), t.vars, &mut *assignment)
         }
@@ -231,22 +230,11 @@ pub fn check_read(
 
 // Whether the answer shows a stable model of the program: how many atoms are true, and the highest level; the assignment and the levels are written.
 // Refusals 13 to 16 zero the assignment; the others write nothing. Bytes past V and n stay.
-pub fn check(
-    text: &[u8],
-    answer: &[u8],
-    assignment: &mut [u8],
-    levels: &mut [u8],
-) -> CheckVerdict
+pub fn check(text: &[u8], answer: &[u8], assignment: &mut [u8], levels: &mut [u8]) -> CheckVerdict
     ensures { λ r. ⌜ (r ≡ checkAnswer (now (text .entry)) (now (answer .entry)) (length (now (assignment .entry))) (length (now (levels .entry)))) × (now (assignment .exit) ≡ checkAssignment (now (text .entry)) (now (answer .entry)) (now (assignment .entry)) (length (now (levels .entry)))) × (now (levels .exit) ≡ checkLevels (now (text .entry)) (now (answer .entry)) (length (now (assignment .entry))) (now (levels .entry))) ⌝ }
 {
     let x = read(text);
-    check_read(
-        x,
-        answer,
-        answer.len(),
-        &mut *assignment,
-        &mut *levels,
-    )
+    check_read(x, answer, answer.len(), &mut *assignment, &mut *levels)
 }
 
 // The document's number of a refusal.

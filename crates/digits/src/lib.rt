@@ -8,6 +8,7 @@ ghost use lib.IntN.{natAbs};
 ghost use lib.ListN.{length, drop};
 ghost use Rattle.text.specs.Decimal.{decimal};
 ghost use Rattle.digits.specs.Bytes.{literalText};
+ghost use Rattle.digits.specs.FourDigits.{fourOf, fourText};
 
 // The last decimal digit of n, as a byte.
 fn digit(n: usize) -> u8
@@ -88,6 +89,50 @@ pub fn put_literal(x: i32, buf: &mut [u8]) -> usize
         return 1 + put_number(n, 32, &mut buf[1..]);
     }
     put_number(n, 32, &mut *buf)
+}
+
+// The digits of a number from 1,000 to 9,999, as bytes.
+pub struct Four {
+    pub a: u8,
+    pub b: u8,
+    pub c: u8,
+    pub d: u8,
+}
+
+// The digit n as a byte.
+fn byte(n: u16) -> u8
+    requires { ⌜ n < 10 ⌝ }
+    ensures { λ r. ⌜ r ≡ 48 + n ⌝ }
+{
+    48 + n as u8
+}
+
+// The four digits of n, so that they are found once and written often.
+pub fn four_of(n: u16) -> Four
+    requires { ⌜ n < 10000 ⌝ }
+    ensures { λ r. ⌜ r ≡ fourOf n ⌝ }
+{
+    let q = n / 100;
+    let r = n % 100;
+    Four {
+        a: byte(q / 10),
+        b: byte(q % 10),
+        c: byte(r / 10),
+        d: byte(r % 10),
+    }
+}
+
+// Writes four digits and one space at the front of the buffer and returns how many bytes they are.
+pub fn put_four(x: Four, buf: &mut [u8]) -> usize
+    requires { ⌜ length (fourText x) ≤ length (now buf) ⌝ }
+    ensures { λ r. ⌜ (r ≡ length (fourText x)) × (now (buf .exit) ≡ fourText x ++ drop r (now (buf .entry))) ⌝ }
+{
+    buf[0] = x.a;
+    buf[1] = x.b;
+    buf[2] = x.c;
+    buf[3] = x.d;
+    buf[4] = 32;
+    5
 }
 
 // How many digits n has.

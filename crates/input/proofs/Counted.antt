@@ -1,4 +1,4 @@
--- The front of a text, 65,537 bytes of it or all, and its length give the reader's answer to the whole text.
+-- The front of a text, 65,537 bytes of it or all, and its length give the reader's answer to the whole text; the arrays of an accepted one are kept.
 -- Assumes nothing.
 use Prim.Native.Nat.{ℕ, _≤_, _<_}
 use native.Mathlib.Nat.{le-trans}
@@ -12,8 +12,12 @@ use borrow.Author.Tests.{lt-ltb, le-ltb}
 use Rattle.lists.proofs.Tests.{le-or-lt}
 use Rattle.program.specs.declared.TextRefusal.the-variants.{Overlong}
 use Rattle.program.specs.declared.Program.{Program}
-use Rattle.program.specs.declared.ReadVerdict.the-variants.{Refused}
+use Rattle.program.specs.declared.Reading.{Reading}
+use Rattle.program.specs.declared.ReadVerdict.the-variants.{Accepted, Refused}
 use Rattle.program.specs.Verdict.{emptyProgram, refuseOf, readOf}
+use Rattle.reader_laws.proofs.Rows.{not-both}
+use Rattle.tables.specs.Tables.{Stored}
+use Rattle.lines.proofs.Open.{accepted-stored}
 use Rattle.input.specs.Counted.{countedOf}
 
 -- by the test that the code makes
@@ -39,3 +43,14 @@ counted-whole t =
 pub refused-long : {p : Program} {total : ℕ} → p ≡ emptyProgram → record { verdict = Refused (Overlong total); program = p } ≡ refuseOf (Overlong total)
 unfolding refuseOf
 refused-long {p} {total} e = ap (λ (x : Program). record { verdict = Refused (Overlong total); program = x }) e
+
+-- of an accepted text the arrays are kept
+pub counted-stored : (f : List ℕ) (n : ℕ) {r : Reading} → r ≡ countedOf f n → r .verdict ≡ Accepted → Stored (r .program)
+unfolding refuseOf
+counted-stored f n {r} e v = ⊎-elim short long (le-or-lt n 65536)
+  where
+    short : n ≤ 65536 → Stored (r .program)
+    short h = accepted-stored f (e ∙ sym (counted-short f n h)) v
+
+    long : 65536 < n → Stored (r .program)
+    long h = absurd (not-both v (ap (λ (x : Reading). x .verdict) (e ∙ sym (counted-long f n h))))

@@ -15,8 +15,12 @@ use cases::field_count;
 use cases::front;
 use cases::line_end;
 use cases::number_field;
-use cases::print_bytes;
+use cases::print_accepted;
+use cases::print_bad_case;
+use cases::print_buffer;
+use cases::print_line_end;
 use cases::print_number;
+use cases::print_refused;
 use cases::read_argument;
 use lines::LineRefusal;
 use lines::LineVerdict;
@@ -40,23 +44,15 @@ struct Written {
     ended: bool,
 }
 
-fn bad_case() {
-    io::write_all(1, b"bad case\n");
-}
-
 // Prints a refusal.
 fn say_refused(r: LineRefusal) {
-    io::write_all(1, b"refused ");
-    print_number(line_number_of(r) as usize);
-    io::write_all(1, b" ");
-    print_number(line_spot_of(r));
+    print_refused(line_number_of(r), line_spot_of(r));
 }
 
 // Prints a buffer after a verdict.
 fn say_buffer(buf: &[u8]) {
-    io::write_all(1, b" ");
-    print_bytes(buf);
-    io::write_all(1, b"\n");
+    print_buffer(buf);
+    print_line_end();
 }
 
 // Prints what the line call answers.
@@ -73,12 +69,7 @@ fn say_line_verdict(v: LineVerdict) {
 // Prints what the call for a run answers.
 fn say_run_verdict(v: RunVerdict) {
     match v {
-        RunVerdict::WrittenRun(lines, bytes) => {
-            io::write_all(1, b"ok ");
-            print_number(lines);
-            io::write_all(1, b" ");
-            print_number(bytes);
-        }
+        RunVerdict::WrittenRun(lines, bytes) => print_accepted(lines, bytes),
         RunVerdict::RefusedRun(r) => say_refused(r),
     }
 }
@@ -109,7 +100,7 @@ fn say_call(given: &[u8]) {
         say_line(&text[..n], j.value, place.value, &mut buf[..m]);
         return;
     }
-    bad_case();
+    print_bad_case();
 }
 
 // Prints what a line of a .runs file gives.
@@ -125,7 +116,7 @@ fn say_run_call(given: &[u8]) {
         say_run(&text[..n], j.value, &mut buf[..m]);
         return;
     }
-    bad_case();
+    print_bad_case();
 }
 
 // Prints what a line of a .calls or a .runs file gives.
@@ -227,7 +218,7 @@ fn last_line(s: &[u8]) -> usize
 fn say_first_line(s: &[u8]) {
     let e = front(s, line_end(s, 0));
     io::write_all(1, &s[..e]);
-    io::write_all(1, b"\n");
+    print_line_end();
 }
 
 // Prints the last line of s.
@@ -243,7 +234,7 @@ fn say_written(w: Written) {
     print_number(w.bytes);
     io::write_all(1, b" ");
     io::print_decimal(1, w.sum);
-    io::write_all(1, b"\n");
+    print_line_end();
 }
 
 // Prints line 0, which stands at the front of buf, the numbers of the whole clause file, and its last line.
@@ -263,7 +254,7 @@ fn say_program(text: &[u8]) {
         RunVerdict::WrittenRun(lines, bytes) => say_clause_file(text, &mut buf),
         RunVerdict::RefusedRun(r) => {
             say_refused(r);
-            io::write_all(1, b"\n");
+            print_line_end();
         }
     }
 }

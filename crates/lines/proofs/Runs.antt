@@ -1,13 +1,13 @@
 -- A run of lines, line by line.
 --   Going        the state of a run that began at line j: lines written so far, their bytes, and what is still to fit
 --   begun        at the beginning
---   goes-on      after one line more
+--   goes-on      after some lines more
 --   runs-out     when no line is left
 --   runs-full    when the next line does not fit
 --   part-..      the part that is written, and the place after it
 -- Assumes nothing.
-use Prim.Native.Nat.{ℕ, suc, _+_, _-_, _≤_, _<_}
-use native.Mathlib.Nat.{zero-add, add-zero, le-trans}
+use Prim.Native.Nat.{ℕ, zero, suc, _+_, _-_, _≤_, _<_}
+use native.Mathlib.Nat.{zero-add, add-zero, suc-add, le-trans}
 use native.Mathlib.Omega.{arith}
 use mathlib.Core.Path.{_≡_, refl, sym, _∙_, ap, ap₂, subst}
 use mathlib.Core.Bool.{Bool, true, false, cond}
@@ -16,7 +16,7 @@ use Rattle.lists.proofs.Tests.{le-or-lt}
 use mathlib.Core.List.{List, [], _∷_, _++_, append-assoc, append-nil}
 use lib.Dec.{leb}
 use lib.ListN.{length, getD, take, drop, length-append, length-drop, drop-of-length-le}
-use lib.Seq.{take-suc, drop-cons, getD-drop}
+use lib.Seq.{take-add, take-suc, drop-cons, drop-drop}
 use borrow.Author.Tests.{le-leb, lt-leb, leb-true, leb-false}
 use borrow.Rule.Slice.PartMut.{putMid}
 use Rattle.lists.specs.Lists.{joined}
@@ -30,13 +30,38 @@ use Rattle.lines.specs.declared.Part.{Part}
 use Rattle.lines.proofs.Placed.{lines-count, line-short, clauses-short}
 use Rattle.places.proofs.Numbers.{own-number, number-is}
 use Rattle.lines.specs.Lines.{linesOf, lineOf, fitting, partIn, runBytesIn}
+use Rattle.lines.specs.Taken.{Taken}
 
 pub joined-append : (xs ys : List (List ℕ)) → joined (xs ++ ys) ≡ joined xs ++ joined ys
 joined-append [] ys = refl
 joined-append (x ∷ xs) ys = ap (λ (zs : List ℕ). x ++ zs) (joined-append xs ys) ∙ sym (append-assoc x (joined xs) (joined ys))
 
+-- the first k lines, and m more
+joined-take : (ls : List (List ℕ)) (k m : ℕ) → joined (take (k + m) ls) ≡ joined (take k ls) ++ joined (take m (drop k ls))
+joined-take ls k m = ap joined (take-add k m ls) ∙ joined-append (take k ls) (take m (drop k ls))
+
+-- m lines fit, and those behind them as far as they fit what is left
+fitting-some : (ls : List (List ℕ)) (n m : ℕ) → m ≤ length ls → length (joined (take m ls)) ≤ n
+    → fitting n ls ≡ m + fitting (n - length (joined (take m ls))) (drop m ls)
+fitting-some ls n zero h f = ap (λ (k : ℕ). fitting k ls) (less n) ∙ sym (zero-add (fitting (n - 0) ls))
+  where
+    less : (k : ℕ) → k ≡ k - 0
+    less k = omega arith
+fitting-some [] n (suc m) h f = absurd (omega (arith, h))
+fitting-some (l ∷ ls) n (suc m) h f =
+    ap (λ (d : Bool). cond d (suc (fitting (n - length l) ls)) 0) (le-leb (length l) n (omega (arith, both, f)))
+    ∙ ap suc (fitting-some ls (n - length l) m (omega (arith, h)) (omega (arith, both, f)))
+    ∙ ap (λ (k : ℕ). suc (m + fitting k (drop m ls))) (minus n (length l) (length (joined (take m ls))) both)
+    ∙ sym (suc-add m (fitting (n - length (l ++ joined (take m ls))) (drop m ls)))
+  where
+    both : length (l ++ joined (take m ls)) ≡ length l + length (joined (take m ls))
+    both = length-append l (joined (take m ls))
+
+    minus : (n x y : ℕ) {z : ℕ} → z ≡ x + y → n - x - y ≡ n - z
+    minus n x y e = omega (arith, e)
+
 -- the first k + 1 lines
-joined-next : (ls : List (List ℕ)) (k : ℕ) → k < length ls → joined (take (suc k) ls) ≡ joined (take k ls) ++ getD ls k []
+pub joined-next : (ls : List (List ℕ)) (k : ℕ) → k < length ls → joined (take (suc k) ls) ≡ joined (take k ls) ++ getD ls k []
 joined-next ls k h =
     ap joined (take-suc ls k [] h) ∙ joined-append (take k ls) (getD ls k [] ∷ []) ∙ ap (λ (x : List ℕ). joined (take k ls) ++ x) (append-nil (getD ls k []))
 
@@ -73,53 +98,6 @@ module _ (all : List (List ℕ)) (j : ℕ) (b₀ : List ℕ) where
     here : drop n all ≡ line ∷ drop (suc n) all
     here = drop-cons all n [] h
 
-    there : getD ls lines [] ≡ line
-    there = getD-drop j all lines [] ∙ ap (λ (k : ℕ). getD all k []) (sym (G .number-is))
-
-    more : lines < length ls
-    more = subst (λ (k : ℕ). lines < k) (sym (length-drop j all)) (omega (arith, h, G .number-is))
-
-    pub goes-on : {r : ℕ} {l : List ℕ} → length line ≤ length b - to → r ≡ length line
-        → l ≡ line ++ drop r (take (length b - to) (drop to b))
-        → Going (suc n) (lines + 1) (to + r) (putMid to (length b - to) b l)
-    goes-on {r} {l} f e q =
-        record {
-          number-is = omega (arith, G .number-is);
-          in-room = omega (arith, f, e, G .same-length, G .in-room);
-          same-length = ap length new-text ∙ length-append (joined (take lines ls) ++ line) (drop (to + r) b₀)
-              ∙ ap₂ (λ (x y : ℕ). x + y) new-length (length-drop (to + r) b₀) ∙ omega (arith, f, e, G .same-length, G .in-room);
-          bytes-are = sym new-length ∙ sym (ap length next-lines);
-          text-is = new-text ∙ ap (λ (x : List ℕ). x ++ drop (to + r) b₀) (sym next-lines);
-          fits-are = G .fits-are ∙ ap (λ (k : ℕ). lines + k) fits-next ∙ again lines (fitting (length b₀ - (to + r)) (drop (suc n) all));
-        }
-      where
-        new-text : putMid to (length b - to) b l ≡ (joined (take lines ls) ++ line) ++ drop (to + r) b₀
-        new-text = grow to r b₀ b (joined (take lines ls)) line l (sym (G .bytes-are)) (G .text-is) q
-
-        new-length : length (joined (take lines ls) ++ line) ≡ to + r
-        new-length = length-append (joined (take lines ls)) line ∙ ap₂ (λ (x y : ℕ). x + y) (sym (G .bytes-are)) (sym e)
-
-        next-lines : joined (take (lines + 1) ls) ≡ joined (take lines ls) ++ line
-        next-lines = ap (λ (k : ℕ). joined (take k ls)) (one lines) ∙ joined-next ls lines more ∙ ap (λ (x : List ℕ). joined (take lines ls) ++ x) there
-          where
-            one : (k : ℕ) → k + 1 ≡ suc k
-            one k = omega arith
-
-        again : (x y : ℕ) → x + suc y ≡ x + 1 + y
-        again x y = omega arith
-
-        room : length line ≤ length b₀ - to
-        room = subst (λ (k : ℕ). length line ≤ k - to) (G .same-length) f
-
-        fits-next : fitting (length b₀ - to) (drop n all) ≡ suc (fitting (length b₀ - (to + r)) (drop (suc n) all))
-        fits-next =
-            ap (fitting (length b₀ - to)) here
-            ∙ ap (λ (c : Bool). cond c (suc (fitting (length b₀ - to - length line) (drop (suc n) all))) 0) (le-leb (length line) (length b₀ - to) room)
-            ∙ ap (λ (k : ℕ). suc (fitting k (drop (suc n) all))) (minus (length b₀) (length line) e)
-          where
-            minus : (k x : ℕ) → r ≡ x → k - to - x ≡ k - (to + r)
-            minus k x e = omega (arith, e)
-
     pub runs-full : length b - to < length line → lines ≡ fitting (length b₀) ls
     runs-full f = sym (G .fits-are ∙ ap (λ (k : ℕ). lines + k) none ∙ add-zero lines)
       where
@@ -129,6 +107,45 @@ module _ (all : List (List ℕ)) (j : ℕ) (b₀ : List ℕ) where
             ∙ ap (λ (c : Bool). cond c (suc (fitting (length b₀ - to - length line) (drop (suc n) all))) 0) (lt-leb (length line) (length b₀ - to) (subst (λ (k : ℕ). k - to < length line) (G .same-length) f))
 
   module _ {n lines to : ℕ} {b : List ℕ} (G : Going n lines to b) where
+    -- after m lines more
+    pub goes-on : (m : ℕ) {r : ℕ} {l : List ℕ} → n + m ≤ length all → r ≤ length b - to → r ≡ length (joined (take m (drop n all)))
+        → l ≡ joined (take m (drop n all)) ++ drop r (take (length b - to) (drop to b))
+        → Going (n + m) (lines + m) (to + r) (putMid to (length b - to) b l)
+    goes-on m {r} {l} h f e q =
+        record {
+          number-is = omega (arith, G .number-is);
+          in-room = omega (arith, f, G .same-length, G .in-room);
+          same-length = ap length new-text ∙ length-append (joined (take lines ls) ++ joined (take m (drop n all))) (drop (to + r) b₀)
+              ∙ ap₂ (λ (x y : ℕ). x + y) new-length (length-drop (to + r) b₀) ∙ omega (arith, f, G .same-length, G .in-room);
+          bytes-are = sym new-length ∙ sym (ap length next-lines);
+          text-is = new-text ∙ ap (λ (x : List ℕ). x ++ drop (to + r) b₀) (sym next-lines);
+          fits-are = G .fits-are ∙ ap (λ (k : ℕ). lines + k) fits-next ∙ again lines m (fitting (length b₀ - (to + r)) (drop (n + m) all));
+        }
+      where
+        new-text : putMid to (length b - to) b l ≡ (joined (take lines ls) ++ joined (take m (drop n all))) ++ drop (to + r) b₀
+        new-text = grow to r b₀ b (joined (take lines ls)) (joined (take m (drop n all))) l (sym (G .bytes-are)) (G .text-is) q
+
+        new-length : length (joined (take lines ls) ++ joined (take m (drop n all))) ≡ to + r
+        new-length = length-append (joined (take lines ls)) (joined (take m (drop n all))) ∙ ap₂ (λ (x y : ℕ). x + y) (sym (G .bytes-are)) (sym e)
+
+        next-lines : joined (take (lines + m) ls) ≡ joined (take lines ls) ++ joined (take m (drop n all))
+        next-lines =
+            joined-take ls lines m
+            ∙ ap (λ (xs : List (List ℕ)). joined (take lines ls) ++ joined (take m xs)) (drop-drop lines j all ∙ ap (λ (k : ℕ). drop k all) (sym (G .number-is)))
+
+        again : (x y z : ℕ) → x + (y + z) ≡ x + y + z
+        again x y z = omega arith
+
+        fits-next : fitting (length b₀ - to) (drop n all) ≡ m + fitting (length b₀ - (to + r)) (drop (n + m) all)
+        fits-next =
+            fitting-some (drop n all) (length b₀ - to) m
+            (subst (λ (k : ℕ). m ≤ k) (sym (length-drop n all)) (omega (arith, h)))
+            (subst (λ (k : ℕ). length (joined (take m (drop n all))) ≤ k - to) (G .same-length) (subst (λ (k : ℕ). k ≤ length b - to) e f))
+            ∙ ap₂ (λ (k : ℕ) (xs : List (List ℕ)). m + fitting k xs) (minus (length b₀) (length (joined (take m (drop n all)))) e) (drop-drop m n all)
+          where
+            minus : (k x : ℕ) → r ≡ x → k - to - x ≡ k - (to + r)
+            minus k x e = omega (arith, e)
+
     pub runs-out : length all ≤ n → lines ≡ fitting (length b₀) ls
     runs-out h = sym (G .fits-are ∙ ap (λ (k : List (List ℕ)). lines + fitting (length b₀ - to) k) (drop-of-length-le all h) ∙ add-zero lines)
 
@@ -166,9 +183,6 @@ module _ {P : Program} {t : Totals} {hs ss bs ks xs ys : List ℕ} (T : Tabled P
       listed : at .number < length (linesOf P)
       listed = subst (λ (k : ℕ). at .number < k) (sym (lines-count T)) (omega (arith, h))
 
-      pub lines-short : lines ≤ 53690
-      lines-short = omega (arith, h, G .number-is, clauses-short T)
-
       -- the next line does not fit
       pub part-full : {f : Bool} → f ≡ leb (length (lineOf P (at .number))) (length b - to) → f ≡ false
           → (record { lines = lines; bytes = to; place = at } ≡ partIn P w j (length b₀)) × (b ≡ runBytesIn P j b₀)
@@ -182,21 +196,25 @@ module _ {P : Program} {t : Totals} {hs ss bs ks xs ys : List ℕ} (T : Tabled P
         pub line-asks : length (lineOf P (at .number)) ≤ length (take (length b - to) (drop to b))
         line-asks = subst (λ (k : ℕ). length (lineOf P (at .number)) ≤ k) (sym (tail-length b to)) fit
 
-        module _ {r : ℕ} {l : List ℕ} (u : (r ≡ length (lineOf P (at .number))) × (l ≡ lineOf P (at .number) ++ drop r (take (length b - to) (drop to b)))) where
-          onward : Going (linesOf P) j b₀ (suc (at .number)) (lines + 1) (to + r) (putMid to (length b - to) b l)
-          onward = goes-on (linesOf P) j b₀ G listed fit (u .0) (u .1)
+      -- some lines are written into the lent tail
+      module _ {q : Part} {l : List ℕ} (u : Taken P w (at .number) q (take (length b - to) (drop to b)) l) where
+        onward : Going (linesOf P) j b₀ (at .number + q .lines) (lines + q .lines) (to + q .bytes) (putMid to (length b - to) b l)
+        onward =
+            goes-on (linesOf P) j b₀ G (q .lines) (u .listed) (subst (λ (k : ℕ). q .bytes ≤ k) (tail-length b to) (u .in-room)) (u .bytes-are) (u .text-is)
 
-          pub sum-fits : to + r ≤ length b₀
-          sum-fits = onward .in-room
+        pub sum-fits : to + q .bytes ≤ length b₀
+        sum-fits = onward .in-room
 
-          pub run-goes-on : {next : Place} → next ≡ placeAt P w (suc (at .number))
-              → (next ≡ placeAt P w (next .number)) × (next .number ≤ suc (t .clauses))
-              × Going (linesOf P) j b₀ (next .number) (lines + 1) (to + r) (putMid to (length b - to) b l)
-          run-goes-on {next} v =
-              (own-number T v, omega (arith, number-is T v, h), subst (λ (k : ℕ). Going (linesOf P) j b₀ k (lines + 1) (to + r) (putMid to (length b - to) b l)) (sym (number-is T v)) onward)
+        pub lines-fit : lines + q .lines ≤ 53691
+        lines-fit = omega (arith, u .listed, lines-count T, G .number-is, clauses-short T)
 
-          pub run-less : {next : Place} → next ≡ placeAt P w (suc (at .number)) → suc (t .clauses) - next .number < suc (t .clauses) - at .number
-          run-less {next} v = omega (arith, number-is T v, h)
+        pub run-goes-on : (q .place ≡ placeAt P w (q .place .number)) × (q .place .number ≤ suc (t .clauses))
+            × Going (linesOf P) j b₀ (q .place .number) (lines + q .lines) (to + q .bytes) (putMid to (length b - to) b l)
+        run-goes-on =
+            (own-number T (u .place-is), omega (arith, number-is T (u .place-is), u .listed, lines-count T), subst (λ (k : ℕ). Going (linesOf P) j b₀ k (lines + q .lines) (to + q .bytes) (putMid to (length b - to) b l)) (sym (number-is T (u .place-is))) onward)
+
+        pub run-less : suc (t .clauses) - q .place .number < suc (t .clauses) - at .number
+        run-less = omega (arith, number-is T (u .place-is), u .some, h)
 
 -- ---- from part to part
 

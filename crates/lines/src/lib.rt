@@ -1,11 +1,14 @@
 // The lines of a text's clause file: one line, and a run of lines, into a lent buffer (document 01, "Clauses, in order").
 use places::Place;
 use places::next;
+use places::past_row;
 use places::start;
 use printing::clause_length;
 use printing::header_length;
+use printing::is_rowed;
 use printing::put_clause;
 use printing::put_header;
+use printing::put_row;
 use program::Program;
 use program::ReadVerdict;
 use program::TextRefusal;
@@ -17,12 +20,15 @@ use tabling::pairs_of;
 use tabling::totals_of;
 ghost use Prim.Native.Nat.{suc, _-_, _≤_};
 ghost use mathlib.Core.Path.{_≡_};
+ghost use mathlib.Core.Bool.{true};
 ghost use mathlib.Core.List.{_++_};
 ghost use lib.Dec.{leb};
 ghost use lib.ListN.{length, drop};
 ghost use Rattle.reader_laws.specs.Decoded.{decoded};
 ghost use Rattle.tables.specs.Tables.{Stored, programIn, Ready};
 ghost use Rattle.places.specs.Places.{placeAt};
+ghost use Rattle.printing.specs.Rows.{isRowed};
+ghost use Rattle.lines.specs.Taken.{Taken};
 ghost use Rattle.lines.specs.Lines.{lineOf, lineNumber, lineSpot, answerIn, bytesIn, lineAnswer, lineBytes, partIn, runAnswerIn, runBytesIn, runAnswer, runBytes};
 
 // Why no line is written: the text is refused, the buffer is short, or there is no such clause, each with its spot.
@@ -140,6 +146,122 @@ fn fits<'a>(
     line_length(t, heads, starts, bodies, before, partners, owners, c) <= room
 }
 
+// Writes the lines of the row of groups 4 and 5 that begins at place c.
+fn put_whole_row<'a>(
+    t: Totals,
+    heads: &'a [u16],
+    starts: &'a [u16],
+    bodies: &'a [u16],
+    before: &'a [u16],
+    partners: &'a [u16],
+    owners: &'a [u16],
+    c: Place,
+    buf: &mut [u8],
+) -> Part
+    requires { ⌜ (Ready t (now heads) (now starts) (now bodies) (now before) (now partners) (now owners)) × (c ≡ placeAt (programIn (t .sizes) (now heads) (now starts) (now bodies)) (t .sizes .w) (c .number)) × (c .number ≤ t .clauses) × (isRowed (c .spot .group) ≡ true) × (c .spot .clause ≡ 1) × (3008 ≤ length (now buf)) ⌝ }
+    ensures { λ r. ⌜ Taken (programIn (t .sizes) (now (heads .entry)) (now (starts .entry)) (now (bodies .entry))) (t .sizes .w) (c .number) r (now (buf .entry)) (now (buf .exit)) ⌝ }
+{
+    let s = c.spot;
+    let k = s.clauses + 1;
+    let bytes = put_row(
+        t,
+        heads,
+        starts,
+        bodies,
+        before,
+        partners,
+        owners,
+        s.group,
+        s.item,
+        s.row,
+        k,
+        &mut *buf,
+    );
+    Part {
+        lines: k as usize,
+        bytes: bytes,
+        place: past_row(t, heads, starts, bodies, before, partners, owners, c),
+    }
+}
+
+// Writes the line at place c.
+fn put_one<'a>(
+    t: Totals,
+    heads: &'a [u16],
+    starts: &'a [u16],
+    bodies: &'a [u16],
+    before: &'a [u16],
+    partners: &'a [u16],
+    owners: &'a [u16],
+    c: Place,
+    buf: &mut [u8],
+) -> Part
+    requires { ⌜ (Ready t (now heads) (now starts) (now bodies) (now before) (now partners) (now owners)) × (c ≡ placeAt (programIn (t .sizes) (now heads) (now starts) (now bodies)) (t .sizes .w) (c .number)) × (c .number ≤ t .clauses) × (length (lineOf (programIn (t .sizes) (now heads) (now starts) (now bodies)) (c .number)) ≤ length (now buf)) ⌝ }
+    ensures { λ r. ⌜ Taken (programIn (t .sizes) (now (heads .entry)) (now (starts .entry)) (now (bodies .entry))) (t .sizes .w) (c .number) r (now (buf .entry)) (now (buf .exit)) ⌝ }
+{
+    let bytes = put_line(
+        t,
+        heads,
+        starts,
+        bodies,
+        before,
+        partners,
+        owners,
+        c,
+        &mut *buf,
+    );
+    Part {
+        lines: 1,
+        bytes: bytes,
+        place: next(t, heads, starts, bodies, before, partners, owners, c),
+    }
+}
+
+// Writes the line at place c, which fits, or the lines of the whole row that begins there.
+fn put_some<'a>(
+    t: Totals,
+    heads: &'a [u16],
+    starts: &'a [u16],
+    bodies: &'a [u16],
+    before: &'a [u16],
+    partners: &'a [u16],
+    owners: &'a [u16],
+    c: Place,
+    buf: &mut [u8],
+) -> Part
+    requires { ⌜ (Ready t (now heads) (now starts) (now bodies) (now before) (now partners) (now owners)) × (c ≡ placeAt (programIn (t .sizes) (now heads) (now starts) (now bodies)) (t .sizes .w) (c .number)) × (c .number ≤ t .clauses) × (length (lineOf (programIn (t .sizes) (now heads) (now starts) (now bodies)) (c .number)) ≤ length (now buf)) ⌝ }
+    ensures { λ r. ⌜ Taken (programIn (t .sizes) (now (heads .entry)) (now (starts .entry)) (now (bodies .entry))) (t .sizes .w) (c .number) r (now (buf .entry)) (now (buf .exit)) ⌝ }
+{
+    if 3008 <= buf.len() {
+        if c.spot.clause == 1 {
+            if is_rowed(c.spot.group) {
+                return put_whole_row(
+                    t,
+                    heads,
+                    starts,
+                    bodies,
+                    before,
+                    partners,
+                    owners,
+                    c,
+                    &mut *buf,
+                );
+            }
+        }
+    }
+    put_one(
+        t,
+        heads,
+        starts,
+        bodies,
+        before,
+        partners,
+        owners,
+        c,
+        &mut *buf,
+    )
+}
+
 // Writes as many whole lines as fit the buffer, from the line at place c on.
 pub fn put_lines<'a>(
     t: Totals,
@@ -176,7 +298,7 @@ pub fn put_lines<'a>(
                 place: at,
             };
         }
-        to += put_line(
+        let part = put_some(
             t,
             heads,
             starts,
@@ -187,8 +309,9 @@ pub fn put_lines<'a>(
             at,
             &mut buf[to..],
         );
-        at = next(t, heads, starts, bodies, before, partners, owners, at);
-        lines += 1;
+        to += part.bytes;
+        lines += part.lines;
+        at = part.place;
     }
     Part {
         lines: lines,

@@ -29,13 +29,14 @@ use Rattle.answers.specs.Reading.{Spotted, spotsOf}
 use Rattle.answers.proofs.ReadingLaws.{reads-model, literalsAt, spots-literals}
 use Rattle.answer_reader.specs.declared.Formed.the-variants.{Model}
 use Rattle.answer_reader.specs.Results.{formOf}
-use Rattle.answer_reader.proofs.Promised.{IsModel, model-form}
-use Rattle.assigning.specs.Assign.{literalsFrom, Outcome, assignedOf, assignedBytes, firstUnset, filledWith}
-use Rattle.assigning.proofs.Steps.{nobody, literalAt, variableAt}
+use Rattle.answers.specs.Reading.{IsModel}
+use Rattle.answer_reader.proofs.Promised.{model-form}
+use Rattle.assigning.specs.Assign.{literalsFrom, nobody, literalAt, variableAt, Outcome, assignedOf, assignedBytes, firstUnset, filledWith}
 use Rattle.assigning.proofs.Taking.{literals-read}
-use Rattle.assigning.proofs.Rows.{AllFit, literals-named}
+use Rattle.assigning.specs.Rows.{AllFit, Once}
+use Rattle.assigning.proofs.Rows.{literals-named}
 use Rattle.offering.specs.Offered.{valueBytes, valueLiteral, literalsFor, offered, offeredText, valuesOf}
-use Rattle.offering.proofs.Values.{Once, EachTrue, once-done, once-set, bytes-are, values-unique}
+use Rattle.offering.proofs.Values.{EachTrue, once-done, once-set, bytes-are, values-unique}
 
 -- ---- one literal
 

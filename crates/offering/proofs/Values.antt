@@ -7,7 +7,7 @@
 --   bytes-unique                  values are told apart by their bytes
 --   bytes-are                     where each variable is named once, the first n bytes are the n values that make each literal true
 --   values-length, values-true    `valuesOf n xs` are n values that do
---   values-bytes                  so the first n bytes are these
+--   values-alone, values-bytes    so the first n bytes are these
 --   values-unique                 and no other n values do
 -- Assumes nothing.
 use Prim.Native.Nat.{ℕ, zero, suc, _-_, _≤_, _<_}
@@ -27,9 +27,10 @@ use Rattle.lists.proofs.Tables.{length-tab, getD-tab, getD-map}
 use Rattle.encoding.specs.Literal.{Literal, variable, Assignment, valueOf, literalTrue}
 use Literal.{var, −_}
 use Rattle.answers.specs.Reading.{Spotted}
-use Rattle.assigning.specs.Assign.{valueOf as byteOf, Outcome, putOutcome, putBytes, thenOutcome, thenBytes, assignedOf, assignedBytes, firstUnset, filledWith}
-use Rattle.assigning.proofs.Steps.{nobody, literalAt, variableAt, AllNamed, Named, byte-given, rest-kept}
-use Rattle.assigning.proofs.Rows.{AllFit, assigned-done, done-assigned, unset-nothing, nothing-unset}
+use Rattle.assigning.specs.Assign.{valueOf as byteOf, nobody, literalAt, variableAt, Outcome, putOutcome, putBytes, thenOutcome, thenBytes, assignedOf, assignedBytes, firstUnset, filledWith}
+use Rattle.assigning.proofs.Steps.{AllNamed, byte-given, rest-kept}
+use Rattle.assigning.specs.Rows.{Once}
+use Rattle.assigning.proofs.Rows.{assigned-done, done-assigned, unset-nothing, nothing-unset}
 use Rattle.offering.specs.Offered.{valueBytes, isPositive, valuesOf}
 
 -- ---- the bytes behind the first n
@@ -85,10 +86,6 @@ module _ (n : ℕ) (d : List ℕ) where
       )
 
 -- ---- each variable named once, and values that make each literal true
-
-pub record Once (n : ℕ) (xs : List Spotted) : Type 0 where
-  pub fit : AllFit n xs
-  pub named : (v : ℕ) → 0 < v → v ≤ n → Named xs v
 
 abbrev pub EachTrue : List Spotted → List Bool → Type 0
 EachTrue xs bs = (k : ℕ) → k < length xs → So (literalTrue (valueOf bs) (literalAt xs k))
@@ -189,6 +186,10 @@ module _ (n : ℕ) (xs : List Spotted) (named : AllNamed xs) where
         go (− v) e =
             ap (literalTrue (valueOf (valuesOf n xs))) e
             ∙ ap not (is v (ap variable e) ∙ false-of (any (λ (x : Spotted). isPositive v (x .literal)) xs) (not-both v e))
+
+    -- from no values on
+    pub values-alone : assignedBytes n xs (replicate n 2) ≡ valueBytes (valuesOf n xs)
+    values-alone = alone-are (valuesOf n xs) (values-length n xs) values-true
 
     pub values-bytes : (b : List ℕ) → assignedBytes n xs (filledWith n 2 b) ≡ valueBytes (valuesOf n xs) ++ drop n b
     values-bytes b = bytes-are (valuesOf n xs) (values-length n xs) values-true b

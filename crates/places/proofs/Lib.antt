@@ -6,3 +6,5 @@ pub mod Ahead
 pub mod Steps
 pub mod HeadRow
 pub mod Numbers
+-- RowPlaces: the places of a row
+pub mod RowPlaces

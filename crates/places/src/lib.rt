@@ -5,7 +5,7 @@ use layout::rows;
 use layout::size;
 use numbers::Atom;
 use tables::Totals;
-ghost use Prim.Native.Nat.{suc, _≤_};
+ghost use Prim.Native.Nat.{suc, _+_, _≤_};
 ghost use mathlib.Core.Path.{_≡_};
 ghost use mathlib.Core.Bool.{false};
 ghost use lib.ListN.{length};
@@ -189,4 +189,81 @@ pub fn next<'a>(
         number: c.number + 1,
         spot: seek(t, heads, starts, bodies, before, partners, owners, c.spot),
     }
+}
+
+// The place of the last clause of c's row.
+fn last<'a>(
+    t: Totals,
+    heads: &'a [u16],
+    starts: &'a [u16],
+    bodies: &'a [u16],
+    before: &'a [u16],
+    partners: &'a [u16],
+    owners: &'a [u16],
+    c: Place,
+) -> Place
+    requires { ⌜ (Ready t (now heads) (now starts) (now bodies) (now before) (now partners) (now owners)) × (c ≡ placeAt (programIn (t .sizes) (now heads) (now starts) (now bodies)) (t .sizes .w) (c .number)) × (c .number ≤ t .clauses) ⌝ }
+    ensures { λ r. ⌜ (r ≡ placeAt (programIn (t .sizes) (now (heads .entry)) (now (starts .entry)) (now (bodies .entry))) (t .sizes .w) (c .number + c .spot .clauses)) × (c .number + c .spot .clauses ≤ t .clauses) × (r .spot .clauses ≡ 0) ⌝ }
+{
+    let s = c.spot;
+    Place {
+        number: c.number + s.clauses as usize,
+        spot: Spot {
+            group: s.group,
+            item: s.item,
+            row: s.row,
+            clause: s.clause + s.clauses,
+            clauses: 0,
+            rows: s.rows,
+            items: s.items,
+        },
+    }
+}
+
+// The place of the clause after the last one of c's row: the first of the next row of the item, where that has one.
+pub fn past_row<'a>(
+    t: Totals,
+    heads: &'a [u16],
+    starts: &'a [u16],
+    bodies: &'a [u16],
+    before: &'a [u16],
+    partners: &'a [u16],
+    owners: &'a [u16],
+    c: Place,
+) -> Place
+    requires { ⌜ (Ready t (now heads) (now starts) (now bodies) (now before) (now partners) (now owners)) × (c ≡ placeAt (programIn (t .sizes) (now heads) (now starts) (now bodies)) (t .sizes .w) (c .number)) × (c .number ≤ t .clauses) ⌝ }
+    ensures { λ r. ⌜ (r ≡ placeAt (programIn (t .sizes) (now (heads .entry)) (now (starts .entry)) (now (bodies .entry))) (t .sizes .w) (suc (c .number + c .spot .clauses))) × (c .number + c .spot .clauses ≤ t .clauses) ⌝ }
+{
+    let end = last(t, heads, starts, bodies, before, partners, owners, c);
+    let s = end.spot;
+    if 0 < s.rows {
+        let i = s.row + 1;
+        let k = size(
+            t,
+            heads,
+            starts,
+            bodies,
+            before,
+            partners,
+            owners,
+            s.group,
+            s.item,
+            i,
+        );
+        if 0 < k {
+            return Place {
+                number: end.number + 1,
+                spot: Spot {
+                    group: s.group,
+                    item: s.item,
+                    row: i,
+                    clause: 1,
+                    clauses: k - 1,
+                    rows: s.rows - 1,
+                    items: s.items,
+                },
+            };
+        }
+    }
+    next(t, heads, starts, bodies, before, partners, owners, end)
 }

@@ -2,22 +2,19 @@
 --   text-chain, chain-fits, chain-next, chain-end    one literal more, and the end, in a buffer that has room for the line
 --   chain-clause, chain-asks, chain-put              it is the clause of the walk, in group 5
 -- Assumes nothing.
-use Prim.Native.Nat.{ℕ, zero, suc, _+_, _≤_, _<_}
-use native.Mathlib.Nat.{le-antisymm}
-use native.Mathlib.Numerals.{add-one}
+use Prim.Native.Nat.{ℕ, suc, _+_, _≤_, _<_}
 use native.Mathlib.Omega.{arith}
 use mathlib.Core.Path.{_≡_, refl, sym, _∙_, ap, ap₂, subst}
-use mathlib.Core.Bool.{Bool, true, false, cond}
+use mathlib.Core.Bool.{Bool, cond}
 use mathlib.Core.List.{List, [], _∷_, _++_, append-assoc}
-use lib.Dec.{eqb}
 use lib.ListN.{length, drop, set}
 use borrow.Author.Tests.{ne-eqb}
 use Rattle.lists.specs.Lists.{each}
 use Rattle.lists.proofs.Tables.{each-ext}
 use Rattle.meaning.specs.Program.{Program}
-use Rattle.encoding.specs.Literal.{Literal, var, −_, variable}
+use Rattle.encoding.specs.Literal.{Literal, variable}
 use Rattle.digits.specs.Bytes.{literalsText, lineText}
-use Rattle.digits.proofs.Lengths.{literals-append, line-length}
+use Rattle.digits.proofs.Lengths.{line-length}
 use Rattle.digits.proofs.Begins.{Begins, begins-same, begins-byte}
 use Rattle.walk.specs.Walk.{slots, slot, clauseAt, chainSlots, chainSlot, chainBit, At}
 use Rattle.slots.specs.declared.Signed.{Signed}
@@ -30,17 +27,10 @@ use Rattle.layout.specs.RowChain.{chainAt}
 use Rattle.layout.proofs.Groups.{slots-pair}
 use Rattle.layout.proofs.RowChains.{literal-pair}
 use Rattle.printing.specs.Lines.{literalsIn, shown, chainClause}
-use Rattle.printing.proofs.Clause.{each-fits, slotted}
+use Rattle.printing.proofs.Clause.{slotted}
+use Rattle.printing.proofs.SlotLine.{shown-is, slot-fits, slot-next, slots-whole}
 
--- what is shown of a literal that code has
-shown-is : (x : Signed) → literalsIn x ≡ shown (literalIn x)
-shown-is x = go (x .positive)
-  where
-    go : (d : Bool) → cond (eqb (x .var .0) 0) [] (cond d (var (x .var .0)) (− (x .var .0)) ∷ []) ≡ shown (cond d (var (x .var .0)) (− (x .var .0)))
-    go true = refl
-    go false = refl
-
-shown-held : (ls : List Literal) → Slotted ls → shown (held ls) ≡ ls
+pub shown-held : (ls : List Literal) → Slotted ls → shown (held ls) ≡ ls
 shown-held ls (empty q) = ap (λ (zs : List Literal). shown (held zs)) q ∙ sym q
 shown-held ls (holds x q p h) =
     ap (λ (zs : List Literal). shown (held zs)) q
@@ -55,25 +45,18 @@ module _ (c : Chain) (i y : ℕ) where
   text l = literalsText (each l at)
 
   module _ (x : Signed) {k l : ℕ} (e : k ≡ chainSlots i y) (h : l < k) (q : literalIn x ≡ chainSlot (c .z .0) (c .x .0) (c .y .0) (c .g .0) i y (l + 1)) where
-    text-more : text (l + 1) ≡ text l ++ literalsText (literalsIn x)
-    text-more =
-        ap text (add-one l) ∙ literals-append (each l at) (at (suc l))
-        ∙ ap (λ (zs : List Literal). text l ++ literalsText zs) (ap at (sym (add-one l)) ∙ ap shown (sym q) ∙ sym (shown-is x))
-
-    more : l + 1 ≤ chainSlots i y
-    more = omega (arith, h, e)
+    held-at : literalsIn x ≡ at (l + 1)
+    held-at = shown-is x ∙ ap shown q
 
     pub chain-fits : {n : ℕ} → length (lineText (chainClause c i y)) ≤ n → length (text l ++ literalsText (literalsIn x)) ≤ n
-    chain-fits {n} f =
-        subst (λ (t : List ℕ). length t ≤ n) text-more
-        (omega (arith, each-fits at (l + 1) (chainSlots i y) more, line-length (chainClause c i y), f))
+    chain-fits f = slot-fits (chainSlots i y) at x e h held-at f
 
     pub chain-next : {b d : List ℕ} {to : ℕ} → Begins b d (text l ++ literalsText (literalsIn x)) to → Begins b d (text (l + 1)) to
-    chain-next B = begins-same B (sym text-more)
+    chain-next B = slot-next (chainSlots i y) at x e h held-at B
 
   module _ {b d : List ℕ} {k l to : ℕ} (f : length (lineText (chainClause c i y)) ≤ length b) (e : k ≡ chainSlots i y) (h : l ≤ k) (n : k ≤ l) (B : Begins b d (text l) to) where
     whole : Begins b d (literalsText (chainClause c i y)) to
-    whole = subst (λ (j : ℕ). Begins b d (text j) to) (le-antisymm h n ∙ e) B
+    whole = slots-whole (chainSlots i y) at e h n B
 
     pub chain-room : to + 2 ≤ length d
     chain-room = omega (arith, whole .place, line-length (chainClause c i y), f, B .same)

@@ -30,7 +30,7 @@ number-positive b v e = ap (λ (b : Bool). literalNumber (signed b v)) (sym e)
 pub number-negative : (b : Bool) (v : ℕ) → b ≡ false → literalNumber (− v) ≡ literalNumber (signed b v)
 number-negative b v e = ap (λ (b : Bool). literalNumber (signed b v)) (sym e)
 
-number-is : (x : Literal) → natAbs (literalNumber x) ≡ variable x
+pub number-is : (x : Literal) → natAbs (literalNumber x) ≡ variable x
 number-is (var v) = refl
 number-is (− zero) = refl
 number-is (− (suc v)) = refl

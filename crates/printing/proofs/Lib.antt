@@ -6,5 +6,13 @@ pub mod Held
 pub mod Clause
 pub mod Parts
 pub mod Computed
+-- SlotLine: the line of a clause, slot by slot, and several lines
+pub mod SlotLine
 -- ChainLine: the line of a chain's clause
 pub mod ChainLine
+-- Wide: chains whose variables have four digits
+pub mod Wide
+-- RowLaws: the lines of whole rows
+pub mod RowLaws
+-- RowTexts: the rows of groups 4 and 5 from the tables
+pub mod RowTexts

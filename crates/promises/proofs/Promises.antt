@@ -6,19 +6,23 @@
 --   4  Demand 1 for program texts: what the reader answers to any bytes (document 01, "Program text" and rows 1 to 7)
 --   5  The clause file's lines: what the line call and the call for a run of lines answer and write, for any bytes (rows 8 and 9)
 --   6  Solver answers: the form, where a text leaves it, and its assignment (document 01, "Solver answer" and rows 11, 13, 14 and 15)
---   7  Document 01's examples and wrong turns
---   8  Contracts: each public function meets its own
--- Nothing is assumed: a hypothesis of sections 1 to 3 is met by every well-formed program, that of `clause-file` by the program of every accepted text,
--- and the other statements of sections 4 to 6 hold for any bytes. A function of section 8 may ask for a bound or for tables; its contract in src/ says so.
+--   7  The check: what it answers and writes, for any bytes (rows 8 and 10 to 16)
+--   8  Filling out: what it answers and writes, for any bytes (rows 8, 17 and 18)
+--   9  Demand 3, over texts, answers and bytes: stable models, accepted assignments and filled-out sets correspond
+--   10 Document 01's examples and wrong turns
+--   11 Contracts: each public function meets its own
+-- Nothing is assumed: a hypothesis of sections 1 to 3 is met by every well-formed program, that of `clause-file` and of section 9 by the program of every
+-- accepted text, and the other statements of sections 4 to 8 hold for any bytes. A function of section 11 may ask for a bound or for tables; its contract
+-- in src/ says so.
 use Prim.Native.Nat.{ℕ, zero, suc, pred, _+_, _-_, _*_, _^_, _%_, _≤_, _<_}
 use mathlib.Core.Path.{_≡_, sym, _∙_, ap}
 use mathlib.Core.Logic.{_↔_, _⊎_}
-use mathlib.Core.Bool.{Bool, true, false, not, So}
+use mathlib.Core.Bool.{Bool, true, false, not, So, cond}
 use mathlib.Core.List.{List, [], _∷_, _++_, map}
 use lib.Count.{leadingZeros}
 use lib.Dec.{eqb, ltb}
-use lib.ListN.{length, getD, take, drop}
-use Rattle.lists.specs.Lists.{all, joined}
+use lib.ListN.{length, getD, take, drop, replicate}
+use Rattle.lists.specs.Lists.{all, joined, sum}
 use Rattle.meaning.specs.Program.{Program, Atoms, isAtom, wellFormed}
 use Rattle.meaning.specs.Stage.{Definite, reduct, InUnion, Stable, FirstStage, leastModel, level, differ}
 use Rattle.meaning.specs.Numbering.{IsModel, LevelNumbering}
@@ -182,22 +186,22 @@ use Rattle.answer_reader.proofs.form.Statement.{statement as answer-form·state
 use Rattle.answer_reader.proofs.form.Met.{met as answer-form·met}
 use Rattle.answer_reader.specs.declared.Formed.the-variants.{Model, NoModel, Malformed as LeftForm}
 use Rattle.answer_reader.specs.Results.{formOf}
-use Rattle.answer_reader.proofs.Promised.{IsModel as IsModelText, form-malformed, malformed-form, form-model, model-form, form-none, none-form}
+use Rattle.answers.specs.Reading.{IsModel as IsModelText}
+use Rattle.answer_reader.proofs.Promised.{form-malformed, malformed-form, form-model, model-form, form-none, none-form}
 use Rattle.assigning.proofs.fill.Statement.{statement as assigning-fill·statement}
 use Rattle.assigning.proofs.fill.Met.{met as assigning-fill·met}
 use Rattle.assigning.proofs.assign.Statement.{statement as assigning-assign·statement}
 use Rattle.assigning.proofs.assign.Met.{met as assigning-assign·met}
 use Rattle.assigning.proofs.first_unset.Statement.{statement as assigning-first-unset·statement}
 use Rattle.assigning.proofs.first_unset.Met.{met as assigning-first-unset·met}
-use Rattle.assigning.specs.Assign.{Outcome, literalsFrom, assignedOf, assignedBytes, firstUnset, filledWith}
+use Rattle.assigning.specs.Assign.{Outcome, literalsFrom, literalAt, variableAt, Named, assignedOf, assignedBytes, firstUnset, filledWith}
 use Rattle.assigning.specs.Assign as Assign
-use Rattle.assigning.proofs.Steps.{literalAt, variableAt, Named}
-use Rattle.assigning.proofs.Rows.{AllFit, StrayAt, RepeatedAt, Missing, literals-named, assigned-stray, stray-assigned, assigned-repeated, repeated-assigned, assigned-done, done-assigned, named-value, missing-unset, unset-nothing, nothing-unset}
-use Rattle.answers.specs.Answer.{Answer, proper, answerText}
+use Rattle.assigning.specs.Rows.{AllFit, StrayAt, RepeatedAt, Missing, Once}
+use Rattle.assigning.proofs.Rows.{literals-named, assigned-stray, stray-assigned, assigned-repeated, repeated-assigned, assigned-done, done-assigned, named-value, missing-unset, unset-nothing, nothing-unset}
+use Rattle.answers.specs.Answer.{Answer, proper, answerText, OfStatus}
 use Rattle.answers.specs.Answer as Answers
 use Rattle.answers.proofs.Spot as AnswerSpot
 use Rattle.answers.proofs.Unique.{answer-unique}
-use Rattle.answers.proofs.Whole.{OfStatus}
 use Rattle.digits.specs.Bytes.{lineText}
 use Rattle.table_laws.proofs.Bounds.{variables-fit, clauses-fit}
 use Rattle.printing.specs.Lines.{headerText}
@@ -240,6 +244,81 @@ use Rattle.form.proofs.step.Statement.{statement as step·statement}
 use Rattle.form.proofs.step.Met.{met as step·met}
 use Rattle.numbers.proofs.atom_var.Statement.{statement as atom-var·statement}
 use Rattle.numbers.proofs.atom_var.Met.{met as atom-var·met}
+use Rattle.stages.proofs.stage_levels.Statement.{statement as stage-levels·statement}
+use Rattle.stages.proofs.stage_levels.Met.{met as stage-levels·met}
+use Rattle.stages.proofs.first_difference.Statement.{statement as first-difference·statement}
+use Rattle.stages.proofs.first_difference.Met.{met as first-difference·met}
+use Rattle.stages.proofs.byte_of.Statement.{statement as byte-of·statement}
+use Rattle.stages.proofs.byte_of.Met.{met as byte-of·met}
+use Rattle.stages.proofs.negatives_out.Statement.{statement as negatives-out·statement}
+use Rattle.stages.proofs.negatives_out.Met.{met as negatives-out·met}
+use Rattle.stages.proofs.positives_in.Statement.{statement as positives-in·statement}
+use Rattle.stages.proofs.positives_in.Met.{met as positives-in·met}
+use Rattle.stages.proofs.positives_below.Statement.{statement as positives-below·statement}
+use Rattle.stages.proofs.positives_below.Met.{met as positives-below·met}
+use Rattle.filling.proofs.put_filled.Statement.{statement as put-filled·statement}
+use Rattle.filling.proofs.put_filled.Met.{met as put-filled·met}
+use Rattle.results.proofs.put_counters.Statement.{statement as put-counters·statement}
+use Rattle.results.proofs.put_counters.Met.{met as put-counters·met}
+use Rattle.results.proofs.true_count.Statement.{statement as true-count·statement}
+use Rattle.results.proofs.true_count.Met.{met as true-count·met}
+use Rattle.results.proofs.highest_of.Statement.{statement as highest-of·statement}
+use Rattle.results.proofs.highest_of.Met.{met as highest-of·met}
+use Rattle.checking.proofs.check.Statement.{statement as check·statement}
+use Rattle.checking.proofs.check.Met.{met as check·met}
+use Rattle.checking.proofs.check_read.Statement.{statement as check-read·statement}
+use Rattle.checking.proofs.check_read.Met.{met as check-read·met}
+use Rattle.checking.proofs.check_number_of.Statement.{statement as check-number-of·statement}
+use Rattle.checking.proofs.check_number_of.Met.{met as check-number-of·met}
+use Rattle.checking.proofs.check_spot_of.Statement.{statement as check-spot-of·statement}
+use Rattle.checking.proofs.check_spot_of.Met.{met as check-spot-of·met}
+use Rattle.filling_out.proofs.fill_out.Statement.{statement as fill-out·statement}
+use Rattle.filling_out.proofs.fill_out.Met.{met as fill-out·met}
+use Rattle.filling_out.proofs.fill_number_of.Statement.{statement as fill-number-of·statement}
+use Rattle.filling_out.proofs.fill_number_of.Met.{met as fill-number-of·met}
+use Rattle.filling_out.proofs.fill_spot_of.Statement.{statement as fill-spot-of·statement}
+use Rattle.filling_out.proofs.fill_spot_of.Met.{met as fill-spot-of·met}
+use Rattle.models.proofs.put_model.Statement.{statement as put-model·statement}
+use Rattle.models.proofs.put_model.Met.{met as put-model·met}
+use Rattle.truth.proofs.value_of.Statement.{statement as truth-value-of·statement}
+use Rattle.truth.proofs.value_of.Met.{met as truth-value-of·met}
+use Rattle.program.specs.declared.Reading.{Reading}
+use Rattle.answers.specs.Reading.{Spotted}
+use Rattle.encoding.specs.Literal.{clauseTrue}
+use Rattle.lines.specs.Lines.{lineBytes}
+use Rattle.stages.specs.Levels.{setIn}
+use Rattle.results.specs.Results.{highest, levelIn, varTotal}
+use Rattle.offering.specs.Offered.{valuesOf, offeredText}
+use Rattle.checking.specs.declared.CheckVerdict.the-variants.{Model as ShownModel}
+use Rattle.checking.specs.Check.{readResult, checkAnswer, checkAssignment, checkLevels}
+use Rattle.checking.specs.Rows.{Offers, clauseOf, CheckRow, FirstCheckRow, CheckAnswers, Shows, ModelWritten}
+use Rattle.checking.proofs.Verdicts.{answers-check-first, first-check-answers, first-check-unique, model-none, none-model}
+use Rattle.checking.proofs.Buffers.{model-writes, refused-zeroes, refused-keeps, refused-levels}
+use Rattle.showing.proofs.Shown.{answer-whole}
+use Rattle.filling_out.specs.declared.FillRefusal.{FillRefusal}
+use Rattle.filling_out.specs.declared.FillVerdict.the-variants.{Filled, Refused as FillRefused}
+use Rattle.filling_out.specs.FillOut.{fillAnswer, fillAssignment, fillLevels}
+use Rattle.filling_out.specs.Rows.{FillRow, FirstFillRow, FillAnswers, FillAccepts, Fills}
+use Rattle.filling_out.proofs.FirstRows.{fill-answers-first, first-fill-answers, first-fill-one, fill-accepts-none, none-fill-accepts}
+use Rattle.filling_out.proofs.Written.{fill-accepted, fill-kept}
+use Rattle.correspondence.specs.Accepted.{AcceptedAssignment, Room, CheckWrites, setBytes, SetOf}
+use Rattle.correspondence.proofs.Correspond.{accepted-stable, check-writes, fill-agrees, one-accepted, stable-accepted, stable-atoms, exhibited-fits, bytes-set}
+use Rattle.correspondence.proofs.Correspond as Correspond
+use Rattle.correspondence.proofs.Texts.{checked-exactly, line-prints, level-bytes, level-of-false, fills-exactly}
+use Rattle.digits.proofs.four_of.Statement.{statement as four-of·statement}
+use Rattle.digits.proofs.four_of.Met.{met as four-of·met}
+use Rattle.digits.proofs.put_four.Statement.{statement as put-four·statement}
+use Rattle.digits.proofs.put_four.Met.{met as put-four·met}
+use Rattle.printing.proofs.is_rowed.Statement.{statement as is-rowed·statement}
+use Rattle.printing.proofs.is_rowed.Met.{met as is-rowed·met}
+use Rattle.printing.proofs.put_row.Statement.{statement as put-row·statement}
+use Rattle.printing.proofs.put_row.Met.{met as put-row·met}
+use Rattle.places.proofs.past_row.Statement.{statement as past-row·statement}
+use Rattle.places.proofs.past_row.Met.{met as past-row·met}
+use Rattle.files.proofs.rest_length.Statement.{statement as rest-length·statement}
+use Rattle.files.proofs.rest_length.Met.{met as rest-length·met}
+use Rattle.files.proofs.read_front.Statement.{statement as read-front·statement}
+use Rattle.files.proofs.read_front.Met.{met as read-front·met}
 
 -- ---- 1 Meaning
 
@@ -577,7 +656,134 @@ assigning t p n b =
       none-missing = λ f. (unset-nothing n (literalsFrom t p) b (literals-named t p) f, nothing-unset n (literalsFrom t p) b (literals-named t p) f);
     }
 
--- ---- 7 Examples and wrong turns
+-- ---- 7 The check: the program text t, the answer u, the buffers b for the assignment and l for the levels are any
+
+pub record CheckCall (t u b l : List ℕ) : Type 0 where
+  -- the call answers row r with spot s exactly if r is the first row met, in the order: the reader's, 8 for the assignment, 8 for the levels, 10, 11, 12,
+  -- the smaller spot of 13 and 14, 15, 16
+  pub refused : (r s : ℕ) → CheckAnswers t u (length b) (length l) r s ↔ FirstCheckRow t u (length b) (length l) r s
+  -- no two rows or spots are first
+  pub one-row : (r s q v : ℕ) → FirstCheckRow t u (length b) (length l) r s → FirstCheckRow t u (length b) (length l) q v → (r ≡ q) × (s ≡ v)
+  -- it accepts exactly if no row is met
+  pub accepted : ((k : ℕ) × (h : ℕ) × (checkAnswer t u (length b) (length l) ≡ ShownModel k h))
+      ↔ ((p r s : ℕ) → CheckRow t u (length b) (length l) p r s → ⊥)
+  -- then the text is admitted, the answer names each variable once and makes every clause true, there is room; it returns how many atoms are true and the
+  -- highest level, and writes the values and the levels; the bytes behind them stay
+  pub written : (k h : ℕ) → checkAnswer t u (length b) (length l) ≡ ShownModel k h
+      → (P : Program) × (xs : List Spotted) × Shows t u (length b) (length l) P xs × ModelWritten t u b l P xs k h
+  -- refusals 13 to 16 zero the assignment's first V bytes
+  pub zeroed : (r s : ℕ) → CheckAnswers t u (length b) (length l) r s → 13 ≤ r
+      → (P : Program) × Admitted t P × (checkAssignment t u b (length l) ≡ replicate (varTotal P) 0 ++ drop (varTotal P) b)
+  -- the others leave it, and each leaves the levels
+  pub stays : (r s : ℕ) → CheckAnswers t u (length b) (length l) r s → r < 13 → checkAssignment t u b (length l) ≡ b
+  pub levels-stay : (r s : ℕ) → CheckAnswers t u (length b) (length l) r s → checkLevels t u (length b) l ≡ l
+
+pub check-call : (t u b l : List ℕ) → CheckCall t u b l
+unfolding filledWith
+check-call t u b l =
+    record {
+      refused = λ r s. (answers-check-first t u (length b) (length l) r s, first-check-answers t u (length b) (length l) r s);
+      one-row = first-check-unique t u (length b) (length l);
+      accepted = (λ e. model-none t u (length b) (length l) (e .0) (e .1) (e .2), none-model t u (length b) (length l));
+      written = model-writes t u b l;
+      zeroed = refused-zeroes t u b l;
+      stays = refused-keeps t u b l;
+      levels-stay = refused-levels t u b l;
+    }
+
+-- the first 65,537 bytes of an answer and its length give the result of the whole answer, as `counted-input` says of a program text
+pub counted-answer : (x : Reading) (u : List ℕ) (a l : ℕ) → readResult x (take 65537 u) (length u) a l ≡ readResult x u (length u) a l
+counted-answer = answer-whole
+
+-- ---- 8 Filling out: the program text t, the set s, the buffers b for the assignment and l for the levels are any
+
+pub record FillCall (t s b l : List ℕ) : Type 0 where
+  -- the call answers row r with spot u exactly if r is the first row met, in the order: the reader's, 8 for the assignment, 8 for the levels, 17, 18
+  pub refused : (r u : ℕ) → FillAnswers t s (length b) (length l) r u ↔ FirstFillRow t s (length b) (length l) r u
+  -- no two rows or spots are first
+  pub one-row : (r u q v : ℕ) → FirstFillRow t s (length b) (length l) r u → FirstFillRow t s (length b) (length l) q v → (r ≡ q) × (u ≡ v)
+  -- it accepts exactly if no row is met
+  pub accepted : FillAccepts t s (length b) (length l) ↔ ((k r u : ℕ) → FillRow t s (length b) (length l) k r u → ⊥)
+  -- then the text is admitted, the set has n bytes, each 0 or 1, and is a stable model; it returns how many atoms are true and the highest of their level
+  -- numbers, and writes the filled-out list and the level numbers; the bytes behind them stay
+  pub written : (k h : ℕ) → fillAnswer t s (length b) (length l) ≡ Filled k h → (P : Program) × Fills t s b l k h P
+  -- refused, it writes nothing
+  pub stays : (r : FillRefusal) → fillAnswer t s (length b) (length l) ≡ FillRefused r → (fillAssignment t s b (length l) ≡ b) × (fillLevels t s (length b) l ≡ l)
+  -- with room, a set of n bytes, each 0 or 1, is accepted exactly if it is a stable model: the least model of its own reduct
+  pub exactly : (P : Program) → Admitted t P → Room P b l → length s ≡ P .atoms → ((i : ℕ) → i < length s → getD s i 0 ≤ 1)
+      → FillAccepts t s (length b) (length l) ↔ Stable P (setIn (P .atoms) s)
+
+pub fill-call : (t s b l : List ℕ) → FillCall t s b l
+fill-call t s b l =
+    record {
+      refused = λ r u. (fill-answers-first t s (length b) (length l) r u, first-fill-answers t s (length b) (length l) r u);
+      one-row = first-fill-one t s (length b) (length l);
+      accepted = (fill-accepts-none t s (length b) (length l), none-fill-accepts t s (length b) (length l));
+      written = fill-accepted t s b l;
+      stays = fill-kept t s b l;
+      exactly = λ P A. fills-exactly t P A s b l;
+    }
+
+-- ---- 9 Demand 3, over texts, answers and bytes: t is any text that document 01 admits, P its program
+
+pub record TextDemand3 (t : List ℕ) (P : Program) : Type 0 where
+  -- an answer of at most 65,536 bytes, of the form, SATISFIABLE, whose literals name each of 1 to V once and nothing else, is accepted exactly if for every
+  -- j from 1 to C clause j is true under its assignment, whatever the buffers, if they have room
+  pub checked : (u : List ℕ) (xs : List Spotted) → Offers u xs → length u ≤ 65536 → Once (varTotal P) xs → (b l : List ℕ) → Room P b l
+      → ((k : ℕ) × (h : ℕ) × (checkAnswer t u (length b) (length l) ≡ ShownModel k h))
+      ↔ ((j : ℕ) → zero < j → j ≤ clauseTotal P → So (clauseTrue (valueOf (valuesOf (varTotal P) xs)) (clauseOf P j)))
+  -- and the bytes that the line call writes for j are the print of that clause
+  pub printed : (j : ℕ) → zero < j → j ≤ clauseTotal P → (k : ℕ) (b : List ℕ) → length (lineText (clauseOf P j)) ≤ length b - k
+      → lineBytes t j k b ≡ take k b ++ (lineText (clauseOf P j) ++ drop (k + length (lineText (clauseOf P j))) b)
+  -- the true atoms of every accepted assignment are a stable model
+  pub sound : (bs : List Bool) → AcceptedAssignment t P bs → Stable P (trueAtoms P bs)
+  -- for each atom the counter, the level byte that the check writes and the level number are equal
+  pub levels : (bs : List Bool) (X : AcceptedAssignment t P bs) (b l : List ℕ) → Room P b l → (a : ℕ) → So (isAtom (P .atoms) a)
+      → (counter (sizes P (width (P .atoms))) (valueOf bs) a ≡ level P (trueAtoms P bs) a)
+      × (levelIn (checkLevels t (X .answer) (length b) l) a ≡ level P (trueAtoms P bs) a)
+  -- 0 for a false atom
+  pub false-zero : (bs : List Bool) → AcceptedAssignment t P bs → (a : ℕ) → trueAtoms P bs a ≡ false → level P (trueAtoms P bs) a ≡ 0
+  -- for every stable model there is an accepted assignment with it as its true atoms: the answer that prints the filled-out list has it
+  pub complete : (M : Atoms) → Stable P M → AcceptedAssignment t P (fill P (width (P .atoms)) M)
+  pub its-atoms : (M : Atoms) → Stable P M → trueAtoms P (fill P (width (P .atoms)) M) ≡ M
+  pub exhibited : (M : Atoms) (σ : Stable P M) → complete M σ .answer ≡ offeredText (fill P (width (P .atoms)) M)
+  pub short-enough : (M : Atoms) (σ : Stable P M) → length (complete M σ .answer) ≤ 65536
+  -- every other with the same true atoms equals it
+  pub unique : (bs cs : List Bool) → AcceptedAssignment t P bs → AcceptedAssignment t P cs → trueAtoms P bs ≡ trueAtoms P cs → bs ≡ cs
+  -- for all buffers with room the check of an answer that has it returns the number of true atoms and the stages' highest level, and writes it and the
+  -- level numbers
+  pub check-gives : (bs : List Bool) (X : AcceptedAssignment t P bs) (b l : List ℕ) → Room P b l → CheckWrites t P bs X b l
+  -- filling out the set of its true atoms returns the same two numbers and writes the same bytes into both buffers
+  pub fill-gives : (bs : List Bool) (X : AcceptedAssignment t P bs) (s b l : List ℕ) → SetOf (P .atoms) s (trueAtoms P bs) → Room P b l
+      → (fillAnswer t s (length b) (length l) ≡ Filled (sum (P .atoms) (λ a. cond (trueAtoms P bs a) 1 0)) (highest (P .atoms) (level P (trueAtoms P bs))))
+      × (fillAssignment t s b (length l) ≡ checkAssignment t (X .answer) b (length l))
+      × (fillLevels t s (length b) l ≡ checkLevels t (X .answer) (length b) l)
+  -- and each stable model is such a set
+  pub set-of : (M : Atoms) → Stable P M → SetOf (P .atoms) (setBytes (P .atoms) M) M
+
+pub text-demand3 : (t : List ℕ) (P : Program) → Admitted t P → TextDemand3 t P
+text-demand3 t P A =
+    record {
+      checked = checked-exactly t P A;
+      printed = line-prints t P A;
+      sound = λ bs X. accepted-stable t P A bs X .0;
+      levels = level-bytes t P A;
+      false-zero = level-of-false t P A;
+      complete = stable-accepted t P A;
+      its-atoms = stable-atoms t P A;
+      exhibited = Correspond.exhibited t P A;
+      short-enough = exhibited-fits t P A;
+      unique = one-accepted t P A;
+      check-gives = check-writes t P A;
+      fill-gives = fill-agrees t P A;
+      set-of = bytes-set t P A;
+    }
+
+-- so of every text that the reader accepts
+pub accepted-demand3 : (t : List ℕ) → readOf t .verdict ≡ Accepted → (P : Program) × Admitted t P × TextDemand3 t P
+accepted-demand3 t e = let a = accepted-admitted t e in (a .0, a .1, text-demand3 t (a .0) (a .1))
+
+-- ---- 10 Examples and wrong turns
 
 -- document 01's starred examples, with every V, C, level, set and spot that it gives, computed from the definitions
 pub starred : map computed examples ≡ examples
@@ -625,7 +831,7 @@ wrong-turns =
 pub texts : map computedRow cases ≡ cases
 texts = cases-hold
 
--- ---- 8 Contracts: each public function meets the one that stands at it in src/
+-- ---- 11 Contracts: each public function meets the one that stands at it in src/
 
 -- form, numbers, program
 pub record Reader (M : Type 1) : Type 2 where
@@ -676,12 +882,15 @@ pub record Bytes (M : Type 1) : Type 2 where
   pub put-decimal : put-decimal·statement M
   pub put-number : put-number·statement M
   pub put-literal : put-literal·statement M
+  -- the four digits of a number below 10,000, and a number of four digits with a space behind it
+  pub four-of : four-of·statement M
+  pub put-four : put-four·statement M
   -- their lengths
   pub decimal-length : decimal-length·statement M
   pub literal-length : literal-length·statement M
 
 pub bytes : (M : Type 1) → Bytes M
-bytes M = record { put-decimal = put-decimal·met; put-number = put-number·met; put-literal = put-literal·met; decimal-length = decimal-length·met; literal-length = literal-length·met }
+bytes M = record { put-decimal = put-decimal·met; put-number = put-number·met; put-literal = put-literal·met; four-of = four-of·met; put-four = put-four·met; decimal-length = decimal-length·met; literal-length = literal-length·met }
 
 -- slots
 pub record Slots (M : Type 1) : Type 2 where
@@ -735,12 +944,14 @@ pub record Walk (M : Type 1) : Type 2 where
   -- the place before the first clause, and from the place of clause j that of clause j + 1
   pub start : places-start·statement M
   pub next : places-next·statement M
+  -- and that of the clause behind the row
+  pub past-row : past-row·statement M
   -- truth of the clause at a place, and the first clause that is false, under the assignment of a buffer
   pub clause-holds : clause-holds·statement M
   pub first-false : first-false·statement M
 
 pub walks : (M : Type 1) → Walk M
-walks M = record { items = layout-items·met; rows = layout-rows·met; size = layout-size·met; slots = layout-slots·met; slot = layout-slot·met; chain-at = chain-at·met; literal-in = literal-in·met; next-head = next-head·met; past-empty = past-empty·met; start = places-start·met; next = places-next·met; clause-holds = clause-holds·met; first-false = first-false·met }
+walks M = record { items = layout-items·met; rows = layout-rows·met; size = layout-size·met; slots = layout-slots·met; slot = layout-slot·met; chain-at = chain-at·met; literal-in = literal-in·met; next-head = next-head·met; past-empty = past-empty·met; start = places-start·met; next = places-next·met; past-row = past-row·met; clause-holds = clause-holds·met; first-false = first-false·met }
 
 -- printing, lines, input
 pub record Lines (M : Type 1) : Type 2 where
@@ -755,6 +966,9 @@ pub record Lines (M : Type 1) : Type 2 where
   -- the lines of a clause and of a refusal, and line 0, written into a lent buffer: the bytes behind them stay
   pub put-clause : put-clause·statement M
   pub clause-length : clause-length·statement M
+  -- the lines of a whole row of groups 4 and 5
+  pub is-rowed : is-rowed·statement M
+  pub put-row : put-row·statement M
   pub put-header : put-header·statement M
   pub header-length : header-length·statement M
   pub put-refusal : put-refusal·statement M
@@ -765,7 +979,7 @@ pub record Lines (M : Type 1) : Type 2 where
   pub read-counted : read-counted·statement M
 
 pub lines : (M : Type 1) → Lines M
-lines M = record { line = line·met; run = run·met; line-number-of = line-number-of·met; line-spot-of = line-spot-of·met; put-lines = put-lines·met; put-clause = put-clause·met; clause-length = clause-length·met; put-header = put-header·met; header-length = header-length·met; put-refusal = put-refusal·met; put-word = put-word·met; literal-number = literal-number·met; read-counted = read-counted·met }
+lines M = record { line = line·met; run = run·met; line-number-of = line-number-of·met; line-spot-of = line-spot-of·met; put-lines = put-lines·met; put-clause = put-clause·met; clause-length = clause-length·met; is-rowed = is-rowed·met; put-row = put-row·met; put-header = put-header·met; header-length = header-length·met; put-refusal = put-refusal·met; put-word = put-word·met; literal-number = literal-number·met; read-counted = read-counted·met }
 
 -- answer_reader, assigning
 pub record AnswerReader (M : Type 1) : Type 2 where
@@ -782,3 +996,43 @@ pub record AnswerReader (M : Type 1) : Type 2 where
 
 pub answer-reader : (M : Type 1) → AnswerReader M
 answer-reader M = record { status = answer-status·met; next-literal = answer-next-literal·met; close = answer-close·met; form = answer-form·met; assign = assigning-assign·met; first-unset = assigning-first-unset·met; fill = assigning-fill·met }
+
+-- truth, stages, filling, results, checking, filling_out, models
+pub record Verdicts (M : Type 1) : Type 2 where
+  -- the check of any answer against any text: `checkAnswer`, `checkAssignment` and `checkLevels`
+  pub check : check·statement M
+  pub check-read : check-read·statement M
+  -- filling out any set for any text: `fillAnswer`, `fillAssignment` and `fillLevels`
+  pub fill-out : fill-out·statement M
+  -- a refusal's number and spot are `checkNumber` and `checkSpot`, `fillNumber` and `fillSpot`
+  pub check-number-of : check-number-of·statement M
+  pub check-spot-of : check-spot-of·statement M
+  pub fill-number-of : fill-number-of·statement M
+  pub fill-spot-of : fill-spot-of·statement M
+  -- a variable's value; the counters, how many atoms are true, the highest level
+  pub value-of : truth-value-of·statement M
+  pub put-counters : put-counters·statement M
+  pub true-count : true-count·statement M
+  pub highest-of : highest-of·statement M
+  -- the level numbers of a set, the smallest atom where set and least model differ, the filled-out list as bytes
+  pub stage-levels : stage-levels·statement M
+  pub first-difference : first-difference·statement M
+  pub put-filled : put-filled·statement M
+  pub byte-of : byte-of·statement M
+  pub negatives-out : negatives-out·statement M
+  pub positives-in : positives-in·statement M
+  pub positives-below : positives-below·statement M
+  -- the line of a model, written into a lent buffer: the bytes behind it stay
+  pub put-model : put-model·statement M
+
+pub verdicts : (M : Type 1) → Verdicts M
+verdicts M = record { check = check·met; check-read = check-read·met; fill-out = fill-out·met; check-number-of = check-number-of·met; check-spot-of = check-spot-of·met; fill-number-of = fill-number-of·met; fill-spot-of = fill-spot-of·met; value-of = truth-value-of·met; put-counters = put-counters·met; true-count = true-count·met; highest-of = highest-of·met; stage-levels = stage-levels·met; first-difference = first-difference·met; put-filled = put-filled·met; byte-of = byte-of·met; negatives-out = negatives-out·met; positives-in = positives-in·met; positives-below = positives-below·met; put-model = put-model·met }
+
+-- files
+pub record Files (M : Type 1) : Type 2 where
+  -- how many bytes are left to read, and of the front of a file how many are kept and how many there are in all; which bytes they are is not stated
+  pub rest-length : rest-length·statement M
+  pub read-front : read-front·statement M
+
+pub files : (M : Type 1) → Files M
+files M = record { rest-length = rest-length·met; read-front = read-front·met }

@@ -4,22 +4,14 @@
 // than 70,000 bytes, prints `bad case`.
 use cases::decode;
 use cases::line_end;
-use cases::print_number;
+use cases::print_bad_case;
+use cases::print_line_end;
+use cases::print_refused;
 use cases::read_argument;
 use program::ReadVerdict;
-use program::TextRefusal;
 use program::number_of;
 use program::read;
 use program::spot_of;
-
-// Prints a refusal.
-fn say_refused(r: TextRefusal) {
-    io::write_all(1, b"refused ");
-    print_number(number_of(r) as usize);
-    io::write_all(1, b" ");
-    print_number(spot_of(r));
-    io::write_all(1, b"\n");
-}
 
 // Reads a text and prints the verdict.
 fn say_verdict(text: &[u8]) {
@@ -29,7 +21,8 @@ fn say_verdict(text: &[u8]) {
         io::write_all(1, b"ok\n");
         return;
     };
-    say_refused(r);
+    print_refused(number_of(r), spot_of(r));
+    print_line_end();
 }
 
 // Prints what a line gives.
@@ -41,7 +34,7 @@ fn say_line(line: &[u8]) {
         say_verdict(&text[..n]);
         return;
     }
-    io::write_all(1, b"bad case\n");
+    print_bad_case();
 }
 
 // Prints what each line of a file gives.

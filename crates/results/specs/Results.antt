@@ -1,4 +1,6 @@
 -- What the check and filling out write and return (document 01, "Check and filling out" and "Verdicts").
+--   varTotal P             the number of variables of P
+--   programOf r            the program that a reading accepted
 --   Result R               accepted, with the values of the variables and the levels of the atoms as bytes; or refused
 --   trueCount n bs         how many of the atoms 1 to n are true under the values bs
 --   highest n ℓ            the highest of the levels of the atoms 1 to n, 0 if there is none
@@ -12,10 +14,23 @@ use mathlib.Core.Bool.{Bool, cond}
 use mathlib.Core.List.{List, _++_}
 use lib.ListN.{getD, drop}
 use Rattle.lists.specs.Lists.{tab, sum}
+use Rattle.meaning.specs.Program.{Program}
+use Rattle.encoding.specs.Width.{width}
 use Rattle.encoding.specs.Variables.{Sizes}
+use Rattle.encoding.specs.Clauses.{variables}
 use Rattle.encoding.specs.Fill.{counter}
+use Rattle.program.specs.declared.Reading.{Reading}
+use Rattle.reader_laws.specs.Decoded.{decoded}
 use Rattle.assigning.specs.Assign.{filledWith}
 use Rattle.truth.specs.Truth.{valueIn}
+
+-- V, with document 01's width
+abbrev pub varTotal : Program → ℕ
+varTotal P = variables P (width (P .atoms))
+
+-- the program that a reading accepted
+abbrev pub programOf : Reading → Program
+programOf r = decoded (r .program)
 
 pub data Result (R : Type 0) : Type 0 where
   accepted : (values levels : List ℕ) → Result R

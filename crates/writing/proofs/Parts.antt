@@ -1,23 +1,15 @@
 -- The parts of the clause file, one after the other, from the tables of the program.
 -- Assumes nothing.
-use Prim.Native.Nat.{ℕ, _+_, _-_, _≤_, _<_}
+use Prim.Native.Nat.{ℕ, _+_, _≤_}
 use native.Mathlib.Omega.{arith}
 use mathlib.Core.Path.{_≡_, sym, _∙_, ap, subst}
-use mathlib.Core.List.{List, _++_}
+use mathlib.Core.List.{List}
 use lib.ListN.{length, drop, length-append, length-drop}
 use lib.Seq.{length-take-le}
 use Rattle.lists.specs.Lists.{joined}
 use Rattle.io.specs.Counts.{Counts}
 use Rattle.meaning.specs.Program.{Program}
 use Rattle.program.specs.declared.Program.{Program as Arrays}
-use Rattle.program.specs.declared.Reading.{Reading}
-use Rattle.program.specs.declared.ReadVerdict.the-variants.{Accepted}
-use Rattle.program.specs.Verdict.{refuseOf}
-use Rattle.input.specs.Counted.{countedOf}
-use Rattle.input.proofs.Counted.{counted-short, counted-long}
-use Rattle.reader_laws.proofs.Rows.{not-both}
-use Rattle.lists.proofs.Tests.{le-or-lt}
-use mathlib.Core.Logic.{⊎-elim}
 use Rattle.reader_laws.specs.Decoded.{decoded}
 use Rattle.tables.specs.declared.Pairs.{Pairs}
 use Rattle.tables.specs.declared.Totals.{Totals}
@@ -26,7 +18,7 @@ use Rattle.places.specs.declared.Place.{Place}
 use Rattle.places.specs.Places.{placeAt}
 use Rattle.lines.specs.declared.Part.{Part}
 use Rattle.lines.specs.Lines.{partIn, runIn, runBytesIn}
-use Rattle.lines.proofs.Open.{program-is, tabled, accepted-stored}
+use Rattle.lines.proofs.Open.{program-is, tabled}
 use Rattle.lines.proofs.Runs.{part-bytes, part-place, part-within, part-onward}
 use Rattle.writing.specs.Onward.{Onward}
 
@@ -63,27 +55,9 @@ module _ {A : Arrays} {k : Pairs} {t : Totals} (pre : Stored A × (k ≡ pairTab
         within : q .bytes ≤ length l
         within = subst (λ (x : ℕ). q .bytes ≤ x) (sym same-length) bytes-in
 
--- a buffer that begins with x counts its bytes
-pub begins-counts : (b x : List ℕ) {l : List ℕ} {r : ℕ} → (r ≡ length x) × (l ≡ x ++ drop r b) → Counts r l
-begins-counts b x {l} {r} u = (within, sym (length-take-le r l within))
-  where
-    within : r ≤ length l
-    within = omega (arith, u .0, ap length (u .1), length-append x (drop r b))
-
 -- the place that is number 0
 pub first-number : (P : Program) (w n : ℕ) {c : Place} → c ≡ placeAt P w 0 → (c ≡ placeAt P w (c .number)) × (c .number ≤ n)
 first-number P w n {c} e = (e ∙ ap (placeAt P w) (sym number), omega (arith, number))
   where
     number : c .number ≡ 0
     number = ap (λ (d : Place). d .number) e
-
--- of an accepted text the arrays are kept, also where only its front and its length are at hand
-pub counted-stored : (f : List ℕ) (n : ℕ) {r : Reading} → r ≡ countedOf f n → r .verdict ≡ Accepted → Stored (r .program)
-unfolding refuseOf
-counted-stored f n {r} e v = ⊎-elim short long (le-or-lt n 65536)
-  where
-    short : n ≤ 65536 → Stored (r .program)
-    short h = accepted-stored f (e ∙ sym (counted-short f n h)) v
-
-    long : 65536 < n → Stored (r .program)
-    long h = absurd (not-both v (ap (λ (x : Reading). x .verdict) (e ∙ sym (counted-long f n h))))

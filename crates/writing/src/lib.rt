@@ -1,4 +1,5 @@
 // The writer: reads a program text from standard input and prints its clause file, or why the text is refused (document 01, "Programs").
+use files::rest_length;
 use input::read_counted;
 use lines::Part;
 use lines::put_lines;
@@ -14,7 +15,7 @@ use tables::Pairs;
 use tables::Totals;
 use tabling::pairs_of;
 use tabling::totals_of;
-ghost use Prim.Native.Nat.{_*_, _≤_};
+ghost use Prim.Native.Nat.{_≤_};
 ghost use mathlib.Core.Path.{_≡_};
 ghost use lib.ListN.{length};
 ghost use Rattle.io.specs.Counts.{Counts};
@@ -23,24 +24,6 @@ ghost use Rattle.tables.specs.Tables.{Stored, pairTable, totalsOf};
 ghost use Rattle.places.specs.Places.{placeAt};
 ghost use Rattle.lines.specs.Lines.{partIn, runBytesIn};
 ghost use Rattle.writing.specs.Onward.{Onward};
-
-// How many bytes standard input still holds.
-fn rest_length() -> usize
-    ensures { λ r. ⌜ r ≤ 65536 * 1000000000000 ⌝ }
-{
-    let mut buf = io::large_buffer();
-    let mut turns: usize = 1000000000000;
-    let mut total: usize = 0;
-    while 0 < turns {
-        let n = io::read_full(0, &mut buf);
-        if n == 0 {
-            return total;
-        }
-        total += n;
-        turns -= 1;
-    }
-    total
-}
 
 // Prints the line of a refusal.
 fn say_refusal(x: TextRefusal) {
@@ -108,7 +91,7 @@ fn say_lines(p: Program)
 pub fn write_clauses() {
     let mut text = [0u8; 65537];
     let n = io::read_full(0, &mut text);
-    let total = n + rest_length();
+    let total = n + rest_length(0);
     let r = read_counted(&text[..n], total);
     let v = r.verdict;
     let ReadVerdict::Accepted = v else {

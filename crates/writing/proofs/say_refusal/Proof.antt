@@ -1,5 +1,5 @@
 use Rattle.printing.specs.Lines.{refusedText}
-use Rattle.writing.proofs.Parts.{begins-counts}
+use Rattle.files.proofs.Begun.{begins-counts}
 use Rattle.printing.proofs.Parts.{refused-small}
 use native.Mathlib.Omega.{arith}
 use borrow.Author.Needs.{needs}

@@ -1,4 +1,4 @@
-use Rattle.writing.proofs.Parts.{counted-stored}
+use Rattle.input.proofs.Counted.{counted-stored}
 use borrow.Author.Needs.{needs}
 use Rattle.writing.proofs.write_clauses.Statement.{statement}
 use Rattle.writing.proofs.write_clauses.Tie as tie
@@ -6,7 +6,7 @@ use Rattle.writing.proofs.write_clauses.Reads as reads
 use Rattle.writing.proofs.write_clauses.Lts as lts
 use Rattle.input.proofs.read_counted.Reads as read-counted-reads
 use Rattle.io.proofs.read_full.Reads as read-full-reads
-use Rattle.writing.proofs.rest_length.Reads as rest-length-reads
+use Rattle.files.proofs.rest_length.Reads as rest-length-reads
 use Rattle.writing.proofs.say_lines.Reads as say-lines-reads
 use Rattle.writing.proofs.say_refused.Reads as say-refused-reads
 

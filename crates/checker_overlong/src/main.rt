@@ -1,0 +1,4 @@
+// The checker on an answer of 140,000 bytes.
+fn main() {
+    showing::show_model();
+}

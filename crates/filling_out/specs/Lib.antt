@@ -1,0 +1,2 @@
+pub mod FillOut
+pub mod Rows

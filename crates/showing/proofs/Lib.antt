@@ -1,0 +1,2 @@
+-- Shown: what is known where a model is shown
+pub mod Shown
