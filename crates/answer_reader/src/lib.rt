@@ -329,6 +329,37 @@ pub fn next_literal(answer: &[u8], at: usize) -> Next
     Next::Left(i)
 }
 
+// ---- the reader
+
+// A solver answer and a position in it.
+pub struct AnswerReader<'a> {
+    pub answer: &'a [u8],
+    pub position: usize,
+}
+
+impl<'a> AnswerReader<'a> {
+    // The reader of `answer` at `position`.
+    pub fn new(answer: &'a [u8], position: usize) -> AnswerReader<'a>
+        ensures { λ r. ⌜ (r .answer ≡ answer .entry) × (r .position ≡ position) ⌝ }
+    {
+        AnswerReader { answer, position }
+    }
+
+    // The next literal from the reader's position on.
+    pub fn next(self) -> Next
+        ensures { λ r. ⌜ r ≡ nextFor (nextLiteral (now (self .entry .answer)) (self .entry .position)) ⌝ }
+    {
+        next_literal(self.answer, self.position)
+    }
+}
+
+// The next literal from `position` on, by a reader: what a loop over the literals calls at each turn.
+pub fn next_from(answer: &[u8], position: usize) -> Next
+    ensures { λ r. ⌜ r ≡ nextFor (nextLiteral (now (answer .entry)) position) ⌝ }
+{
+    AnswerReader::new(answer, position).next()
+}
+
 // ---- the whole
 
 // The form of an answer whose literals begin at `at`, by what follows literal 0.
@@ -348,7 +379,7 @@ fn model_form(answer: &[u8], at: usize) -> Formed
 {
     let mut p = at;
     loop {
-        let n = next_literal(answer, p);
+        let n = next_from(answer, p);
         match n {
             Next::Literal(_, _, behind) => {
                 p = behind;

@@ -1,7 +1,7 @@
 // Assigns the literals of a solver answer to a lent buffer, one byte for each variable (document 01, "Check and filling out"; rows 13, 14 and 15):
 // 1 or 0 is a value, 2 says that the variable has none yet.
 use answer_reader::Next;
-use answer_reader::next_literal;
+use answer_reader::next_from;
 use literals::is_negative;
 use literals::magnitude;
 ghost use Prim.Native.Nat.{_^_, _≤_, _<_};
@@ -77,7 +77,7 @@ pub fn assign(answer: &[u8], from: usize, v: usize, assignment: &mut [u8]) -> As
 {
     let mut p = from;
     loop {
-        let n = next_literal(answer, p);
+        let n = next_from(answer, p);
         match n {
             Next::Literal(x, first, behind) => {
                 let r = put_value(x, first, v, &mut *assignment);

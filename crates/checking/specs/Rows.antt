@@ -89,7 +89,6 @@ pub record CheckAnswers (t u : List ℕ) (a l r s : ℕ) : Type 0 where
 -- ---- accepted answers
 
 -- each clause is true under the values of the literals
--- each clause is true under the values of the literals
 abbrev pub EachTrue : Program → List Spotted → Type 0
 EachTrue P xs = (j : ℕ) → 0 < j → j ≤ clauseNumber P → So (clauseTrue (valuesIn P xs) (clauseOf P j))
 

@@ -180,6 +180,12 @@ use Rattle.answer_reader.proofs.status.Statement.{statement as answer-status·s
 use Rattle.answer_reader.proofs.status.Met.{met as answer-status·met}
 use Rattle.answer_reader.proofs.next_literal.Statement.{statement as answer-next-literal·statement}
 use Rattle.answer_reader.proofs.next_literal.Met.{met as answer-next-literal·met}
+use Rattle.answer_reader.proofs.AnswerReader.new.Statement.{statement as answer-reader-new·statement}
+use Rattle.answer_reader.proofs.AnswerReader.new.Met.{met as answer-reader-new·met}
+use Rattle.answer_reader.proofs.AnswerReader.next.Statement.{statement as answer-reader-next·statement}
+use Rattle.answer_reader.proofs.AnswerReader.next.Met.{met as answer-reader-next·met}
+use Rattle.answer_reader.proofs.next_from.Statement.{statement as answer-next-from·statement}
+use Rattle.answer_reader.proofs.next_from.Met.{met as answer-next-from·met}
 use Rattle.answer_reader.proofs.close.Statement.{statement as answer-close·statement}
 use Rattle.answer_reader.proofs.close.Met.{met as answer-close·met}
 use Rattle.answer_reader.proofs.form.Statement.{statement as answer-form·statement}
@@ -987,6 +993,10 @@ pub record AnswerReader (M : Type 1) : Type 2 where
   pub status : answer-status·statement M
   pub next-literal : answer-next-literal·statement M
   pub close : answer-close·statement M
+  -- the reader that holds the answer and a position: made of them, the next literal that it hands out, and the same by a reader from a position on
+  pub new : answer-reader-new·statement M
+  pub next : answer-reader-next·statement M
+  pub next-from : answer-next-from·statement M
   -- the form of the whole answer is `formOf`
   pub form : answer-form·statement M
   -- its literals, assigned to a lent buffer of which the other bytes stay; the first variable without a value; the first bytes of a buffer
@@ -995,7 +1005,7 @@ pub record AnswerReader (M : Type 1) : Type 2 where
   pub fill : assigning-fill·statement M
 
 pub answer-reader : (M : Type 1) → AnswerReader M
-answer-reader M = record { status = answer-status·met; next-literal = answer-next-literal·met; close = answer-close·met; form = answer-form·met; assign = assigning-assign·met; first-unset = assigning-first-unset·met; fill = assigning-fill·met }
+answer-reader M = record { status = answer-status·met; next-literal = answer-next-literal·met; close = answer-close·met; new = answer-reader-new·met; next = answer-reader-next·met; next-from = answer-next-from·met; form = answer-form·met; assign = assigning-assign·met; first-unset = assigning-first-unset·met; fill = assigning-fill·met }
 
 -- truth, stages, filling, results, checking, filling_out, models
 pub record Verdicts (M : Type 1) : Type 2 where
