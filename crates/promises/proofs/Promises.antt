@@ -1040,7 +1040,7 @@ verdicts M = record { check = check·met; check-read = check-read·met; fill-out
 
 -- files
 pub record Files (M : Type 1) : Type 2 where
-  -- how many bytes are left to read, and of the front of a file how many are kept and how many there are in all; which bytes they are is not stated
+  -- bounds alone, of how many bytes are left to read, and of how many of a file's bytes are kept and counted: what a file holds is not part of the definitions
   pub rest-length : rest-length·statement M
   pub read-front : read-front·statement M
 
