@@ -325,6 +325,18 @@ use Rattle.files.proofs.rest_length.Statement.{statement as rest-length·statem
 use Rattle.files.proofs.rest_length.Met.{met as rest-length·met}
 use Rattle.files.proofs.read_front.Statement.{statement as read-front·statement}
 use Rattle.files.proofs.read_front.Met.{met as read-front·met}
+use Rattle.exports.proofs.qs_read.Statement.{statement as qs-read·statement}
+use Rattle.exports.proofs.qs_read.Met.{met as qs-read·met}
+use Rattle.exports.proofs.qs_line.Statement.{statement as qs-line·statement}
+use Rattle.exports.proofs.qs_line.Met.{met as qs-line·met}
+use Rattle.exports.proofs.qs_run.Statement.{statement as qs-run·statement}
+use Rattle.exports.proofs.qs_run.Met.{met as qs-run·met}
+use Rattle.exports.proofs.qs_check.Statement.{statement as qs-check·statement}
+use Rattle.exports.proofs.qs_check.Met.{met as qs-check·met}
+use Rattle.exports.proofs.qs_fill.Statement.{statement as qs-fill·statement}
+use Rattle.exports.proofs.qs_fill.Met.{met as qs-fill·met}
+use Rattle.exports.specs.Replies.{readReply, lineReply, runReply, checkReply, fillReply}
+use Rattle.exports.proofs.Zero as Zero
 
 -- ---- 1 Meaning
 
@@ -1046,3 +1058,27 @@ pub record Files (M : Type 1) : Type 2 where
 
 pub files : (M : Type 1) → Files M
 files M = record { rest-length = rest-length·met; read-front = read-front·met }
+
+-- exports
+pub record Exports (M : Type 1) : Type 2 where
+  -- the functions that C and other languages call, for any bytes: the replies are `readReply`, `lineReply`, `runReply`, `checkReply` and `fillReply`, and the
+  -- buffers are those of the reader, the line call, the call for a run of lines, the check and filling out
+  pub qs-read : qs-read·statement M
+  pub qs-line : qs-line·statement M
+  pub qs-run : qs-run·statement M
+  pub qs-check : qs-check·statement M
+  pub qs-fill : qs-fill·statement M
+
+pub exports : (M : Type 1) → Exports M
+exports M = record { qs-read = qs-read·met; qs-line = qs-line·met; qs-run = qs-run·met; qs-check = qs-check·met; qs-fill = qs-fill·met }
+
+-- a reply's number is 0 exactly if the call accepts
+pub record ZeroAccepts : Type 0 where
+  pub of-read : (t : List ℕ) → (readReply t .number ≡ 0) ↔ (readOf t .verdict ≡ Accepted)
+  pub of-line : (t : List ℕ) (j k n : ℕ) → (lineReply t j k n .number ≡ 0) ↔ ((m : ℕ) × (lineAnswer t j k n ≡ Written m))
+  pub of-run : (t : List ℕ) (j n : ℕ) → (runReply t j n .number ≡ 0) ↔ ((m : ℕ) × (x : ℕ) × (runAnswer t j n ≡ WrittenRun m x))
+  pub of-check : (t u : List ℕ) (a l : ℕ) → (checkReply t u a l .number ≡ 0) ↔ ((k : ℕ) × (h : ℕ) × (checkAnswer t u a l ≡ ShownModel k h))
+  pub of-fill : (t s : List ℕ) (a l : ℕ) → (fillReply t s a l .number ≡ 0) ↔ ((k : ℕ) × (h : ℕ) × (fillAnswer t s a l ≡ Filled k h))
+
+pub zero-accepts : ZeroAccepts
+zero-accepts = record { of-read = Zero.read-zero; of-line = Zero.line-zero; of-run = Zero.run-zero; of-check = Zero.check-zero; of-fill = Zero.fill-zero }

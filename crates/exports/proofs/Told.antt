@@ -1,0 +1,31 @@
+-- A reply, from what the calls below gave: a verdict by its case, a refusal by its number and spot, a program by its totals, a text by its reading.
+-- Assumes nothing.
+use Prim.Native.Nat.{ℕ}
+use mathlib.Core.Path.{_≡_, sym, _∙_, ap, ap₂}
+use mathlib.Core.List.{List}
+use Rattle.meaning.specs.Program.{Program}
+use Rattle.program.specs.declared.Reading.{Reading}
+use Rattle.program.specs.declared.ReadVerdict.{ReadVerdict}
+use Rattle.program.specs.Verdict.{readOf}
+use Rattle.reader_laws.specs.Decoded.{decoded}
+use Rattle.tables.specs.declared.Totals.{Totals}
+use Rattle.tables.specs.Tables.{totalsOf}
+use Rattle.exports.specs.declared.Reply.{Reply}
+use Rattle.exports.specs.Replies.{acceptedReply, refusedReply, totalsReply, ofReading, readReply}
+
+-- the verdict v is w
+pub told : {A : Type 0} (f : A → Reply) {v w : A} {r : Reply} → v ≡ w → r ≡ f w → r ≡ f v
+told f q e = e ∙ sym (ap f q)
+
+pub numbered : {i j s u : ℕ} {r : Reply} → i ≡ j → s ≡ u → r ≡ refusedReply i s → r ≡ refusedReply j u
+numbered e f q = q ∙ ap₂ refusedReply e f
+
+pub totalled : (P : Program) {t : Totals} {r : Reply} → t ≡ totalsOf P → r ≡ acceptedReply (t .vars) (t .clauses) → r ≡ totalsReply P
+unfolding totalsOf
+totalled P e q = q ∙ ap (λ (x : Totals). acceptedReply (x .vars) (x .clauses)) e
+
+module _ (t : List ℕ) {x : Reading} (e : x ≡ readOf t) {r : Reply} where
+  pub reading-told : {v : ReadVerdict} → x .verdict ≡ v → r ≡ ofReading v (decoded (x .program)) → r ≡ readReply t
+  unfolding readReply
+  reading-told q h =
+      told (λ (v : ReadVerdict). ofReading v (decoded (x .program))) q h ∙ ap (λ (y : Reading). ofReading (y .verdict) (decoded (y .program))) e

@@ -1,0 +1,79 @@
+-- The replies of the functions that other languages call: a refusal's number and spot by document 01's table ("Verdicts"), both 0 for acceptance, and the
+-- two numbers of an accepted call, a and b, 0 where there is none. What a call writes is said by the definitions of the call that it is made of.
+--   acceptedReply a b, refusedReply r s   the two kinds of reply
+--   totalsReply P             V and C of the program P
+--   ofLine, ofRun, ofCheck, ofFill   the reply for a verdict: a line's length; lines and bytes; true atoms and highest level, twice
+--   readReply t               the reply for the text t
+--   lineReply t j k n         for line j of text t, into n bytes from place k on
+--   runReply t j n            for the lines from line j on, into n bytes
+--   checkReply t u a l        for the check of the answer u, with buffers of a and l bytes
+--   fillReply t s a l         for filling out the set s, likewise
+-- Assumes nothing.
+use Prim.Native.Nat.{ℕ}
+use mathlib.Core.List.{List}
+use Rattle.meaning.specs.Program.{Program}
+use Rattle.program.specs.declared.ReadVerdict.{ReadVerdict}
+use Rattle.program.specs.declared.ReadVerdict.the-variants.{Accepted, Refused as TextRefused}
+use Rattle.program.specs.Verdict.{readOf, textNumber, textSpot}
+use Rattle.reader_laws.specs.Decoded.{decoded}
+use Rattle.lines.specs.declared.LineVerdict.{LineVerdict}
+use Rattle.lines.specs.declared.LineVerdict.the-variants.{Written, Refused as LineRefused}
+use Rattle.lines.specs.declared.RunVerdict.{RunVerdict}
+use Rattle.lines.specs.declared.RunVerdict.the-variants.{WrittenRun, RefusedRun}
+use Rattle.lines.specs.Lines.{clauseTotal, lineNumber, lineSpot, lineAnswer, runAnswer}
+use Rattle.results.specs.Results.{varTotal}
+use Rattle.checking.specs.declared.CheckVerdict.{CheckVerdict}
+use Rattle.checking.specs.declared.CheckVerdict.the-variants.{Model, Refused as CheckRefused}
+use Rattle.checking.specs.Check.{checkNumber, checkSpot, checkAnswer}
+use Rattle.filling_out.specs.declared.FillVerdict.{FillVerdict}
+use Rattle.filling_out.specs.declared.FillVerdict.the-variants.{Filled, Refused as FillRefused}
+use Rattle.filling_out.specs.FillOut.{fillNumber, fillSpot, fillAnswer}
+use Rattle.exports.specs.declared.Reply.{Reply}
+
+abbrev pub acceptedReply : ℕ → ℕ → Reply
+acceptedReply a b = record { number = 0; spot = 0; a = a; b = b }
+
+abbrev pub refusedReply : ℕ → ℕ → Reply
+refusedReply r s = record { number = r; spot = s; a = 0; b = 0 }
+
+-- ---- from a verdict
+
+abbrev pub totalsReply : Program → Reply
+totalsReply P = acceptedReply (varTotal P) (clauseTotal P)
+
+abbrev pub ofReading : ReadVerdict → Program → Reply
+ofReading Accepted P = totalsReply P
+ofReading (TextRefused r) P = refusedReply (textNumber r) (textSpot r)
+
+abbrev pub ofLine : LineVerdict → Reply
+ofLine (Written n) = acceptedReply n 0
+ofLine (LineRefused r) = refusedReply (lineNumber r) (lineSpot r)
+
+abbrev pub ofRun : RunVerdict → Reply
+ofRun (WrittenRun m n) = acceptedReply m n
+ofRun (RefusedRun r) = refusedReply (lineNumber r) (lineSpot r)
+
+abbrev pub ofCheck : CheckVerdict → Reply
+ofCheck (Model k h) = acceptedReply k h
+ofCheck (CheckRefused r) = refusedReply (checkNumber r) (checkSpot r)
+
+abbrev pub ofFill : FillVerdict → Reply
+ofFill (Filled k h) = acceptedReply k h
+ofFill (FillRefused r) = refusedReply (fillNumber r) (fillSpot r)
+
+-- ---- of a call
+
+unfoldable pub readReply : List ℕ → Reply
+readReply t = ofReading (readOf t .verdict) (decoded (readOf t .program))
+
+unfoldable pub lineReply : List ℕ → ℕ → ℕ → ℕ → Reply
+lineReply t j k n = ofLine (lineAnswer t j k n)
+
+unfoldable pub runReply : List ℕ → ℕ → ℕ → Reply
+runReply t j n = ofRun (runAnswer t j n)
+
+unfoldable pub checkReply : List ℕ → List ℕ → ℕ → ℕ → Reply
+checkReply t u a l = ofCheck (checkAnswer t u a l)
+
+unfoldable pub fillReply : List ℕ → List ℕ → ℕ → ℕ → Reply
+fillReply t s a l = ofFill (fillAnswer t s a l)

@@ -1,0 +1,166 @@
+// The functions that C, Rust and other languages call (include/quadrensolo.h): thin, over numbers and byte slices.
+use checking::CheckVerdict;
+use checking::check;
+use checking::check_number_of;
+use checking::check_spot_of;
+use filling_out::FillVerdict;
+use filling_out::fill_number_of;
+use filling_out::fill_out;
+use filling_out::fill_spot_of;
+use lines::LineVerdict;
+use lines::RunVerdict;
+use lines::line;
+use lines::line_number_of;
+use lines::line_spot_of;
+use lines::run;
+use program::Program;
+use program::ReadVerdict;
+use program::number_of;
+use program::read;
+use program::spot_of;
+use tabling::pairs_of;
+use tabling::totals_of;
+ghost use mathlib.Core.Path.{_≡_};
+ghost use lib.ListN.{length};
+ghost use Rattle.reader_laws.specs.Decoded.{decoded};
+ghost use Rattle.tables.specs.Tables.{Stored};
+ghost use Rattle.lines.specs.Lines.{lineBytes, runBytes};
+ghost use Rattle.checking.specs.Check.{checkAssignment, checkLevels};
+ghost use Rattle.filling_out.specs.FillOut.{fillAssignment, fillLevels};
+ghost use Rattle.exports.specs.Replies.{acceptedReply, refusedReply, totalsReply, ofLine, ofRun, ofCheck, ofFill, readReply, lineReply, runReply, checkReply, fillReply};
+
+// The row's number and the spot of a refusal, both 0 for acceptance; and the two numbers that an accepted call gives.
+#[repr(C)]
+pub struct Reply {
+    pub number: u64,
+    pub spot: u64,
+    pub a: u64,
+    pub b: u64,
+}
+
+fn accepted(a: usize, b: usize) -> Reply
+    ensures { λ r. ⌜ r ≡ acceptedReply a b ⌝ }
+{
+    Reply {
+        number: 0,
+        spot: 0,
+        a: a as u64,
+        b: b as u64,
+    }
+}
+
+fn refused(number: u8, spot: usize) -> Reply
+    ensures { λ r. ⌜ r ≡ refusedReply number spot ⌝ }
+{
+    Reply {
+        number: number as u64,
+        spot: spot as u64,
+        a: 0,
+        b: 0,
+    }
+}
+
+// V and C of a program that was read.
+fn of_program(p: Program) -> Reply
+    requires { ⌜ Stored p ⌝ }
+    ensures { λ r. ⌜ r ≡ totalsReply (decoded p) ⌝ }
+{
+    let k = pairs_of(p);
+    let t = totals_of(p, k.count, k.empty);
+    accepted(t.vars, t.clauses)
+}
+
+fn of_line(v: LineVerdict) -> Reply
+    ensures { λ r. ⌜ r ≡ ofLine v ⌝ }
+{
+    match v {
+        LineVerdict::Written(n) => accepted(n, 0),
+        LineVerdict::Refused(x) => refused(line_number_of(x), line_spot_of(x)),
+    }
+}
+
+fn of_run(v: RunVerdict) -> Reply
+    ensures { λ r. ⌜ r ≡ ofRun v ⌝ }
+{
+    match v {
+        RunVerdict::WrittenRun(m, n) => accepted(m, n),
+        RunVerdict::RefusedRun(x) => refused(line_number_of(x), line_spot_of(x)),
+    }
+}
+
+fn of_check(v: CheckVerdict) -> Reply
+    ensures { λ r. ⌜ r ≡ ofCheck v ⌝ }
+{
+    match v {
+        CheckVerdict::Model(k, h) => accepted(k, h),
+        CheckVerdict::Refused(x) => refused(check_number_of(x), check_spot_of(x)),
+    }
+}
+
+fn of_fill(v: FillVerdict) -> Reply
+    ensures { λ r. ⌜ r ≡ ofFill v ⌝ }
+{
+    match v {
+        FillVerdict::Filled(k, h) => accepted(k, h),
+        FillVerdict::Refused(x) => refused(fill_number_of(x), fill_spot_of(x)),
+    }
+}
+
+// Reads a program text: V and C.
+#[no_mangle]
+pub extern "C" fn qs_read(text: &[u8]) -> Reply
+    ensures { λ r. ⌜ r ≡ readReply (now (text .entry)) ⌝ }
+{
+    let x = read(text);
+    let v = x.verdict;
+    match v {
+        ReadVerdict::Accepted => of_program(x.program),
+        ReadVerdict::Refused(r) => refused(number_of(r), spot_of(r)),
+    }
+}
+
+// Line j of the text's clause file, written into the buffer from `place` on: its length.
+#[no_mangle]
+pub extern "C" fn qs_line(text: &[u8], j: usize, place: usize, buf: &mut [u8]) -> Reply
+    ensures { λ r. ⌜ (r ≡ lineReply (now (text .entry)) j place (length (now (buf .entry)))) × (now (buf .exit) ≡ lineBytes (now (text .entry)) j place (now (buf .entry))) ⌝ }
+{
+    let v = line(text, j, place, &mut *buf);
+    of_line(v)
+}
+
+// As many whole lines as fit the buffer, from line j on: how many lines, and how many bytes.
+#[no_mangle]
+pub extern "C" fn qs_run(text: &[u8], j: usize, buf: &mut [u8]) -> Reply
+    ensures { λ r. ⌜ (r ≡ runReply (now (text .entry)) j (length (now (buf .entry)))) × (now (buf .exit) ≡ runBytes (now (text .entry)) j (now (buf .entry))) ⌝ }
+{
+    let v = run(text, j, &mut *buf);
+    of_run(v)
+}
+
+// The check of a solver answer: how many atoms are true, and the highest level.
+#[no_mangle]
+pub extern "C" fn qs_check(
+    text: &[u8],
+    answer: &[u8],
+    assignment: &mut [u8],
+    levels: &mut [u8],
+) -> Reply
+    ensures { λ r. ⌜ (r ≡ checkReply (now (text .entry)) (now (answer .entry)) (length (now (assignment .entry))) (length (now (levels .entry)))) × (now (assignment .exit) ≡ checkAssignment (now (text .entry)) (now (answer .entry)) (now (assignment .entry)) (length (now (levels .entry)))) × (now (levels .exit) ≡ checkLevels (now (text .entry)) (now (answer .entry)) (length (now (assignment .entry))) (now (levels .entry))) ⌝ }
+{
+    let v = check(text, answer, &mut *assignment, &mut *levels);
+    of_check(v)
+}
+
+// Filling out a proposed set of atoms: how many atoms are true, and the highest level.
+#[no_mangle]
+pub extern "C" fn qs_fill(
+    text: &[u8],
+    set: &[u8],
+    assignment: &mut [u8],
+    levels: &mut [u8],
+) -> Reply
+    ensures { λ r. ⌜ (r ≡ fillReply (now (text .entry)) (now (set .entry)) (length (now (assignment .entry))) (length (now (levels .entry)))) × (now (assignment .exit) ≡ fillAssignment (now (text .entry)) (now (set .entry)) (now (assignment .entry)) (length (now (levels .entry)))) × (now (levels .exit) ≡ fillLevels (now (text .entry)) (now (set .entry)) (length (now (assignment .entry))) (now (levels .entry))) ⌝ }
+{
+    let v = fill_out(text, set, &mut *assignment, &mut *levels);
+    of_fill(v)
+}
