@@ -1,0 +1,115 @@
+#!/usr/bin/env python3
+"""Tests of the Python binding: the module's functions on document 01's examples, and the library's functions on the calls of the case programs (crates/*_cases),
+whose expected replies are in the repository. Prints how many calls were compared."""
+
+import ctypes
+import os
+import re
+import unittest
+
+import quadrensolo
+from quadrensolo import Refusal, _library
+
+FACT = b"(atoms 1)\n(rule 1 () ())\n"
+FACT_FILE = (b"p cnf 7 16\n2 0\n1 -2 0\n-1 2 0\n1 -4 0\n1 -5 0\n-6 -4 0\n6 4 0\n4 -7 5 0\n4 7 -5 0\n-4 -7 -5 0\n-4 7 5 0\n-3 2 0\n3 -2 0\n"
+             b"-2 4 0\n-2 -5 0\n-1 3 0\n")
+ANSWER = b"s SATISFIABLE\nv 1 2 3 4 -5 -6 7 0\n"
+
+
+class Module(unittest.TestCase):
+    def refused(self, number, spot, function, *arguments):
+        with self.assertRaises(Refusal) as caught:
+            function(*arguments)
+        self.assertEqual((caught.exception.number, caught.exception.spot), (number, spot))
+
+    def test_read(self):
+        self.assertEqual(quadrensolo.read(FACT), (7, 16))
+        self.assertEqual(quadrensolo.read(b"(atoms 0)\n"), (0, 0))
+        self.refused(3, 7, quadrensolo.read, b"(atoms 127)\n")
+        self.refused(2, 0, quadrensolo.read, b"")
+
+    def test_lines(self):
+        lines = FACT_FILE.splitlines(keepends=True)
+        self.assertEqual([quadrensolo.line(FACT, j) for j in range(17)], lines)
+        self.refused(9, 16, quadrensolo.line, FACT, 17)
+        for j in (-1, 1 << 64):
+            self.assertRaises(ValueError, quadrensolo.line, FACT, j)
+        for size in (11, 20, 1 << 20):
+            self.assertEqual(b"".join(quadrensolo.runs(FACT, size)), FACT_FILE)
+        self.refused(8, 11, list, quadrensolo.runs(FACT, 10))
+        self.assertEqual(quadrensolo.clause_file(b"(atoms 0)\n"), b"p cnf 0 0\n")
+
+    def test_models(self):
+        model = quadrensolo.Model(1, 1, bytes([1, 1, 1, 1, 0, 0, 1]), bytes([1]))
+        self.assertEqual(quadrensolo.check(FACT, ANSWER), model)
+        self.assertEqual(quadrensolo.fill_out(FACT, bytes([1])), model)
+        self.assertEqual(quadrensolo.fill_out(b"(atoms 0)\n", b""), (0, 0, b"", b""))
+        self.refused(18, 1, quadrensolo.fill_out, FACT, bytes([0]))
+        self.refused(12, 0, quadrensolo.check, FACT, b"s UNSATISFIABLE\n")
+        self.refused(4, 16, quadrensolo.check, b"(atoms 1)\n(rule 2 () ())\n", ANSWER)
+
+
+def field(word):
+    """Bytes of a field: `-` for none, two hexadecimal digits for a byte, or (HH)N; for that byte N times."""
+    item = re.sub(r"\(([0-9a-f]{2})\)(\d+);", lambda found: found[1] * int(found[2]), word)
+    return b"" if word == "-" else bytes.fromhex(item)
+
+
+def shown(data):
+    return data.hex() or "-"
+
+
+class Cases(unittest.TestCase):
+    """Each call's reply, and every byte of its buffers, against the line that the case program prints for it."""
+
+    compared = 0
+
+    def calls(self, crate, names):
+        folder = os.path.join(quadrensolo.ROOT, "crates", crate)
+        with open(os.path.join(folder, "stdout")) as file:
+            expected = file.read().splitlines()
+        lines = []
+        for name in names:
+            with open(os.path.join(folder, "data", name)) as file:
+                lines += file.read().splitlines()
+        self.assertTrue(0 < len(lines) <= len(expected))
+        return zip(lines, expected)
+
+    def compare(self, expected, reply, values, *buffers):
+        words = [f"refused {reply.number} {reply.spot}"] if reply.number else [" ".join(map(str, ["ok", *values]))]
+        self.assertEqual(" ".join(words + [shown(buffer.raw) for buffer in buffers]), expected)
+        Cases.compared += 1
+
+    def test_read(self):
+        for line, expected in self.calls("read_cases", ["vectors.hex"]):
+            text = field(line)
+            self.compare(expected, _library.qs_read(text, len(text)), ())
+
+    def test_line(self):
+        for line, expected in self.calls("line_cases", ["vectors.calls", "hand.calls"]):
+            words = line.split(" ")
+            text, buf = field(words[0]), field(words[3])
+            buffer = ctypes.create_string_buffer(buf, len(buf))
+            reply = _library.qs_line(text, len(text), int(words[1]), int(words[2]), buffer, len(buf))
+            self.compare(expected, reply, (reply.a,), buffer)
+
+    def models(self, crate, names, function):
+        for line, expected in self.calls(crate, names):
+            text, given, assignment, levels = map(field, line.split(" "))
+            buffers = [ctypes.create_string_buffer(data, len(data)) for data in (assignment, levels)]
+            reply = function(text, len(text), given, len(given), buffers[0], len(assignment), buffers[1], len(levels))
+            self.compare(expected, reply, (reply.a, reply.b), *buffers)
+
+    def test_check(self):
+        self.models("check_cases", ["vectors1.calls", "vectors2.calls", "hand.calls", "full.calls", "filled.calls", "filled_vectors.calls"], _library.qs_check)
+
+    def test_fill(self):
+        self.models("fill_cases", ["vectors.calls", "hand.calls", "full.calls"], _library.qs_fill)
+
+    @classmethod
+    def tearDownClass(cls):
+        print(f"{cls.compared} calls compared")
+
+
+if __name__ == "__main__":
+    unittest.main()
