@@ -1,6 +1,6 @@
 //! Calls of `check` and `fill_out` in text: four fields of bytes, and the reply with both buffers after it.
 
-use crate::text::Refusal;
+use crate::Refusal;
 use std::io::{stdin, BufRead};
 
 /// A call on two inputs and two lent buffers.

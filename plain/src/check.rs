@@ -1,24 +1,13 @@
-//! The check of a solver answer (document 01, "Solver answer", "Check and filling out", rows 8 and 10 to 16 of "Verdicts").
+//! The check of a solver answer (document 01, "Check and filling out", rows 8 and 13 to 16 of "Verdicts").
 
-use crate::encode::{Encoding, Sink};
-use crate::text::{read, Refusal};
+use crate::answer::read_answer;
+use crate::clauses::{Clauses, Flow, Sink};
+use crate::layout::{Layout, MAX_VARIABLES};
+use crate::{read_program, Program, Refusal};
+use std::ops::ControlFlow::{Break, Continue};
 
-pub const MAX_ANSWER: usize = 65_536;
-
-/// A literal of an answer: its variable (cut to the largest u64), its sign, and its first byte.
-#[derive(Debug, PartialEq)]
-pub struct Literal {
-    pub variable: u64,
-    pub positive: bool,
-    pub spot: usize,
-}
-
-/// What an answer of the form says: the literals before literal 0, or no model.
-#[derive(Debug, PartialEq)]
-pub enum Offer {
-    Literals(Vec<Literal>),
-    NoModel,
-}
+/// In the assignment, for a variable that has no value yet.
+const MISSING: u8 = 2;
 
 /// How many atoms are true, and the highest level. Accepted, the assignment and the levels are written; refusals 13 to 16 zero the
 /// assignment's first V bytes, the others write nothing.
@@ -28,183 +17,77 @@ pub fn check(
     assignment: &mut [u8],
     levels: &mut [u8],
 ) -> Result<(usize, usize), Refusal> {
-    let program = read(text)?;
-    let encoding = Encoding::new(&program);
-    let (v, n) = encoding.room(assignment, levels)?;
-    let Offer::Literals(literals) = offer(answer)? else {
-        return Err((12, 0));
-    };
-    match values(&encoding, &literals) {
-        Ok(values) => {
-            assignment[..v].copy_from_slice(&values);
-            for a in 1..=n {
-                levels[a - 1] = encoding.counter(a, &values);
-            }
-            let count = values[..n].iter().filter(|&&value| value == 1).count();
-            let highest = levels[..n].iter().max().copied().unwrap_or(0);
-            Ok((count, highest as usize))
+    let mut program = Program::EMPTY;
+    read_program(text, &mut program)?;
+    let clauses = Clauses::new(&program);
+    let (v, n) = clauses.layout.room(assignment, levels)?;
+    let mut values = [MISSING; MAX_VARIABLES];
+    let values = &mut values[..v];
+    let fault = assign(answer, values)?;
+    let judged = fault
+        .map_or(Ok(()), Err)
+        .and_then(|()| judge(&clauses, values));
+    if judged.is_err() {
+        assignment[..v].fill(0);
+        judged?;
+    }
+    assignment[..v].copy_from_slice(values);
+    let count = values[..n].iter().filter(|&&value| value == 1).count();
+    Ok((count, counters(&clauses.layout, values, &mut levels[..n])))
+}
+
+/// The values that an answer gives to all variables, or the first of rows 13 to 15. Rows 10 to 12 are the error.
+fn assign(answer: &[u8], values: &mut [u8]) -> Result<Option<Refusal>, Refusal> {
+    let mut fault = None;
+    read_answer(answer, |literal| {
+        match values.get_mut(literal.variable - 1) {
+            Some(value) if *value == MISSING => *value = literal.positive as u8,
+            Some(_) => _ = fault.get_or_insert((14, literal.spot)),
+            None => _ = fault.get_or_insert((13, literal.spot)),
         }
-        Err(refusal) => {
-            assignment[..v].fill(0);
-            Err(refusal)
-        }
+    })?;
+    let missing = || values.iter().position(|&value| value == MISSING);
+    Ok(fault.or_else(|| missing().map(|index| (15, index + 1))))
+}
+
+/// Row 16: whether every clause is true.
+fn judge(clauses: &Clauses, values: &[u8]) -> Result<(), Refusal> {
+    let mut judge = Judge { values, passed: 0 };
+    match clauses.walk(1, &mut judge) {
+        Continue(()) => Ok(()),
+        Break(()) => Err((16, judge.passed + 1)),
     }
 }
 
-/// Rows 13 to 16: the values of all variables.
-fn values(encoding: &Encoding, literals: &[Literal]) -> Result<Vec<u8>, Refusal> {
-    let mut values: Vec<Option<u8>> = vec![None; encoding.variable_count()];
-    for literal in literals {
-        let index = usize::try_from(literal.variable).unwrap_or(usize::MAX) - 1;
-        let Some(value) = values.get_mut(index) else {
-            return Err((13, literal.spot));
-        };
-        if value.is_some() {
-            return Err((14, literal.spot));
-        }
-        *value = Some(literal.positive as u8);
-    }
-    let given: Vec<u8> = values.iter().copied().map_while(|value| value).collect();
-    if given.len() < values.len() {
-        return Err((15, given.len() + 1));
-    }
-    let mut judge = Judge {
-        values: &given,
-        holds: false,
-        ended: 0,
-        first_false: None,
-    };
-    encoding.clauses(&mut judge);
-    match judge.first_false {
-        Some(clause) => Err((16, clause)),
-        None => Ok(given),
-    }
-}
-
-/// Looks for the first clause without a true literal.
+/// Stops at the first clause without a true literal.
 struct Judge<'a> {
     values: &'a [u8],
-    holds: bool,
-    ended: usize,
-    first_false: Option<usize>,
+    passed: usize,
 }
 
 impl Sink for Judge<'_> {
-    fn literal(&mut self, literal: i32) {
-        let value = self.values[literal.unsigned_abs() as usize - 1];
-        self.holds |= value == (literal > 0) as u8;
-    }
-
-    fn end(&mut self) {
-        self.ended += 1;
-        if !self.holds {
-            self.first_false.get_or_insert(self.ended);
-        }
-        self.holds = false;
-    }
-}
-
-/// Rows 10 and 11: what an answer says.
-pub fn offer(answer: &[u8]) -> Result<Offer, Refusal> {
-    if answer.len() > MAX_ANSWER {
-        return Err((10, answer.len()));
-    }
-    let mut reader = Reader { answer, at: 0 };
-    reader.offer().ok_or((11, reader.at))
-}
-
-/// The answer is read left to right; where a function returns `None`, no ending gives the form past the byte at `at`.
-struct Reader<'a> {
-    answer: &'a [u8],
-    at: usize,
-}
-
-impl Reader<'_> {
-    fn offer(&mut self) -> Option<Offer> {
-        self.comments()?;
-        let statuses: [&[u8]; 3] = [b"s SATISFIABLE\n", b"s UNSATISFIABLE\n", b"s UNKNOWN\n"];
-        let rest = &self.answer[self.at..];
-        let Some(found) = statuses.iter().position(|status| rest.starts_with(status)) else {
-            let common =
-                |status: &&[u8]| rest.iter().zip(*status).take_while(|(x, y)| x == y).count();
-            self.at += statuses.iter().map(common).max().unwrap_or(0);
-            return None;
+    #[inline]
+    fn clause(&mut self, literals: impl IntoIterator<Item = i32>) -> Flow {
+        let holds = |literal: i32| {
+            let value = self.values[literal.unsigned_abs() as usize - 1];
+            value == (literal > 0) as u8
         };
-        self.at += statuses[found].len();
-        if found > 0 {
-            return Some(Offer::NoModel);
+        if !literals.into_iter().any(holds) {
+            return Break(());
         }
-        let mut literals = Vec::new();
-        loop {
-            self.comments()?;
-            self.byte(b'v')?;
-            if self.values(&mut literals)? {
-                break;
-            }
-        }
-        self.comments()?;
-        // nothing else may follow
-        (self.at == self.answer.len()).then_some(Offer::Literals(literals))
+        self.passed += 1;
+        Continue(())
     }
+}
 
-    /// Skips the lines that start with c.
-    fn comments(&mut self) -> Option<()> {
-        while self.peek() == Some(b'c') {
-            while self.peek()? != b'\n' {
-                self.at += 1;
-            }
-            self.at += 1;
-        }
-        Some(())
+/// Each atom's counter, lowest bit first in the values; the highest.
+fn counters(layout: &Layout, values: &[u8], levels: &mut [u8]) -> usize {
+    let first = layout.n + 2 * layout.m;
+    let bits = values[first..].chunks_exact(layout.w);
+    for (level, bits) in levels.iter_mut().zip(bits) {
+        *level = bits.iter().rev().fold(0, |sum, &bit| 2 * sum + bit);
     }
-
-    /// The rest of a v line; whether literal 0 was in it.
-    fn values(&mut self, literals: &mut Vec<Literal>) -> Option<bool> {
-        while self.peek() == Some(b' ') {
-            self.at += 1;
-            let spot = self.at;
-            if self.peek() == Some(b'0') {
-                self.at += 1;
-                self.byte(b'\n')?;
-                return Some(true);
-            }
-            let positive = self.peek() != Some(b'-');
-            if !positive {
-                self.at += 1;
-            }
-            let variable = self.variable()?;
-            literals.push(Literal {
-                variable,
-                positive,
-                spot,
-            });
-        }
-        self.byte(b'\n')?;
-        Some(false)
-    }
-
-    /// Digits, the first of them 1 to 9; a number too large is cut.
-    fn variable(&mut self) -> Option<u64> {
-        let mut value: u64 = 0;
-        while let Some(digit @ b'0'..=b'9') = self.peek() {
-            if value == 0 && digit == b'0' {
-                return None;
-            }
-            value = value
-                .saturating_mul(10)
-                .saturating_add((digit - b'0') as u64);
-            self.at += 1;
-        }
-        (value > 0).then_some(value)
-    }
-
-    fn byte(&mut self, byte: u8) -> Option<()> {
-        (self.peek()? == byte).then(|| self.at += 1)
-    }
-
-    fn peek(&self) -> Option<u8> {
-        self.answer.get(self.at).copied()
-    }
+    levels.iter().max().map_or(0, |&level| level as usize)
 }
 
 #[cfg(test)]
@@ -213,7 +96,9 @@ mod tests {
 
     const FACT: &[u8] = b"(atoms 1)\n(rule 1 () ())\n";
 
-    fn said(answer: &str) -> (Result<(usize, usize), Refusal>, [u8; 8], [u8; 2]) {
+    type Said = (Result<(usize, usize), Refusal>, [u8; 8], [u8; 2]);
+
+    fn said(answer: &str) -> Said {
         let (mut assignment, mut levels) = ([9; 8], [9; 2]);
         let reply = check(FACT, answer.as_bytes(), &mut assignment, &mut levels);
         (reply, assignment, levels)
@@ -237,6 +122,7 @@ mod tests {
             reply.unwrap_err()
         };
         assert_eq!(kept(""), (11, 0));
+        assert_eq!(kept("c"), (11, 1));
         assert_eq!(kept("s SATISFIABLE\n"), (11, 14));
         assert_eq!(kept("s SATISFIABLE\nv 1 -0\n"), (11, 19));
         assert_eq!(kept("s SATISFIABLE\r\n"), (11, 13));

@@ -1,7 +1,11 @@
 //! Filling out a proposed set of atoms (document 01, "Meaning", "Check and filling out", rows 8, 17 and 18 of "Verdicts").
 
-use crate::encode::Encoding;
-use crate::text::{read, Program, Refusal};
+use crate::layout::Layout;
+use crate::program::{MAX_ATOMS, MAX_RULES};
+use crate::{read_program, Program, Refusal};
+
+/// For each atom the first stage that holds it, 0 if none does. Atom a is at place a, and place 0 is not used.
+type Stages = [u8; MAX_ATOMS + 1];
 
 /// How many atoms are true, and the highest level. Accepted, the assignment and the levels are written; refused, nothing is.
 pub fn fill_out(
@@ -10,87 +14,113 @@ pub fn fill_out(
     assignment: &mut [u8],
     levels: &mut [u8],
 ) -> Result<(usize, usize), Refusal> {
-    let program = read(text)?;
-    let encoding = Encoding::new(&program);
-    let (v, n) = encoding.room(assignment, levels)?;
+    let mut program = Program::EMPTY;
+    read_program(text, &mut program)?;
+    let layout = Layout::new(&program);
+    let (v, n) = layout.room(assignment, levels)?;
     if set.len() != n {
         return Err((17, n));
     }
     if let Some(index) = set.iter().position(|&byte| byte > 1) {
         return Err((17, index));
     }
-    let found = levels_of(&program, set);
+    let (stages, highest) = stages(&program, set);
+    let found = &stages[1..=n];
     if let Some(index) = (0..n).find(|&index| (set[index] == 1) != (found[index] > 0)) {
         return Err((18, index + 1));
     }
-    assignment[..v].copy_from_slice(&filled(&program, set, &found, encoding.width()));
-    for (level, &stage) in levels.iter_mut().zip(&found) {
-        *level = stage as u8;
-    }
+    levels[..n].copy_from_slice(found);
+    fill(&program, &layout, set, &stages, &mut assignment[..v]);
     let count = set.iter().filter(|&&byte| byte == 1).count();
-    Ok((count, found.iter().max().copied().unwrap_or(0)))
+    Ok((count, highest))
 }
 
-/// For each atom the first stage that holds it, 0 if none does.
-fn levels_of(program: &Program, set: &[u8]) -> Vec<usize> {
-    let reduct: Vec<_> = program
-        .rules
-        .iter()
-        .filter(|rule| {
-            let negative = program.negative(rule);
-            negative.iter().all(|&c| set[c as usize - 1] == 0)
-        })
-        .collect();
-    let mut levels = vec![0; program.atoms as usize];
-    let mut stage = vec![false; levels.len()];
-    for i in 1.. {
-        let mut next = vec![false; stage.len()];
-        for rule in &reduct {
-            let positive = program.positive(rule);
-            next[rule.head as usize - 1] |= positive.iter().all(|&b| stage[b as usize - 1]);
+/// The stages of the reduct by the set, one after the other until nothing is new, and the number of the last one.
+fn stages(program: &Program, set: &[u8]) -> (Stages, usize) {
+    let mut stages: Stages = [0; MAX_ATOMS + 1];
+    // The rules of the reduct whose heads no stage holds so far.
+    let mut open = [0; MAX_RULES];
+    let mut count = 0;
+    for (index, rule) in program.rules().iter().enumerate() {
+        let negative = program.negative(rule);
+        if negative.iter().all(|&c| set[c as usize - 1] == 0) {
+            open[count] = index as u16;
+            count += 1;
         }
-        if next == stage {
-            break;
-        }
-        for (level, &held) in levels.iter_mut().zip(&next) {
-            if held && *level == 0 {
-                *level = i;
+    }
+    for stage in 1u8.. {
+        let (mut left, mut new) = (0, false);
+        for at in 0..count {
+            let rule = &program.rules()[open[at] as usize];
+            if stages[rule.head as usize] != 0 {
+                continue;
+            }
+            // Held before this stage: not 0, and below it.
+            let held = |&b: &u8| stages[b as usize].wrapping_sub(1) < stage - 1;
+            if program.positive(rule).iter().all(held) {
+                stages[rule.head as usize] = stage;
+                new = true;
+            } else {
+                open[left] = open[at];
+                left += 1;
             }
         }
-        stage = next;
+        if !new {
+            return (stages, stage as usize - 1);
+        }
+        count = left;
     }
-    levels
+    unreachable!("there are no more stages than atoms");
 }
 
 /// The values of all variables, in the order of their numbers.
-fn filled(program: &Program, set: &[u8], levels: &[usize], w: usize) -> Vec<u8> {
-    let level = |a: u32| levels[a as usize - 1];
-    // with w bits
-    let next = |a: u32| (level(a) + 1) % (1 << w);
-    let holds = |a: u32| set[a as usize - 1] == 1;
-    let mut values = set.to_vec();
-    let mut founds = Vec::new();
-    for rule in &program.rules {
-        let positive = program.positive(rule);
-        let body =
-            positive.iter().all(|&b| holds(b)) && !program.negative(rule).iter().any(|&c| holds(c));
-        values.push(body as u8);
-        let below = positive.iter().all(|&b| level(b) < level(rule.head));
-        founds.push((body && below) as u8);
+fn fill(program: &Program, layout: &Layout, set: &[u8], stages: &Stages, values: &mut [u8]) {
+    let Layout { n, m, w, .. } = *layout;
+    let (atoms, rest) = values.split_at_mut(n);
+    let (bodies, rest) = rest.split_at_mut(m);
+    let (founds, rest) = rest.split_at_mut(m);
+    let (level_bits, rest) = rest.split_at_mut(n * w);
+    let (next_bits, rest) = rest.split_at_mut(n * w);
+    let mut chains = rest.chunks_exact_mut(w);
+    let level = |a: u8| stages[a as usize];
+    // At most n + 1, which w bits hold.
+    let next = |a: u8| level(a) + 1;
+
+    atoms.copy_from_slice(set);
+    for a in 1..=n as u8 {
+        let place = (a as usize - 1) * w;
+        put_bits(&mut level_bits[place..place + w], level(a));
+        put_bits(&mut next_bits[place..place + w], next(a));
     }
-    values.extend(founds);
-    let bits = |x: usize| (0..w).map(move |i| (x >> i & 1) as u8);
-    values.extend((1..=program.atoms).flat_map(|a| bits(level(a))));
-    values.extend((1..=program.atoms).flat_map(|a| bits(next(a))));
-    // bit i of a comparison: the lowest i bits of x are below those of y
-    let chain = |x: usize, y: usize| (1..=w).map(move |i| (x % (1 << i) < y % (1 << i)) as u8);
-    for rule in &program.rules {
+    for (r, rule) in program.rules().iter().enumerate() {
+        let y = level(rule.head);
+        let mut body = program.negative(rule).iter().all(|&c| level(c) == 0);
+        let mut below = true;
         for &b in program.positive(rule) {
-            values.extend(chain(level(b), level(rule.head)));
-            values.extend(chain(next(b), level(rule.head)));
+            body &= level(b) > 0;
+            below &= level(b) < y;
+            for x in [level(b), next(b)] {
+                put_chain(chains.next().expect("two for each pair"), x, y);
+            }
         }
+        bodies[r] = body as u8;
+        founds[r] = (body && below) as u8;
     }
-    values
+}
+
+/// Lowest first.
+fn put_bits(bits: &mut [u8], x: u8) {
+    for (i, bit) in bits.iter_mut().enumerate() {
+        *bit = x >> i & 1;
+    }
+}
+
+/// Bit i: the lowest i bits of x are below those of y.
+fn put_chain(bits: &mut [u8], x: u8, y: u8) {
+    for (i, bit) in bits.iter_mut().enumerate() {
+        let low = (2u8 << i) - 1;
+        *bit = ((x & low) < (y & low)) as u8;
+    }
 }
 
 #[cfg(test)]
@@ -100,11 +130,9 @@ mod tests {
 
     /// The reply, after comparing what an accepted set writes with what the check of the printed assignment writes.
     fn said(text: &str, set: &[u8]) -> Result<(usize, usize, Vec<u8>), Refusal> {
-        let program = read(text.as_bytes())?;
-        let (v, n) = (
-            Encoding::new(&program).variable_count(),
-            program.atoms as usize,
-        );
+        let mut program = Program::EMPTY;
+        read_program(text.as_bytes(), &mut program)?;
+        let (v, n) = (Layout::new(&program).variables(), program.atoms);
         let (mut assignment, mut levels) = (vec![9; v + 1], vec![9; n + 1]);
         let reply = fill_out(text.as_bytes(), set, &mut assignment, &mut levels);
         if reply.is_err() {

@@ -1,106 +1,76 @@
 //! Reading a program text (document 01, "Program text" and rows 1 to 7 of "Verdicts").
 
-/// Number and spot of document 01's table of verdicts.
-pub type Refusal = (u32, usize);
+use crate::cursor::Cursor;
+use crate::layout::Layout;
+use crate::program::{Program, Rule, MAX_ATOMS, MAX_RULES};
+use crate::Refusal;
 
 pub const MAX_BYTES: usize = 65_536;
-pub const MAX_ATOMS: u32 = 126;
-pub const MAX_RULES: usize = 500;
-pub const MAX_BODIES: usize = 500;
 
-/// A rule: its positive body atoms are `bodies[start..middle]`, its negated ones `bodies[middle..end]`.
-#[derive(Clone, Copy)]
-pub struct Rule {
-    pub head: u32,
-    pub start: usize,
-    pub middle: usize,
-    pub end: usize,
+/// V and C of a program text.
+pub fn read(text: &[u8]) -> Result<(usize, usize), Refusal> {
+    let mut program = Program::EMPTY;
+    read_program(text, &mut program)?;
+    let layout = Layout::new(&program);
+    Ok((layout.variables(), layout.clauses()))
 }
 
-/// An accepted program, rules and body atoms in text order.
-pub struct Program {
-    pub atoms: u32,
-    pub rules: Vec<Rule>,
-    pub bodies: Vec<u32>,
-}
-
-impl Program {
-    pub fn positive(&self, rule: &Rule) -> &[u32] {
-        &self.bodies[rule.start..rule.middle]
-    }
-
-    pub fn negative(&self, rule: &Rule) -> &[u32] {
-        &self.bodies[rule.middle..rule.end]
-    }
-}
-
-/// Reads a program text.
-pub fn read(text: &[u8]) -> Result<Program, Refusal> {
+/// Reads a program text into `program`. Refused, that holds no program.
+pub fn read_program(text: &[u8], program: &mut Program) -> Result<(), Refusal> {
     if text.len() > MAX_BYTES {
         return Err((1, text.len()));
     }
+    program.clear();
     let mut reader = Reader {
-        text,
-        at: 0,
-        program: Program {
-            atoms: 0,
-            rules: Vec::new(),
-            bodies: Vec::new(),
-        },
+        cursor: Cursor::new(text),
+        program,
         fault: None,
     };
     if reader.form().is_none() {
-        return Err((2, reader.at));
+        return Err((2, reader.cursor.at()));
     }
-    match reader.fault {
-        Some(fault) => Err(fault),
-        None => Ok(reader.program),
-    }
+    reader.fault.map_or(Ok(()), Err)
 }
 
-/// The text is read once, left to right. A byte that fits no form stops the reading at `at` (row 2).
-/// Of rows 3 to 7 only the first one met is kept: it has the smallest spot, and where two rows share
-/// a spot the one with the smaller number is looked at first.
+/// The text is read once. A byte that fits no form stops the reading (row 2). Of rows 3 to 7 only the first one met is kept: it has
+/// the smallest spot, and where two rows share a spot the one with the smaller number is looked at first.
 struct Reader<'a> {
-    text: &'a [u8],
-    at: usize,
-    program: Program,
+    cursor: Cursor<'a>,
+    program: &'a mut Program,
     fault: Option<Refusal>,
 }
 
 impl Reader<'_> {
-    /// The whole text; `None` if it is malformed at `at`.
     fn form(&mut self) -> Option<()> {
-        self.expect(b"(atoms ")?;
-        let spot = self.at;
-        self.program.atoms = self.number()?;
+        self.cursor.expect(b"(atoms ")?;
+        let spot = self.cursor.at();
+        self.program.atoms = self.cursor.number()? as usize;
         if self.program.atoms > MAX_ATOMS {
             self.refuse(3, spot);
         }
-        self.expect(b")\n")?;
-        while self.at < self.text.len() {
+        self.cursor.expect(b")\n")?;
+        while !self.cursor.ended() {
             self.rule()?;
         }
         Some(())
     }
 
     fn rule(&mut self) -> Option<()> {
-        if self.program.rules.len() == MAX_RULES {
-            self.refuse(6, self.at);
+        if self.program.rules().len() == MAX_RULES {
+            self.refuse(6, self.cursor.at());
         }
-        self.expect(b"(rule ")?;
-        let spot = self.at;
-        let head = self.number()?;
-        self.known(head, spot);
-        let start = self.program.bodies.len();
-        self.expect(b" ")?;
+        self.cursor.expect(b"(rule ")?;
+        let head = self.atom()?;
+        let start = self.program.bodies() as u16;
+        self.cursor.expect(b" (")?;
         self.list()?;
-        let middle = self.program.bodies.len();
-        self.expect(b" ")?;
+        let middle = self.program.bodies() as u16;
+        self.cursor.expect(b" (")?;
         self.list()?;
-        let end = self.program.bodies.len();
-        self.expect(b")\n")?;
-        self.program.rules.push(Rule {
+        let end = self.program.bodies() as u16;
+        self.cursor.expect(b")\n")?;
+        // Without room it was refused above.
+        self.program.push_rule(Rule {
             head,
             start,
             middle,
@@ -109,78 +79,42 @@ impl Reader<'_> {
         Some(())
     }
 
+    /// A list after its opening bracket.
     fn list(&mut self) -> Option<()> {
-        self.expect(b"(")?;
-        if self.peek() == Some(b')') {
-            self.at += 1;
+        if self.cursor.take(b')') {
             return Some(());
         }
-        let mut before = None;
+        let mut before = 0;
         loop {
-            let spot = self.at;
-            let atom = self.number()?;
-            self.known(atom, spot);
-            // A number past u32 is cut to its maximum: it was refused as unknown already.
-            if before.is_some_and(|b| atom <= b) {
+            let spot = self.cursor.at();
+            let atom = self.atom()?;
+            if atom <= before {
                 self.refuse(5, spot);
             }
-            if self.program.bodies.len() == MAX_BODIES {
+            before = atom;
+            if !self.program.push_body(atom) {
                 self.refuse(7, spot);
             }
-            self.program.bodies.push(atom);
-            before = Some(atom);
-            match self.peek() {
-                Some(b' ') => self.at += 1,
-                Some(b')') => {
-                    self.at += 1;
-                    return Some(());
-                }
-                _ => return None,
+            if self.cursor.take(b')') {
+                return Some(());
             }
+            self.cursor.expect(b" ")?;
         }
     }
 
-    /// 0, or digits without a leading zero; a number too large for u32 is cut to its maximum.
-    fn number(&mut self) -> Option<u32> {
-        let mut value = match self.peek() {
-            Some(digit @ b'0'..=b'9') => (digit - b'0') as u32,
-            _ => return None,
-        };
-        self.at += 1;
-        if value == 0 {
-            return Some(0);
-        }
-        while let Some(digit @ b'0'..=b'9') = self.peek() {
-            value = value
-                .saturating_mul(10)
-                .saturating_add((digit - b'0') as u32);
-            self.at += 1;
-        }
-        Some(value)
-    }
-
-    fn known(&mut self, atom: u32, spot: usize) {
+    /// An atom's number; 0 for one that row 4 refuses.
+    fn atom(&mut self) -> Option<u8> {
+        let spot = self.cursor.at();
+        let atom = self.cursor.number()? as usize;
         if atom == 0 || atom > self.program.atoms {
             self.refuse(4, spot);
         }
+        Some(u8::try_from(atom).unwrap_or(0))
     }
 
+    #[cold]
     fn refuse(&mut self, number: u32, spot: usize) {
         self.fault.get_or_insert((number, spot));
-    }
-
-    fn peek(&self) -> Option<u8> {
-        self.text.get(self.at).copied()
-    }
-
-    fn expect(&mut self, bytes: &[u8]) -> Option<()> {
-        for &byte in bytes {
-            if self.peek() != Some(byte) {
-                return None;
-            }
-            self.at += 1;
-        }
-        Some(())
     }
 }
 

@@ -1,7 +1,6 @@
 //! Replies compared with the shared vectors, in the folder that QS_VECTORS names. Skipped if it is not set.
 
 use plain::calls::{bytes, hex, reply, Call};
-use plain::encode::Encoding;
 use plain::{check, fill_out, line, read};
 use std::path::PathBuf;
 
@@ -31,14 +30,7 @@ fn read_vectors() {
             panic!("call {}", i + 1)
         };
         let said = match read(&bytes(text)) {
-            Ok(program) => {
-                let encoding = Encoding::new(&program);
-                format!(
-                    "ok {} {}",
-                    encoding.variable_count(),
-                    encoding.clause_count()
-                )
-            }
+            Ok((variables, clauses)) => format!("ok {variables} {clauses}"),
             Err((number, spot)) => format!("refused {number} {spot}"),
         };
         assert_eq!(said, reply.join(" "), "call {}", i + 1);
