@@ -1,8 +1,8 @@
 // The lines of a text's clause file: one line, and a run of lines, into a lent buffer (document 01, "Clauses, in order").
+use finding::place_of;
 use places::Place;
 use places::next;
 use places::past_row;
-use places::start;
 use printing::clause_length;
 use printing::header_length;
 use printing::is_rowed;
@@ -318,29 +318,6 @@ pub fn put_lines<'a>(
         bytes: to,
         place: at,
     }
-}
-
-// The place of line j.
-fn place_of<'a>(
-    t: Totals,
-    heads: &'a [u16],
-    starts: &'a [u16],
-    bodies: &'a [u16],
-    before: &'a [u16],
-    partners: &'a [u16],
-    owners: &'a [u16],
-    j: usize,
-) -> Place
-    requires { ⌜ (Ready t (now heads) (now starts) (now bodies) (now before) (now partners) (now owners)) × (j ≤ t .clauses) ⌝ }
-    ensures { λ r. ⌜ r ≡ placeAt (programIn (t .sizes) (now (heads .entry)) (now (starts .entry)) (now (bodies .entry))) (t .sizes .w) j ⌝ }
-{
-    let mut at = start(t, heads, starts, bodies, before, partners, owners);
-    let mut n: usize = 0;
-    while n < j {
-        at = next(t, heads, starts, bodies, before, partners, owners, at);
-        n += 1;
-    }
-    at
 }
 
 // Line j into the buffer from place `from` on.

@@ -10,7 +10,7 @@ use Rattle.lines.proofs.run_in.Tie as tie
 use Rattle.lines.proofs.run_in.Reads as reads
 use Rattle.lines.proofs.run_in.Lts as lts
 use Rattle.lines.proofs.line_length.Reads as line-length-reads
-use Rattle.lines.proofs.place_of.Reads as place-of-reads
+use Rattle.finding.proofs.place_of.Reads as place-of-reads
 use Rattle.lines.proofs.put_lines.Reads as put-lines-reads
 
 -- src/lib.rt:157:9
