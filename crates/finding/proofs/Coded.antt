@@ -1,10 +1,11 @@
 -- What the code asks and answers, over plain numbers and heads.
 --   varied-1, varied-2, fixed-rest     whether the items of group g have one size
---   size-3 to size-rest, size-fits     that size, from 1 to 84
---   count-own, count-other, count-fits, count-front    heads that are a, counted one by one
+--   size-3 to size-rest, size-fits     that size, from 1 to 78
+--   count-low, count-high, count-fits, count-front     heads that are at most a, counted one by one
 --   group-1, group-2, group-rest       how many clauses a group has, as the code finds it
 --   last-in, in-last, before-last      group 7, from its end
---   item-2, item-rest, item-even       how many clauses an item has, as the code finds it
+--   atoms-before, rule-size, item-even how many clauses items have, as the code finds it
+--   atoms-all, atoms-fit, falls-2      the search in group 2
 --   row-below, rows-end, items-..      the numbers of rows and items at hand
 --   spot-is                            the spot made from them
 -- Assumes nothing.
@@ -12,15 +13,15 @@ use Prim.Native.Nat.{ℕ, suc, pred, _+_, _-_, _*_, _/_, _%_, _≤_, _<_}
 use native.Mathlib.Nat.{mul-le-mul}
 use native.Mathlib.Numerals.{add-one}
 use native.Mathlib.Omega.{arith}
-use mathlib.Core.Path.{_≡_, refl, sym, _∙_, ap, ap₂, subst}
+use mathlib.Core.Path.{_≡_, sym, _∙_, ap, ap₂, subst}
 use mathlib.Core.Bool.{Bool, true, false, not, cond}
 use mathlib.Core.List.{List}
-use lib.Dec.{eqb}
+use lib.Dec.{eqb, leb}
 use lib.ListN.{length, getD, take}
 use lib.Seq.{getD-take, length-take-le}
 use mir.Syntax.{w16}
 use mir.Val.{Fits}
-use borrow.Author.Tests.{eq-eqb, ne-eqb}
+use borrow.Author.Tests.{eq-eqb, ne-eqb, le-leb, lt-leb}
 use Rattle.lists.proofs.Tables.{sum-ext}
 use Rattle.lists.proofs.Growing.{count-le}
 use Rattle.lists.specs.Lists.{sum}
@@ -35,10 +36,10 @@ use Rattle.layout.specs.Numbers.{itemsOf, rowsOf}
 use Rattle.places.specs.Places.{spot}
 use Rattle.places.proofs.Steps.{items-is, rows-is}
 use Rattle.finding.specs.declared.Found.{Found}
-use Rattle.finding.specs.Falls.{Passed, Falls}
-use Rattle.finding.specs.Sizes.{itemSize, groupSize, headCount, isFixed, fixedSize}
-use Rattle.finding.proofs.Falling.{part-some, falls-even}
-use Rattle.finding.proofs.Counted.{fixed-item, rule-item, atom-item, bodies-group, atoms-group, fixed-group, groups-all, last-group}
+use Rattle.finding.specs.Falls.{Passed, Falls, Between}
+use Rattle.finding.specs.Sizes.{itemSize, groupSize, lowCount, isFixed, fixedSize}
+use Rattle.finding.proofs.Falling.{between-all, falls-even}
+use Rattle.finding.proofs.Counted.{fixed-item, rule-item, atoms-sum, bodies-group, atoms-group, fixed-group, groups-all, last-group}
 
 module _ (g : ℕ) where
   pub varied-1 : g ≡ 1 → false ≡ isFixed g
@@ -82,26 +83,26 @@ module _ (g : ℕ) where
 -- ---- heads
 
 module _ (hs : List ℕ) (a i : ℕ) where
-  pub count-own : {n : ℕ} → n ≡ headCount i hs a → getD hs i 0 ≡ a → n + 1 ≡ headCount (i + 1) hs a
-  count-own {n} e q =
-      ap₂ _+_ e (sym (ap (λ (b : Bool). cond b 1 0) (eq-eqb (getD hs i 0) a q))) ∙ ap (λ (k : ℕ). headCount k hs a) (sym (add-one i))
+  pub count-low : {n : ℕ} → n ≡ lowCount i hs a → getD hs i 0 ≤ a → n + 1 ≡ lowCount (i + 1) hs a
+  count-low {n} e q =
+      ap₂ _+_ e (sym (ap (λ (b : Bool). cond b 1 0) (le-leb (getD hs i 0) a q))) ∙ ap (λ (k : ℕ). lowCount k hs a) (sym (add-one i))
 
-  pub count-other : {n : ℕ} → n ≡ headCount i hs a → (getD hs i 0 ≡ a → ⊥) → n ≡ headCount (i + 1) hs a
-  count-other {n} e q =
-      e ∙ omega arith ∙ ap (λ (k : ℕ). headCount i hs a + k) (sym (ap (λ (b : Bool). cond b 1 0) (ne-eqb (getD hs i 0) a q))) ∙ ap (λ (k : ℕ). headCount k hs a) (sym (add-one i))
+  pub count-high : {n : ℕ} → n ≡ lowCount i hs a → a < getD hs i 0 → n ≡ lowCount (i + 1) hs a
+  count-high {n} e q =
+      e ∙ omega arith ∙ ap (λ (k : ℕ). lowCount i hs a + k) (sym (ap (λ (b : Bool). cond b 1 0) (lt-leb (getD hs i 0) a q))) ∙ ap (λ (k : ℕ). lowCount k hs a) (sym (add-one i))
 
-  pub count-fits : headCount i hs a ≤ i
-  count-fits = count-le i (λ r. eqb (getD hs (pred r) 0) a)
+  pub count-fits : lowCount i hs a ≤ i
+  count-fits = count-le i (λ r. leb (getD hs (pred r) 0) a)
 
 -- an element that the code reads is one of 16 bits
 pub element-fits : (xs : List ℕ) (k : ℕ) {x : ℕ} → ((i : ℕ) → Fits w16 (getD xs i 0)) → x ≡ getD xs k 0 → Fits w16 x
 element-fits xs k f e = subst (λ (n : ℕ). Fits w16 n) (sym e) (f k)
 
 -- the first m heads
-pub count-front : (m : ℕ) (hs : List ℕ) (a : ℕ) → m ≤ length hs → headCount (length (take m hs)) (take m hs) a ≡ headCount m hs a
+pub count-front : (m : ℕ) (hs : List ℕ) (a : ℕ) → m ≤ length hs → lowCount (length (take m hs)) (take m hs) a ≡ lowCount m hs a
 count-front m hs a h =
-    ap (λ (k : ℕ). headCount k (take m hs) a) (length-take-le m hs h)
-    ∙ sum-ext m _ _ (λ r l. ap (λ (k : ℕ). cond (eqb k a) 1 0) (getD-take m hs r 0 l))
+    ap (λ (k : ℕ). lowCount k (take m hs) a) (length-take-le m hs h)
+    ∙ sum-ext m _ _ (λ r l. ap (λ (k : ℕ). cond (leb k a) 1 0) (getD-take m hs r 0 l))
 
 -- ---- from the tables
 
@@ -165,12 +166,25 @@ module _ {P : Program} {t : Totals} {hs ss bs ks xs ys : List ℕ} (T : Tabled P
 
   -- ---- items
 
-  module _ (g a : ℕ) where
-    pub item-2 : g ≡ 2 → {x : ℕ} → x ≡ headCount (t .sizes .m) hs a + 1 → x ≡ itemSize P w g a
-    item-2 e q = q ∙ atom-item T a ∙ ap (λ (k : ℕ). itemSize P w k a) (sym e)
+  pub atoms-before : (a : ℕ) {x : ℕ} → x ≡ lowCount (t .sizes .m) hs a + a → x ≡ sum a (itemSize P w 2)
+  atoms-before a e = e ∙ atoms-sum T a
 
-    pub item-rest : isFixed g ≡ false → RowAt P w g a 1 → (g ≡ 2 → ⊥) → {x y : ℕ} → x ≡ size P w g a 1 → y ≡ x → y ≡ itemSize P w g a
-    item-rest f R n p q = q ∙ p ∙ rule-item P w g (R .group-some) (R .group-in) f n a
+  pub rule-size : (g a : ℕ) → 0 < g → g ≤ 7 → isFixed g ≡ false → (g ≡ 2 → ⊥) → {x y : ℕ} → x ≡ size P w g a 1 → y ≡ x → y ≡ itemSize P w g a
+  rule-size g a h l f n p q = q ∙ p ∙ rule-item P w g h l f n a
+
+  -- all atoms
+  pub atoms-all : {left : ℕ} → left < gs 2 → Between (itemCount P 2) (itemSize P w 2) left 0 (t .sizes .n)
+  atoms-all {left} h = subst (λ (n : ℕ). Between (itemCount P 2) (itemSize P w 2) left 0 n) (sym (items-is T 2)) (between-all h)
+
+  pub atoms-fit : {left a b : ℕ} → Between (itemCount P 2) (itemSize P w 2) left a b → b ≤ 500
+  atoms-fit B = omega (arith, B .within, items-fit P (T .limits) 2)
+
+  -- in group g, which is 2
+  pub falls-2 : {g left : ℕ} {r : Found} → g ≡ 2 → Falls (itemCount P 2) (itemSize P w 2) left r → Falls (itemCount P g) (itemSize P w g) left r
+  falls-2 {g} {left} {r} e F = subst (λ (k : ℕ). Falls (itemCount P k) (itemSize P w k) left r) (sym e) F
+
+  pub left-2 : {g left : ℕ} → g ≡ 2 → left < gs g → left < gs 2
+  left-2 {g} {left} e h = subst (λ (k : ℕ). left < gs k) e h
 
   module _ {left v k : ℕ} (g : ℕ) (h : 0 < g) (l : g ≤ 7) (f : isFixed g ≡ true) (b : left < gs g) (u : v ≡ w) (r : k ≡ fixedSize v g) where
     even-is : k ≡ fixedSize w g

@@ -1,24 +1,27 @@
 -- How many clauses items and groups have.
 --   item-length, group-length, spots-length    as many spots as the sizes say
 --   fixed-item      each item of group 3, 4, 5 or 7
---   rule-item, atom-item    an item of group 1 or 6, and of group 2
+--   rule-item       an item of group 1 or 6
+--   atoms-sum       the first a items of group 2
 --   bodies-group, atoms-group, fixed-group     group 1, group 2, and groups 3, 4, 5 and 7, from the tables
 --   groups-all      all groups have C clauses
 -- Assumes nothing.
 use Prim.Native.Nat.{ℕ, zero, suc, pred, _+_, _-_, _*_, _≤_, _<_}
-use native.Mathlib.Nat.{not-suc-le-zero, eq-or-lt-of-le, le-of-suc-le-suc, le-refl, zero-add, add-zero, add-suc}
+use native.Mathlib.Nat.{not-suc-le-zero, le-refl, zero-add, add-zero, add-suc}
 use native.Mathlib.Omega.{arith}
 use mathlib.Core.Path.{_≡_, refl, sym, _∙_, ap, ap₂, subst}
-use mathlib.Core.Logic.{⊎-elim}
+use mathlib.Core.Logic.{_⊎_, inl, inr}
 use mathlib.Core.Bool.{Bool, true, false, cond, false≢true, true≢false}
 use mathlib.Core.List.{List}
 use lib.Dec.{eqb, leb}
 use lib.ListN.{length, getD}
 use borrow.Author.Tests.{eq-eqb, ne-eqb, le-leb, lt-leb}
 use Rattle.lists.specs.Lists.{sum}
-use Rattle.lists.proofs.Tables.{sum-ext, sum-add, sum-const, sum-swap, length-tab, length-each}
+use Rattle.lists.proofs.Tests.{le-or-lt}
+use Rattle.lists.proofs.Growing.{one}
+use Rattle.lists.proofs.Tables.{sum-ext, sum-add, sum-const, sum-zero, length-tab, length-each}
 use Rattle.meaning.specs.Program.{Program}
-use Rattle.walk.specs.Walk.{itemCount, rowCount, size, size2, headOf, bodyCount, chainSize, chainBit, RowAt}
+use Rattle.walk.specs.Walk.{itemCount, rowCount, size, size2, headOf, bodyCount, chainSize, chainBit}
 use Rattle.reader_laws.specs.Breach.{kept}
 use Rattle.tables.specs.declared.Totals.{Totals}
 use Rattle.tables.specs.Tables.{Tabled}
@@ -27,7 +30,7 @@ use Rattle.layout.specs.Numbers.{itemsOf}
 use Rattle.places.specs.Places.{spot, rowSpots, itemSpots, groupSpots, spots}
 use Rattle.places.proofs.Steps.{items-is}
 use Rattle.places.proofs.Numbers.{count-is}
-use Rattle.finding.specs.Sizes.{itemSize, groupSize, headCount, isFixed, fixedSize}
+use Rattle.finding.specs.Sizes.{itemSize, groupSize, lowCount, isFixed, fixedSize}
 
 -- ---- sums
 
@@ -37,17 +40,19 @@ sum-append a (suc b) f =
     ap (λ (k : ℕ). sum k f) (add-suc a b) ∙ ap₂ _+_ (sum-append a b f) (ap f (sym (add-suc a b)))
     ∙ omega arith
 
--- one number of 1 to n is h
-one-of : (n h : ℕ) → 0 < h → h ≤ n → sum n (λ a. cond (eqb h a) 1 0) ≡ 1
-one-of zero h p l = absurd (omega arith)
-one-of (suc n) h p l =
-    ⊎-elim
-    (λ (e : h ≡ suc n). ap₂ _+_ (none n (omega arith)) (ap (λ (b : Bool). cond b 1 0) (eq-eqb h (suc n) e)))
-    (λ (k : h < suc n). ap₂ _+_ (one-of n h p (omega arith)) (ap (λ (b : Bool). cond b 1 0) (ne-eqb h (suc n) (λ e. omega arith)))) (eq-or-lt-of-le l)
+-- how many of the first m heads are a
+abbrev headCount : ℕ → List ℕ → ℕ → ℕ
+headCount m hs a = sum m (λ r. cond (eqb (getD hs (pred r) 0) a) 1 0)
+
+low-more : (m : ℕ) (hs : List ℕ) (a : ℕ) → lowCount m hs a + headCount m hs (suc a) ≡ lowCount m hs (suc a)
+low-more m hs a =
+    sym (sum-add m (λ r. cond (leb (getD hs (pred r) 0) a) 1 0) (λ r. cond (eqb (getD hs (pred r) 0) (suc a)) 1 0))
+    ∙ sum-ext m _ _ (λ r l. more (getD hs r 0) (le-or-lt (getD hs r 0) a) (le-or-lt (getD hs r 0) (suc a)))
   where
-    none : (n : ℕ) → n < h → sum n (λ a. cond (eqb h a) 1 0) ≡ 0
-    none zero l = refl
-    none (suc n) l = ap₂ _+_ (none n (omega arith)) (ap (λ (b : Bool). cond b 1 0) (ne-eqb h (suc n) (λ e. omega arith)))
+    more : (h : ℕ) → (h ≤ a) ⊎ (a < h) → (h ≤ suc a) ⊎ (suc a < h) → one (leb h a) + one (eqb h (suc a)) ≡ one (leb h (suc a))
+    more h (inl p) q = ap₂ _+_ (ap one (le-leb h a p)) (ap one (ne-eqb h (suc a) (λ e. omega (arith, e, p)))) ∙ sym (ap one (le-leb h (suc a) (omega (arith, p))))
+    more h (inr p) (inl q) = ap₂ _+_ (ap one (lt-leb h a p)) (ap one (eq-eqb h (suc a) (omega (arith, p, q)))) ∙ sym (ap one (le-leb h (suc a) q))
+    more h (inr p) (inr q) = ap₂ _+_ (ap one (lt-leb h a p)) (ap one (ne-eqb h (suc a) (λ e. omega (arith, e, q)))) ∙ sym (ap one (lt-leb h (suc a) q))
 
 -- ---- the spots
 
@@ -61,7 +66,7 @@ module _ (P : Program) (w : ℕ) where
   group-length g =
       length-each (itemCount P g) (itemSpots P w g) ∙ sum-ext (itemCount P g) _ (itemSize P w g) (λ a h. item-length g (suc a))
 
-  pub spots-length : length (spots P w) ≡ sum 7 (groupSize P w)
+  spots-length : length (spots P w) ≡ sum 7 (groupSize P w)
   unfolding spots
   spots-length = length-each 7 (groupSpots P w) ∙ sum-ext 7 (λ g. length (groupSpots P w g)) (groupSize P w) (λ g h. group-length (suc g))
 
@@ -141,7 +146,7 @@ module _ {P : Program} {t : Totals} {hs ss bs ks xs ys : List ℕ} (T : Tabled P
       less : (i : ℕ) → i ≡ suc i - 1
       less i = omega arith
 
-  pub atom-item : (a : ℕ) → headCount m hs a + 1 ≡ itemSize P w 2 a
+  atom-item : (a : ℕ) → headCount m hs a + 1 ≡ itemSize P w 2 a
   unfolding rowCount size
   atom-item a =
       ap₂ _+_
@@ -171,22 +176,24 @@ module _ {P : Program} {t : Totals} {hs ss bs ks xs ys : List ℕ} (T : Tabled P
             ap (λ (k : ℕ). getD ss k 0) (twice i),
           )
 
+  head-in : (r : ℕ) → r < m → (0 < getD hs r 0) × (getD hs r 0 ≤ P .atoms)
+  head-in r h =
+      let k = subst (λ (n : ℕ). r < n) rules h in
+      subst (λ (a : ℕ). (0 < a) × (a ≤ P .atoms)) (sym (head-at r k)) (head-atom P (T .limits) (suc r) (omega arith) k)
+
+  pub atoms-sum : (a : ℕ) → lowCount m hs a + a ≡ sum a (itemSize P w 2)
+  atoms-sum zero =
+      ap (λ (k : ℕ). k + 0)
+      (sum-ext m _ (λ r. 0) (λ r h. ap {B = ℕ} (λ (b : Bool). cond b 1 0) (lt-leb (getD hs r 0) 0 (head-in r h .0))) ∙ sum-zero m)
+  atoms-sum (suc a) = omega (arith, atoms-sum a, low-more m hs a, atom-item (suc a))
+
   pub atoms-group : m + t .sizes .n ≡ groupSize P w 2
   unfolding itemCount
   atoms-group =
-      sym
-      (sum-ext (P .atoms) (itemSize P w 2) (λ a. headCount m hs a + 1) (λ a h. sym (atom-item (suc a)))
-      ∙ sum-add (P .atoms) (headCount m hs) (λ a. 1)
-      ∙ ap₂ _+_
-      (sum-swap (P .atoms) m (λ a r. cond (eqb (getD hs (pred r) 0) a) 1 0)
-      ∙ sum-ext m _ (λ r. 1) (λ r h. once r (subst (λ (k : ℕ). r < k) rules h)) ∙ sum-const m 1)
-      (sum-const (P .atoms) 1)
-      ∙ omega (arith, atoms-are P t hs ss bs ks xs ys T))
-    where
-      once : (r : ℕ) → r < length (P .rules) → sum (P .atoms) (λ a. cond (eqb (getD hs r 0) a) 1 0) ≡ 1
-      once r h =
-          let q = head-atom P (T .limits) (suc r) (omega arith) h in
-          ap (λ (k : ℕ). sum (P .atoms) (λ a. cond (eqb k a) 1 0)) (head-at r h) ∙ one-of (P .atoms) (headOf P (suc r)) (q .0) (q .1)
+      ap₂ _+_
+      (sym (sum-ext m _ (λ r. 1) (λ r h. ap {B = ℕ} (λ (b : Bool). cond b 1 0) (le-leb (getD hs r 0) (P .atoms) (head-in r h .1))) ∙ sum-const m 1 ∙ omega arith))
+      (atoms-are P t hs ss bs ks xs ys T)
+      ∙ atoms-sum (P .atoms)
 
   pub fixed-group : (g : ℕ) → 0 < g → g ≤ 7 → isFixed g ≡ true → itemsOf t g * fixedSize w g ≡ groupSize P w g
   fixed-group g h k e =

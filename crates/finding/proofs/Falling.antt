@@ -2,6 +2,7 @@
 --   passed-first, passed-on      the search begins with all clauses left, and passes a part whose clauses are no more
 --   falls-here, falls-last       fewer clauses than the part has fall into it, and so does what is left at the last part
 --   falls-more                   further parts change nothing
+--   between-all, between-low, between-high, falls-between    the search by halving
 --   falls-even                   parts of one size are passed by a division
 --   each-falls                   an element of several lists in one stands in the list that it falls into
 -- Assumes nothing.
@@ -9,20 +10,20 @@ use Prim.Native.Nat.{ℕ, zero, suc, pred, _+_, _-_, _*_, _/_, _%_, _≤_, _<_}
 use native.Mathlib.Nat.{not-suc-le-zero, zero-add, le-antisymm, le-trans, suc-pred-eq-of-pos, div-add-mod', mod-lt, div-lt-iff-lt-mul}
 use native.Mathlib.Numerals.{add-one}
 use native.Mathlib.Omega.{arith}
-use mathlib.Core.Path.{_≡_, refl, sym, _∙_, ap, ap₂, subst}
+use mathlib.Core.Path.{_≡_, refl, sym, _∙_, ap, subst}
 use mathlib.Core.List.{List}
 use lib.ListN.{length, getD}
 use Rattle.lists.specs.Lists.{sum, each}
-use Rattle.lists.proofs.Tables.{sum-ext, sum-const, sum-mono, getD-each}
+use Rattle.lists.proofs.Tables.{sum-ext, sum-const, getD-each}
 use Rattle.finding.specs.declared.Found.{Found}
-use Rattle.finding.specs.Falls.{Passed, Falls}
+use Rattle.finding.specs.Falls.{Passed, Falls, Between}
 
 -- the last term, apart
 sum-last : (i : ℕ) (f : ℕ → ℕ) → 0 < i → sum (pred i) f + f i ≡ sum i f
 sum-last zero f p = absurd (not-suc-le-zero p)
 sum-last (suc i) f p = refl
 
-pub part-some : (n : ℕ) (f : ℕ → ℕ) (x : ℕ) → x < sum n f → 0 < n
+part-some : (n : ℕ) (f : ℕ → ℕ) (x : ℕ) → x < sum n f → 0 < n
 part-some zero f x h = absurd (not-suc-le-zero h)
 part-some (suc n) f x h = omega arith
 
@@ -51,6 +52,26 @@ module _ {n : ℕ} {f : ℕ → ℕ} {x : ℕ} where
           at = p;
           inside = omega (arith, sum-last i f (p .some), p .left-are, subst (λ (k : ℕ). x < sum k f) (le-antisymm h (p .within)) q);
         }
+
+  pub between-all : x < sum n f → Between n f x 0 n
+  between-all h = record { some = part-some n f x h; within = omega arith; low = omega arith; high = h }
+
+  module _ {a b : ℕ} (B : Between n f x a b) where
+    pub between-low : {c s : ℕ} → c < b → s ≡ sum c f → s ≤ x → Between n f x c b
+    between-low p e q = record { some = p; within = B .within; low = omega (arith, e, q); high = B .high }
+
+    pub between-high : {c s : ℕ} → a < c → c < b → s ≡ sum c f → x < s → Between n f x a c
+    between-high p h e q = record { some = p; within = omega (arith, h, B .within); low = B .low; high = omega (arith, e, q) }
+
+    pub falls-between : {s : ℕ} → b ≤ a + 1 → s ≡ sum a f → Falls n f x (record { number = b; left = x - s })
+    falls-between {s} p e =
+        record {
+          at = record { some = omega (arith, B .some); within = B .within; left-are = ap (λ (k : ℕ). sum k f + (x - s)) before ∙ omega (arith, e, B .low) };
+          inside = omega (arith, e, B .low, B .high, sum-last b f (omega (arith, B .some)), ap (λ (k : ℕ). sum k f) before);
+        }
+      where
+        before : pred b ≡ a
+        before = let e : b ≡ a + 1 = omega (arith, p, B .some) in ap pred (e ∙ add-one a)
 
   -- a part that x falls into is found by a division where all are of one size
   pub falls-even : {k : ℕ} → 0 < k → ((i : ℕ) → i < n → f (suc i) ≡ k) → x < sum n f → Falls n f x (record { number = x / k + 1; left = x % k })

@@ -11,7 +11,7 @@ use native.Mathlib.Omega.{arith}
 use mathlib.Core.Path.{_≡_, sym, _∙_, ap}
 use Rattle.lists.proofs.Tables.{length-tab, getD-tab}
 use Rattle.meaning.specs.Program.{Program}
-use Rattle.walk.specs.Walk.{itemCount, rowCount, size, RowAt, At}
+use Rattle.walk.specs.Walk.{itemCount, rowCount, size, At}
 use Rattle.reader_laws.specs.Row.{Limits}
 use Rattle.table_laws.proofs.Bounds.{size-fits}
 use Rattle.places.specs.declared.Spot.{Spot}
@@ -24,7 +24,7 @@ use Rattle.finding.proofs.Falling.{each-falls}
 use Rattle.finding.proofs.Counted.{item-length, group-length}
 
 module _ (P : Program) (w : ℕ) {x : ℕ} {g a i : Found} (G : Falls 7 (groupSize P w) x g) (A : Falls (itemCount P (g .number)) (itemSize P w (g .number)) (g .left) a) (I : Falls (rowCount P w (g .number)) (size P w (g .number) (a .number)) (a .left) i) where
-  pub located : spotAt P w (suc x) ≡ spot P w (g .number) (a .number) (i .number) (i .left + 1)
+  located : spotAt P w (suc x) ≡ spot P w (g .number) (a .number) (i .number) (i .left + 1)
   unfolding spotAt spots
   located =
       each-falls 7 (groupSpots P w) (groupSize P w) past x g (group-length P w) G

@@ -1,14 +1,14 @@
 -- How many clauses items and groups have.
 --   itemSize P w g a    item a of group g
 --   groupSize P w g     group g
---   headCount m hs a    how many of the first m heads are a
+--   lowCount m hs a     how many of the first m heads are at most a
 --   isFixed g           whether the items of group g have one size: not in groups 1, 2 and 6
 --   fixedSize w g       that size
 -- Assumes nothing.
 use Prim.Native.Nat.{ℕ, pred, _+_, _-_, _*_}
 use mathlib.Core.Bool.{Bool, false, not, cond}
 use mathlib.Core.List.{List}
-use lib.Dec.{eqb}
+use lib.Dec.{eqb, leb}
 use lib.ListN.{getD}
 use Rattle.lists.specs.Lists.{sum}
 use Rattle.meaning.specs.Program.{Program}
@@ -20,8 +20,8 @@ itemSize P w g a = sum (rowCount P w g) (size P w g a)
 abbrev pub groupSize : Program → ℕ → ℕ → ℕ
 groupSize P w g = sum (itemCount P g) (itemSize P w g)
 
-abbrev pub headCount : ℕ → List ℕ → ℕ → ℕ
-headCount m hs a = sum m (λ r. cond (eqb (getD hs (pred r) 0) a) 1 0)
+abbrev pub lowCount : ℕ → List ℕ → ℕ → ℕ
+lowCount m hs a = sum m (λ r. cond (leb (getD hs (pred r) 0) a) 1 0)
 
 abbrev pub isFixed : ℕ → Bool
 isFixed g = cond (eqb g 1) false (cond (eqb g 2) false (not (eqb g 6)))

@@ -8,13 +8,13 @@ use places::start;
 use tables::Totals;
 ghost use Prim.Native.Nat.{_+_, _*_, _≤_, _<_};
 ghost use mathlib.Core.Path.{_≡_};
-ghost use mathlib.Core.Bool.{true, false};
+ghost use mathlib.Core.Bool.{false};
 ghost use lib.ListN.{length, getD};
-ghost use Rattle.walk.specs.Walk.{itemCount, rowCount, size as sizeAt, RowAt, At};
+ghost use Rattle.walk.specs.Walk.{itemCount, rowCount, size as sizeAt, At};
 ghost use Rattle.tables.specs.Tables.{programIn, Ready};
 ghost use Rattle.places.specs.Places.{spot, placeAt};
 ghost use Rattle.finding.specs.Falls.{Falls};
-ghost use Rattle.finding.specs.Sizes.{itemSize, groupSize, headCount, isFixed, fixedSize};
+ghost use Rattle.finding.specs.Sizes.{itemSize, groupSize, lowCount, isFixed, fixedSize};
 
 // A part, from 1, of several that follow one another, and how many clauses of that part stand before the one looked for.
 pub struct Found {
@@ -58,15 +58,15 @@ fn fixed_size(w: usize, g: u16) -> usize
     1
 }
 
-// How many heads are a.
-fn head_count(heads: &[u16], a: u16) -> u16
+// How many heads are at most a.
+fn low_count(heads: &[u16], a: u16) -> u16
     requires { ⌜ length (now heads) ≤ 500 ⌝ }
-    ensures { λ r. ⌜ r ≡ headCount (length (now (heads .entry))) (now (heads .entry)) a ⌝ }
+    ensures { λ r. ⌜ r ≡ lowCount (length (now (heads .entry))) (now (heads .entry)) a ⌝ }
 {
     let mut n: u16 = 0;
     let mut i: usize = 0;
     while i < heads.len() {
-        if heads[i] == a {
+        if heads[i] <= a {
             n += 1;
         }
         i += 1;
@@ -74,12 +74,12 @@ fn head_count(heads: &[u16], a: u16) -> u16
     n
 }
 
-// Group 2: how many clauses atom a has.
-fn atom_size(m: u16, heads: &[u16], a: u16) -> usize
+// Group 2: how many clauses atoms 1 to a have.
+fn atoms_size(m: u16, heads: &[u16], a: u16) -> usize
     requires { ⌜ (m ≤ 500) × (m ≤ length (now heads)) ⌝ }
-    ensures { λ r. ⌜ r ≡ headCount m (now (heads .entry)) a + 1 ⌝ }
+    ensures { λ r. ⌜ r ≡ lowCount m (now (heads .entry)) a + a ⌝ }
 {
-    wide(head_count(&heads[..m as usize], a)) + 1
+    wide(low_count(&heads[..m as usize], a)) + wide(a)
 }
 
 // Group 1: how many clauses its m rules have, from where the body atoms of the last rule end.
@@ -89,27 +89,6 @@ fn bodies_size(m: u16, starts: &[u16]) -> usize
 {
     let end = 2 * wide(m);
     wide(starts[end]) + wide(m)
-}
-
-// How many clauses item a of group 1, 2 or 6 has.
-fn item_size<'a>(
-    t: Totals,
-    heads: &'a [u16],
-    starts: &'a [u16],
-    bodies: &'a [u16],
-    before: &'a [u16],
-    partners: &'a [u16],
-    owners: &'a [u16],
-    g: u16,
-    a: u16,
-) -> usize
-    requires { ⌜ (Ready t (now heads) (now starts) (now bodies) (now before) (now partners) (now owners)) × (isFixed g ≡ false) × (RowAt (programIn (t .sizes) (now heads) (now starts) (now bodies)) (t .sizes .w) g a 1) ⌝ }
-    ensures { λ r. ⌜ r ≡ itemSize (programIn (t .sizes) (now (heads .entry)) (now (starts .entry)) (now (bodies .entry))) (t .sizes .w) g a ⌝ }
-{
-    if g == 2 {
-        return atom_size(t.sizes.m, heads, a);
-    }
-    wide(size(t, heads, starts, bodies, before, partners, owners, g, a, 1))
 }
 
 // How many clauses group g has, from 1 to 5.
@@ -175,8 +154,38 @@ fn find_group<'a>(
     }
 }
 
-// The item of group 1, 2 or 6 with the clause behind `left` others of the group.
-fn pass_items<'a>(
+// Group 2: the atom with the clause behind `left` others of the group, by halving.
+fn find_atom<'a>(
+    t: Totals,
+    heads: &'a [u16],
+    starts: &'a [u16],
+    bodies: &'a [u16],
+    before: &'a [u16],
+    partners: &'a [u16],
+    owners: &'a [u16],
+    left: usize,
+) -> Found
+    requires { ⌜ (Ready t (now heads) (now starts) (now bodies) (now before) (now partners) (now owners)) × (left < groupSize (programIn (t .sizes) (now heads) (now starts) (now bodies)) (t .sizes .w) 2) ⌝ }
+    ensures { λ r. ⌜ Falls (itemCount (programIn (t .sizes) (now (heads .entry)) (now (starts .entry)) (now (bodies .entry))) 2) (itemSize (programIn (t .sizes) (now (heads .entry)) (now (starts .entry)) (now (bodies .entry))) (t .sizes .w) 2) left r ⌝ }
+{
+    let mut low: u16 = 0;
+    let mut high = t.sizes.n;
+    while low + 1 < high {
+        let middle = (low + high) / 2;
+        if left < atoms_size(t.sizes.m, heads, middle) {
+            high = middle;
+        } else {
+            low = middle;
+        }
+    }
+    Found {
+        number: high,
+        left: left - atoms_size(t.sizes.m, heads, low),
+    }
+}
+
+// The rule of group 1 or 6 with the clause behind `left` others of the group.
+fn find_rule<'a>(
     t: Totals,
     heads: &'a [u16],
     starts: &'a [u16],
@@ -187,14 +196,14 @@ fn pass_items<'a>(
     g: u16,
     left: usize,
 ) -> Found
-    requires { ⌜ (Ready t (now heads) (now starts) (now bodies) (now before) (now partners) (now owners)) × (0 < g) × (g ≤ 7) × (isFixed g ≡ false) × (left < groupSize (programIn (t .sizes) (now heads) (now starts) (now bodies)) (t .sizes .w) g) ⌝ }
+    requires { ⌜ (Ready t (now heads) (now starts) (now bodies) (now before) (now partners) (now owners)) × (0 < g) × (g ≤ 7) × (isFixed g ≡ false) × (g ≡ 2 → ⊥) × (left < groupSize (programIn (t .sizes) (now heads) (now starts) (now bodies)) (t .sizes .w) g) ⌝ }
     ensures { λ r. ⌜ Falls (itemCount (programIn (t .sizes) (now (heads .entry)) (now (starts .entry)) (now (bodies .entry))) g) (itemSize (programIn (t .sizes) (now (heads .entry)) (now (starts .entry)) (now (bodies .entry))) (t .sizes .w) g) left r ⌝ }
 {
     let n = items(t, g);
     let mut a: u16 = 1;
     let mut at = left;
     while a < n {
-        let k = item_size(t, heads, starts, bodies, before, partners, owners, g, a);
+        let k = wide(size(t, heads, starts, bodies, before, partners, owners, g, a, 1));
         if at < k {
             return Found {
                 number: a,
@@ -233,7 +242,10 @@ fn find_item<'a>(
             left: left % k,
         };
     }
-    pass_items(t, heads, starts, bodies, before, partners, owners, g, left)
+    if g == 2 {
+        return find_atom(t, heads, starts, bodies, before, partners, owners, left);
+    }
+    find_rule(t, heads, starts, bodies, before, partners, owners, g, left)
 }
 
 // The row of item a of group g with the clause behind `left` others of the item.

@@ -1,9 +1,4 @@
 use Rattle.finding.proofs.Coded.{bodies-asks, width-asks, group-1, group-2, group-rest, product-fits}
-use Rattle.finding.proofs.Counted.{bodies-group, atoms-group, fixed-group}
-use Rattle.finding.proofs.Coded.{fixed-of, size-fits}
-use Rattle.table_laws.proofs.Elements.{bounded, starts-length, width-pos}
-use mathlib.Core.Path.{_∙_, ap, ap₂}
-use native.Mathlib.Nat.{mul-le-mul}
 use native.Mathlib.Omega.{arith}
 use borrow.Author.Needs.{needs}
 use Rattle.finding.proofs.group_size.Statement.{statement}

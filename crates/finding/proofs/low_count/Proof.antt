@@ -1,20 +1,20 @@
-use Rattle.finding.proofs.Coded.{count-own, count-other, count-fits}
-use Rattle.finding.specs.Sizes.{headCount}
+use Rattle.finding.proofs.Coded.{count-low, count-high, count-fits}
+use Rattle.finding.specs.Sizes.{lowCount}
 use lib.ListN.{length}
 use denote.Ref.{now}
 use borrow.Author.Needs.{needs}
 use native.Mathlib.Nat.{le-antisymm}
 use native.Mathlib.Omega.{arith}
 use mathlib.Core.Logic.{⊎-elim}
-use mathlib.Core.Path.{_≡_, refl, _∙_, ap, subst}
+use mathlib.Core.Path.{_≡_, refl, _∙_, ap}
 use Prim.Native.Nat.{_-_, _≤_}
-use Rattle.finding.proofs.head_count.Statement.{statement}
-use Rattle.finding.proofs.head_count.Tie as tie
-use Rattle.finding.proofs.head_count.Reads as reads
-use Rattle.finding.proofs.head_count.Lts as lts
+use Rattle.finding.proofs.low_count.Statement.{statement}
+use Rattle.finding.proofs.low_count.Tie as tie
+use Rattle.finding.proofs.low_count.Reads as reads
+use Rattle.finding.proofs.low_count.Lts as lts
 
 abbrev Inv-loop : tie.InvT-loop
-Inv-loop heads a n₀ i₀ n i = (i ≤ length heads) × (n ≡ headCount i heads a)
+Inv-loop heads a n₀ i₀ n i = (i ≤ length heads) × (n ≡ lowCount i heads a)
 
 abbrev μ-loop : tie.MeasureT-loop
 μ-loop heads a n₀ i₀ n i = length heads - i
@@ -45,14 +45,14 @@ loop-less c = search needs
 
 -- src/lib.rt:68:5
 loop-again : tie.Need-loop-again Inv-loop μ-loop
-loop-again c = (search needs, ⊎-elim (λ q. q .1 ∙ count-own (now (c .before .before .before .before .args .heads)) (c .before .before .before .before .args .a) (c .before .before .before .loop .i) (c .before .before .before .loop .inv .1) (q .0 .taken)) (λ q. q .1 ∙ count-other (now (c .before .before .before .before .args .heads)) (c .before .before .before .before .args .a) (c .before .before .before .loop .i) (c .before .before .before .loop .inv .1) (q .0 .left)) (c .if1 .came))
+loop-again c = (search needs, ⊎-elim (λ q. q .1 ∙ count-low (now (c .before .before .before .before .args .heads)) (c .before .before .before .before .args .a) (c .before .before .before .loop .i) (c .before .before .before .loop .inv .1) (q .0 .taken)) (λ q. q .1 ∙ count-high (now (c .before .before .before .before .args .heads)) (c .before .before .before .before .args .a) (c .before .before .before .loop .i) (c .before .before .before .loop .inv .1) (q .0 .left)) (c .if1 .came))
 
 -- src/lib.rt:62:1
 returns : tie.Need-returns Inv-loop μ-loop
-returns c = c .before .loop .inv .1 ∙ ap (λ k. headCount k (now (c .before .before .args .heads)) (c .before .before .args .a)) (le-antisymm (c .before .loop .inv .0) (c .loop-test .left))
+returns c = c .before .loop .inv .1 ∙ ap (λ k. lowCount k (now (c .before .before .args .heads)) (c .before .before .args .a)) (le-antisymm (c .before .loop .inv .0) (c .loop-test .left))
 
-pub head-count-spec : {M : Type 1} → statement M
-head-count-spec =
+pub low-count-spec : {M : Type 1} → statement M
+low-count-spec =
     tie.close
     (tie.spec
     Inv-loop
