@@ -8,7 +8,7 @@ ghost use lib.IntN.{natAbs};
 ghost use lib.ListN.{length, drop};
 ghost use Rattle.text.specs.Decimal.{decimal};
 ghost use Rattle.digits.specs.Bytes.{literalText};
-ghost use Rattle.digits.specs.FourDigits.{fourOf, fourText};
+ghost use Rattle.digits.specs.Numerals.{sizeOf, numeralOf, numeralText};
 
 // The last decimal digit of n, as a byte.
 fn digit(n: usize) -> u8
@@ -91,12 +91,13 @@ pub fn put_literal(x: i32, buf: &mut [u8]) -> usize
     put_number(n, 32, &mut *buf)
 }
 
-// The digits of a number from 1,000 to 9,999, as bytes.
-pub struct Four {
+// The digits of a number below 10,000, as bytes, 0 before the first, and how many it has.
+pub struct Numeral {
     pub a: u8,
     pub b: u8,
     pub c: u8,
     pub d: u8,
+    pub size: u8,
 }
 
 // The digit n as a byte.
@@ -107,32 +108,67 @@ fn byte(n: u16) -> u8
     48 + n as u8
 }
 
-// The four digits of n, so that they are found once and written often.
-pub fn four_of(n: u16) -> Four
+// How many digits n has, below 10,000.
+fn size_of(n: u16) -> u8
+    ensures { λ r. ⌜ r ≡ sizeOf n ⌝ }
+{
+    if 999 < n {
+        return 4;
+    }
+    if 99 < n {
+        return 3;
+    }
+    if 9 < n {
+        return 2;
+    }
+    1
+}
+
+// The digits of n, so that they are found once and written often.
+pub fn numeral_of(n: u16) -> Numeral
     requires { ⌜ n < 10000 ⌝ }
-    ensures { λ r. ⌜ r ≡ fourOf n ⌝ }
+    ensures { λ r. ⌜ r ≡ numeralOf n ⌝ }
 {
     let q = n / 100;
     let r = n % 100;
-    Four {
+    Numeral {
         a: byte(q / 10),
         b: byte(q % 10),
         c: byte(r / 10),
         d: byte(r % 10),
+        size: size_of(n),
     }
 }
 
-// Writes four digits and one space at the front of the buffer and returns how many bytes they are.
-pub fn put_four(x: Four, buf: &mut [u8]) -> usize
-    requires { ⌜ length (fourText x) ≤ length (now buf) ⌝ }
-    ensures { λ r. ⌜ (r ≡ length (fourText x)) × (now (buf .exit) ≡ fourText x ++ drop r (now (buf .entry))) ⌝ }
+// Writes the digits and one space at the front of the buffer and returns how many bytes they are.
+pub fn put_numeral(x: Numeral, buf: &mut [u8]) -> usize
+    requires { ⌜ length (numeralText x) ≤ length (now buf) ⌝ }
+    ensures { λ r. ⌜ (r ≡ length (numeralText x)) × (now (buf .exit) ≡ numeralText x ++ drop r (now (buf .entry))) ⌝ }
 {
-    buf[0] = x.a;
-    buf[1] = x.b;
-    buf[2] = x.c;
-    buf[3] = x.d;
-    buf[4] = 32;
-    5
+    if x.size == 4 {
+        buf[0] = x.a;
+        buf[1] = x.b;
+        buf[2] = x.c;
+        buf[3] = x.d;
+        buf[4] = 32;
+        return 5;
+    }
+    if x.size == 3 {
+        buf[0] = x.b;
+        buf[1] = x.c;
+        buf[2] = x.d;
+        buf[3] = 32;
+        return 4;
+    }
+    if x.size == 2 {
+        buf[0] = x.c;
+        buf[1] = x.d;
+        buf[2] = 32;
+        return 3;
+    }
+    buf[0] = x.d;
+    buf[1] = 32;
+    2
 }
 
 // How many digits n has.

@@ -1,6 +1,6 @@
 -- One line, and the lines of a whole row, written at the front of a buffer.
 --   one-taken     one line
---   row-adds, row-asks    what is asked at the first clause of a row
+--   row-asks      what is asked at the first clause of a row
 --   row-taken     the lines of a row
 -- Assumes nothing.
 use Prim.Native.Nat.{ℕ, zero, suc, pred, _+_, _^_, _≤_, _<_}
@@ -22,9 +22,9 @@ use Rattle.places.specs.declared.Spot.{Spot}
 use Rattle.places.specs.declared.Place.{Place}
 use Rattle.places.specs.Places.{placeAt}
 use Rattle.places.proofs.Numbers.{placed-at}
-use Rattle.places.proofs.RowPlaces.{along, place-some, row-size, last-adds}
+use Rattle.places.proofs.RowPlaces.{along, place-some, row-size}
 use Rattle.printing.specs.Rows.{isRowed, rowText}
-use Rattle.printing.proofs.RowTexts.{row-short}
+use Rattle.rows.proofs.RowTexts.{row-short}
 use Rattle.lines.specs.Lines.{linesOf, lineOf}
 use Rattle.lines.specs.Taken.{Taken}
 use Rattle.lines.proofs.Placed.{lines-count, clause-is}
@@ -73,14 +73,10 @@ module _ {P : Program} {t : Totals} {hs ss bs ks xs ys : List ℕ} (T : Tabled P
     size-is : c .spot .clauses + 1 ≡ size P w (c .spot .group) (c .spot .item) (c .spot .row)
     size-is = omega (arith, z, row-size T e h some)
 
-    pub row-adds : c .spot .clauses + 1 < 2 ^ 16
-    row-adds = omega (arith, z, last-adds T e h (omega (arith, z)))
-
     pub row-asks : isRowed (c .spot .group) ≡ true → {n : ℕ} → 3008 ≤ n
         → (Tabled P t hs ss bs ks xs ys) × (RowAt P w (c .spot .group) (c .spot .item) (c .spot .row)) × (isRowed (c .spot .group) ≡ true)
-        × (c .spot .clauses + 1 ≡ size P w (c .spot .group) (c .spot .item) (c .spot .row))
         × (length (rowText P w (c .spot .group) (c .spot .item) (c .spot .row)) ≤ n)
-    row-asks r f = (T, placed-at T e some h .row-at, r, size-is, le-trans (row-short T (placed-at T e some h .row-at) r) f)
+    row-asks r f = (T, placed-at T e some h .row-at, r, le-trans (row-short T (placed-at T e some h .row-at) r) f)
 
     -- line by line, as far as the row goes
     line-at : (y : ℕ) → y ≤ c .spot .clauses → getD (linesOf P) (c .number + y) [] ≡ lineText (clauseAt P w (c .spot .group) (c .spot .item) (c .spot .row) (suc y))
@@ -111,7 +107,7 @@ module _ {P : Program} {t : Totals} {hs ss bs ks xs ys : List ℕ} (T : Tabled P
           record {
             some = omega arith;
             listed = listed;
-            in-room = omega (arith, u .0, row-asks g k .4);
+            in-room = omega (arith, u .0, row-asks g k .3);
             bytes-are = u .0 ∙ sym (ap length row-lines);
             text-is = u .1 ∙ ap (λ (y : List ℕ). y ++ drop r b) (sym row-lines);
             place-is = q ∙ ap (placeAt P w) (more (c .number) (c .spot .clauses));

@@ -8,13 +8,13 @@ use printing::header_length;
 use printing::is_rowed;
 use printing::put_clause;
 use printing::put_header;
-use printing::put_row;
 use program::Program;
 use program::ReadVerdict;
 use program::TextRefusal;
 use program::number_of;
 use program::read;
 use program::spot_of;
+use rows::put_row;
 use tables::Totals;
 use tabling::pairs_of;
 use tabling::totals_of;
@@ -162,7 +162,6 @@ fn put_whole_row<'a>(
     ensures { λ r. ⌜ Taken (programIn (t .sizes) (now (heads .entry)) (now (starts .entry)) (now (bodies .entry))) (t .sizes .w) (c .number) r (now (buf .entry)) (now (buf .exit)) ⌝ }
 {
     let s = c.spot;
-    let k = s.clauses + 1;
     let bytes = put_row(
         t,
         heads,
@@ -174,11 +173,10 @@ fn put_whole_row<'a>(
         s.group,
         s.item,
         s.row,
-        k,
         &mut *buf,
     );
     Part {
-        lines: k as usize,
+        lines: s.clauses as usize + 1,
         bytes: bytes,
         place: past_row(t, heads, starts, bodies, before, partners, owners, c),
     }

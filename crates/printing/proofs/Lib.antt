@@ -10,9 +10,5 @@ pub mod Computed
 pub mod SlotLine
 -- ChainLine: the line of a chain's clause
 pub mod ChainLine
--- Wide: chains whose variables have four digits
-pub mod Wide
--- RowLaws: the lines of whole rows
+-- RowLaws: the groups whose rows are taken as a whole
 pub mod RowLaws
--- RowTexts: the rows of groups 4 and 5 from the tables
-pub mod RowTexts

@@ -1,43 +1,32 @@
 // The lines of the clause file and of a refusal, written into a lent buffer (document 01, "Clauses, in order").
-use digits::Four;
 use digits::decimal_length;
-use digits::four_of;
 use digits::literal_length;
 use digits::put_decimal;
-use digits::put_four;
 use digits::put_literal;
 use digits::put_number;
 use layout::chain_at;
 use layout::past_empty;
 use layout::slot;
 use layout::slots;
-use literals::Sizes;
 use literals::literal;
 use literals::negated;
-use numbers::Atom;
-use numbers::Var;
 use slots::Chain;
 use slots::Signed;
 use slots::chain_bit;
 use slots::chain_literal;
-use slots::chain_size;
 use slots::chain_slots;
-use slots::next_slot;
-use slots::next_slots;
 use tables::Totals;
 ghost use Prim.Native.Nat.{_^_, _≤_, _<_};
 ghost use mathlib.Core.Path.{_≡_};
-ghost use mathlib.Core.Bool.{true};
-ghost use mathlib.Core.List.{[], _∷_, _++_};
+ghost use mathlib.Core.List.{_++_};
 ghost use lib.ListN.{length, drop};
 ghost use Rattle.encoding.specs.Literal.{literalNumber};
 ghost use Rattle.digits.specs.Bytes.{literalsText, lineText};
-ghost use Rattle.literals.specs.Sizes.{sizesOf, Bounded};
 ghost use Rattle.slots.specs.Signed.{literalIn};
-ghost use Rattle.walk.specs.Walk.{clauseAt, size as sizeAt, RowAt, At};
+ghost use Rattle.walk.specs.Walk.{clauseAt, At};
 ghost use Rattle.tables.specs.Tables.{programIn, Ready};
 ghost use Rattle.printing.specs.Lines.{headerText, refusedText, literalsIn, chainClause};
-ghost use Rattle.printing.specs.Rows.{wideText, twoText, threeText, firstText, nextText, isWide, chainWide, bitText, nextClause, nextRow, isRowed, rowText};
+ghost use Rattle.printing.specs.Rows.{isRowed};
 
 // Writes the bytes `word` at the front of the buffer and returns how many they are.
 pub fn put_word(word: &[u8], buf: &mut [u8]) -> usize
@@ -245,163 +234,6 @@ pub fn put_clause<'a>(
     to + 2
 }
 
-// Writes 0 and byte 10 at the front of the buffer and returns how many bytes they are.
-fn put_end(buf: &mut [u8]) -> usize
-    requires { ⌜ 2 ≤ length (now buf) ⌝ }
-    ensures { λ r. ⌜ (r ≡ 2) × (now (buf .exit) ≡ (48 ∷ 10 ∷ []) ++ drop r (now (buf .entry))) ⌝ }
-{
-    buf[0] = 48;
-    buf[1] = 10;
-    2
-}
-
-// Writes a literal, with the four digits of its variable at hand, and one space at the front of the buffer and returns how many bytes they are.
-fn put_wide(positive: bool, x: Four, buf: &mut [u8]) -> usize
-    requires { ⌜ length (wideText positive x) ≤ length (now buf) ⌝ }
-    ensures { λ r. ⌜ (r ≡ length (wideText positive x)) × (now (buf .exit) ≡ wideText positive x ++ drop r (now (buf .entry))) ⌝ }
-{
-    if positive {
-        return put_four(x, &mut *buf);
-    }
-    buf[0] = 45;
-    1 + put_four(x, &mut buf[1..])
-}
-
-// Writes the line of two such literals, and of three.
-fn put_two(p: bool, x: Four, q: bool, y: Four, buf: &mut [u8]) -> usize
-    requires { ⌜ length (twoText p x q y) ≤ length (now buf) ⌝ }
-    ensures { λ r. ⌜ (r ≡ length (twoText p x q y)) × (now (buf .exit) ≡ twoText p x q y ++ drop r (now (buf .entry))) ⌝ }
-{
-    let mut at = put_wide(p, x, &mut *buf);
-    at += put_wide(q, y, &mut buf[at..]);
-    at += put_end(&mut buf[at..]);
-    at
-}
-
-fn put_three(p: bool, x: Four, q: bool, y: Four, s: bool, z: Four, buf: &mut [u8]) -> usize
-    requires { ⌜ length (threeText p x q y s z) ≤ length (now buf) ⌝ }
-    ensures { λ r. ⌜ (r ≡ length (threeText p x q y s z)) × (now (buf .exit) ≡ threeText p x q y s z ++ drop r (now (buf .entry))) ⌝ }
-{
-    let mut at = put_wide(p, x, &mut *buf);
-    at += put_wide(q, y, &mut buf[at..]);
-    at += put_wide(s, z, &mut buf[at..]);
-    at += put_end(&mut buf[at..]);
-    at
-}
-
-// Writes the lines of a chain's first bit, and of a further one.
-fn put_first_bit(z: Four, x: Four, y: Four, buf: &mut [u8]) -> usize
-    requires { ⌜ length (firstText z x y) ≤ length (now buf) ⌝ }
-    ensures { λ r. ⌜ (r ≡ length (firstText z x y)) × (now (buf .exit) ≡ firstText z x y ++ drop r (now (buf .entry))) ⌝ }
-{
-    let mut at = put_two(false, z, false, x, &mut *buf);
-    at += put_two(false, z, true, y, &mut buf[at..]);
-    at += put_three(true, z, true, x, false, y, &mut buf[at..]);
-    at
-}
-
-fn put_next_bit(z: Four, x: Four, y: Four, g: Four, buf: &mut [u8]) -> usize
-    requires { ⌜ length (nextText z x y g) ≤ length (now buf) ⌝ }
-    ensures { λ r. ⌜ (r ≡ length (nextText z x y g)) × (now (buf .exit) ≡ nextText z x y g ++ drop r (now (buf .entry))) ⌝ }
-{
-    let mut at = put_three(false, z, false, x, true, y, &mut *buf);
-    at += put_three(false, z, false, x, true, g, &mut buf[at..]);
-    at += put_three(false, z, true, y, true, g, &mut buf[at..]);
-    at += put_three(true, z, true, x, false, y, &mut buf[at..]);
-    at += put_three(true, z, true, x, false, g, &mut buf[at..]);
-    at += put_three(true, z, false, y, false, g, &mut buf[at..]);
-    at
-}
-
-// Whether a variable has four digits, and whether all of a chain's bit have.
-fn is_wide(v: Var) -> bool
-    ensures { λ r. ⌜ r ≡ isWide (v .0) ⌝ }
-{
-    if v.0 < 1000 {
-        return false;
-    }
-    v.0 < 10000
-}
-
-fn chain_wide(c: Chain) -> bool
-    ensures { λ r. ⌜ r ≡ chainWide c ⌝ }
-{
-    if !is_wide(c.z) {
-        return false;
-    }
-    if !is_wide(c.x) {
-        return false;
-    }
-    if !is_wide(c.y) {
-        return false;
-    }
-    is_wide(c.g)
-}
-
-// Writes the lines of bit i of a chain whose variables have four digits.
-fn put_wide_bit(c: Chain, i: u16, buf: &mut [u8]) -> usize
-    requires { ⌜ (chainWide c ≡ true) × (length (bitText c i) ≤ length (now buf)) ⌝ }
-    ensures { λ r. ⌜ (r ≡ length (bitText c i)) × (now (buf .exit) ≡ bitText c i ++ drop r (now (buf .entry))) ⌝ }
-{
-    let z = four_of(c.z.0);
-    let x = four_of(c.x.0);
-    let y = four_of(c.y.0);
-    if i == 1 {
-        return put_first_bit(z, x, y, &mut *buf);
-    }
-    let g = four_of(c.g.0);
-    put_next_bit(z, x, y, g, &mut *buf)
-}
-
-// Writes the lines of bit i of any chain.
-fn put_bit(c: Chain, i: u16, buf: &mut [u8]) -> usize
-    requires { ⌜ length (bitText c i) ≤ length (now buf) ⌝ }
-    ensures { λ r. ⌜ (r ≡ length (bitText c i)) × (now (buf .exit) ≡ bitText c i ++ drop r (now (buf .entry))) ⌝ }
-{
-    if chain_wide(c) {
-        return put_wide_bit(c, i, &mut *buf);
-    }
-    let k = chain_size(i);
-    let mut y: u16 = 0;
-    let mut at: usize = 0;
-    while y < k {
-        at += put_chain(c, i, y + 1, &mut buf[at..]);
-        y += 1;
-    }
-    at
-}
-
-// Group 4, atom a: writes the line of clause y of row i.
-fn put_next(s: Sizes, a: Atom, i: u16, y: u16, buf: &mut [u8]) -> usize
-    requires { ⌜ (Bounded s) × (0 < a .0) × (a .0 ≤ 126) × (i ≤ 7) × (0 < y) × (y ≤ 14) × (length (lineText (nextClause (sizesOf s) (a .0) i y)) ≤ length (now buf)) ⌝ }
-    ensures { λ r. ⌜ (r ≡ length (lineText (nextClause (sizesOf s) (a .0) i y))) × (now (buf .exit) ≡ lineText (nextClause (sizesOf s) (a .0) i y) ++ drop r (now (buf .entry))) ⌝ }
-{
-    let k = next_slots(i, y);
-    let mut l: u16 = 0;
-    let mut at: usize = 0;
-    while l < k {
-        let x = next_slot(s, a, i, y, l + 1);
-        at += put_signed(x, &mut buf[at..]);
-        l += 1;
-    }
-    at += put_end(&mut buf[at..]);
-    at
-}
-
-// Writes the lines of the first k clauses of row i.
-fn put_next_row(s: Sizes, a: Atom, i: u16, k: u16, buf: &mut [u8]) -> usize
-    requires { ⌜ (Bounded s) × (0 < a .0) × (a .0 ≤ 126) × (i ≤ 7) × (k ≤ 14) × (length (nextRow (sizesOf s) (a .0) i k) ≤ length (now buf)) ⌝ }
-    ensures { λ r. ⌜ (r ≡ length (nextRow (sizesOf s) (a .0) i k)) × (now (buf .exit) ≡ nextRow (sizesOf s) (a .0) i k ++ drop r (now (buf .entry))) ⌝ }
-{
-    let mut y: u16 = 0;
-    let mut at: usize = 0;
-    while y < k {
-        at += put_next(s, a, i, y + 1, &mut buf[at..]);
-        y += 1;
-    }
-    at
-}
-
 // Whether the rows of group g are written as a whole: those of groups 4 and 5, which have nearly all clauses.
 pub fn is_rowed(g: u16) -> bool
     ensures { λ r. ⌜ r ≡ isRowed g ⌝ }
@@ -410,29 +242,4 @@ pub fn is_rowed(g: u16) -> bool
         return true;
     }
     g == 5
-}
-
-// Writes the lines of the k clauses of row i of item a of such a group at the front of the buffer and returns how many bytes they have.
-pub fn put_row<'a>(
-    t: Totals,
-    heads: &'a [u16],
-    starts: &'a [u16],
-    bodies: &'a [u16],
-    before: &'a [u16],
-    partners: &'a [u16],
-    owners: &'a [u16],
-    g: u16,
-    a: u16,
-    i: u16,
-    k: u16,
-    buf: &mut [u8],
-) -> usize
-    requires { ⌜ (Ready t (now heads) (now starts) (now bodies) (now before) (now partners) (now owners)) × (RowAt (programIn (t .sizes) (now heads) (now starts) (now bodies)) (t .sizes .w) g a i) × (isRowed g ≡ true) × (k ≡ sizeAt (programIn (t .sizes) (now heads) (now starts) (now bodies)) (t .sizes .w) g a i) × (length (rowText (programIn (t .sizes) (now heads) (now starts) (now bodies)) (t .sizes .w) g a i) ≤ length (now buf)) ⌝ }
-    ensures { λ r. ⌜ (r ≡ length (rowText (programIn (t .sizes) (now (heads .entry)) (now (starts .entry)) (now (bodies .entry))) (t .sizes .w) g a i)) × (now (buf .exit) ≡ rowText (programIn (t .sizes) (now (heads .entry)) (now (starts .entry)) (now (bodies .entry))) (t .sizes .w) g a i ++ drop r (now (buf .entry))) ⌝ }
-{
-    if g == 5 {
-        let c = chain_at(t, heads, starts, bodies, before, partners, owners, g, a, i);
-        return put_bit(c, chain_bit(t.sizes.w, i), &mut *buf);
-    }
-    put_next_row(t.sizes, Atom(a), i, k, &mut *buf)
 }

@@ -311,14 +311,14 @@ use Rattle.correspondence.specs.Accepted.{AcceptedAssignment, Room, CheckWrites
 use Rattle.correspondence.proofs.Correspond.{accepted-stable, check-writes, fill-agrees, one-accepted, stable-accepted, stable-atoms, exhibited-fits, bytes-set}
 use Rattle.correspondence.proofs.Correspond as Correspond
 use Rattle.correspondence.proofs.Texts.{checked-exactly, line-prints, level-bytes, level-of-false, fills-exactly}
-use Rattle.digits.proofs.four_of.Statement.{statement as four-of·statement}
-use Rattle.digits.proofs.four_of.Met.{met as four-of·met}
-use Rattle.digits.proofs.put_four.Statement.{statement as put-four·statement}
-use Rattle.digits.proofs.put_four.Met.{met as put-four·met}
+use Rattle.digits.proofs.numeral_of.Statement.{statement as numeral-of·statement}
+use Rattle.digits.proofs.numeral_of.Met.{met as numeral-of·met}
+use Rattle.digits.proofs.put_numeral.Statement.{statement as put-numeral·statement}
+use Rattle.digits.proofs.put_numeral.Met.{met as put-numeral·met}
 use Rattle.printing.proofs.is_rowed.Statement.{statement as is-rowed·statement}
 use Rattle.printing.proofs.is_rowed.Met.{met as is-rowed·met}
-use Rattle.printing.proofs.put_row.Statement.{statement as put-row·statement}
-use Rattle.printing.proofs.put_row.Met.{met as put-row·met}
+use Rattle.rows.proofs.put_row.Statement.{statement as put-row·statement}
+use Rattle.rows.proofs.put_row.Met.{met as put-row·met}
 use Rattle.places.proofs.past_row.Statement.{statement as past-row·statement}
 use Rattle.places.proofs.past_row.Met.{met as past-row·met}
 use Rattle.files.proofs.rest_length.Statement.{statement as rest-length·statement}
@@ -900,15 +900,15 @@ pub record Bytes (M : Type 1) : Type 2 where
   pub put-decimal : put-decimal·statement M
   pub put-number : put-number·statement M
   pub put-literal : put-literal·statement M
-  -- the four digits of a number below 10,000, and a number of four digits with a space behind it
-  pub four-of : four-of·statement M
-  pub put-four : put-four·statement M
+  -- the digits of a number below 10,000, and these digits with a space behind them
+  pub numeral-of : numeral-of·statement M
+  pub put-numeral : put-numeral·statement M
   -- their lengths
   pub decimal-length : decimal-length·statement M
   pub literal-length : literal-length·statement M
 
 pub bytes : (M : Type 1) → Bytes M
-bytes M = record { put-decimal = put-decimal·met; put-number = put-number·met; put-literal = put-literal·met; four-of = four-of·met; put-four = put-four·met; decimal-length = decimal-length·met; literal-length = literal-length·met }
+bytes M = record { put-decimal = put-decimal·met; put-number = put-number·met; put-literal = put-literal·met; numeral-of = numeral-of·met; put-numeral = put-numeral·met; decimal-length = decimal-length·met; literal-length = literal-length·met }
 
 -- slots
 pub record Slots (M : Type 1) : Type 2 where
