@@ -7,7 +7,11 @@ fn main() {
     println!("cargo:rerun-if-env-changed=QS_LIB_DIR");
     let folder = match env::var_os("QS_LIB_DIR") {
         Some(folder) => PathBuf::from(folder),
-        None => Path::new(env!("CARGO_MANIFEST_DIR")).join("../../target/staticlib"),
+        // Of this build, not of the one that made the build script: a copied target folder has another's.
+        None => {
+            let package = env::var_os("CARGO_MANIFEST_DIR").expect("cargo sets it");
+            Path::new(&package).join("../../target/staticlib")
+        }
     };
     let archive = folder.join("libexports.a");
     println!("cargo:rerun-if-changed={}", archive.display());
