@@ -19,7 +19,7 @@ use Rattle.program.specs.declared.Reading.{Reading}
 use Rattle.program.specs.Verdict.{refusalOf, refuseOf, finished}
 use Rattle.program.specs.Reading.{State, advance, deadAt, malformed, ended, readFrom, Ends}
 
-ends-of : (c : Counts) (h st b : List ℕ) (s w : State) → s ≡ w → Ends c h st b s → Ends c h st b w
+pub ends-of : (c : Counts) (h st b : List ℕ) (s w : State) → s ≡ w → Ends c h st b s → Ends c h st b w
 ends-of c h st b s w e x = subst (λ (w : State). Ends c h st b w) e x
 
 module _ (t : List ℕ) (i : ℕ) (s w : State) (inv : readFrom s i (drop i t) ≡ w) where

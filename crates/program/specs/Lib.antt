@@ -1,3 +1,4 @@
 pub mod Work
 pub mod Reading
+pub mod Standing
 pub mod Verdict

@@ -1,13 +1,18 @@
 // A program in flat arrays, and the reader of program text.
+mod quick;
+
 use form::step;
 use numbers::Atom;
 use numbers::Rule;
+use quick::Stand;
+use quick::lines;
 ghost use Prim.Native.Nat.{_-_, _≤_, _<_};
 ghost use mathlib.Core.Path.{_≡_};
 ghost use lib.ListN.{length, getD, set};
 ghost use Rattle.program.specs.Work.{refusedOf, withPrev, grownOf, valueOf, beginOf, atomsEnded, headEnded, headStored, bodyEnded, bodyStored};
 ghost use Rattle.program.specs.Work.{openedOf, startStored, ruleShut, endedOf, endedHeads, endedBodies, bracketOf, bracketStarts};
 ghost use Rattle.program.specs.Reading.{Ends, readFrom, started};
+ghost use Rattle.program.specs.Standing.{readOn};
 ghost use Rattle.program.specs.Verdict.{refusalOf, emptyProgram, refuseOf, readOf, textNumber, textSpot};
 ghost use Rattle.program.specs.Work.{workOf, workHeads, workStarts, workBodies};
 
@@ -326,28 +331,29 @@ fn work(
     bracket(act, i, c, &mut *starts)
 }
 
-// Reads the text into the three arrays, which hold zeros.
-fn read_into(
+// Reads on to the end of the text, byte by byte: counts and arrays at the end.
+fn finish(
     text: &[u8],
+    s: Stand,
     heads: &mut [u16; 500],
     starts: &mut [u16; 1001],
     bodies: &mut [u16; 500],
 ) -> Counts
-    ensures { λ r. ⌜ Ends r (now (heads .exit)) (now (starts .exit)) (now (bodies .exit)) (readFrom (started (now (heads .entry)) (now (starts .entry)) (now (bodies .entry))) 0 (now (text .entry))) ⌝ }
+    ensures { λ r. ⌜ Ends r (now (heads .exit)) (now (starts .exit)) (now (bodies .exit)) (readOn s (now (heads .entry)) (now (starts .entry)) (now (bodies .entry)) (now (text .entry))) ⌝ }
 {
-    let mut k: usize = 0;
-    let mut mode: u8 = 0;
+    let mut k = s.k;
+    let mut mode = s.mode;
     let mut value: u16 = 0;
     let mut begin: usize = 0;
     let mut c = Counts {
-        atoms: 0,
-        rules: 0,
-        held: 0,
-        prev: 0,
+        atoms: s.atoms as u16,
+        rules: s.rules,
+        held: s.held,
+        prev: s.prev,
         number: 0,
         spot: 0,
     };
-    let mut i: usize = 0;
+    let mut i = s.at;
     while i < text.len() {
         let b = text[i];
         let p = step(k, mode, b);
@@ -379,6 +385,28 @@ fn read_into(
         return refused(c, 2, i);
     }
     c
+}
+
+// Reads the text into the three arrays, which hold zeros.
+fn read_into(
+    text: &[u8],
+    heads: &mut [u16; 500],
+    starts: &mut [u16; 1001],
+    bodies: &mut [u16; 500],
+) -> Counts
+    ensures { λ r. ⌜ Ends r (now (heads .exit)) (now (starts .exit)) (now (bodies .exit)) (readFrom (started (now (heads .entry)) (now (starts .entry)) (now (bodies .entry))) 0 (now (text .entry))) ⌝ }
+{
+    let s = Stand {
+        k: 0,
+        mode: 0,
+        at: 0,
+        atoms: 0,
+        rules: 0,
+        held: 0,
+        prev: 0,
+    };
+    let p = lines(text, s, &mut *heads, &mut *starts, &mut *bodies);
+    finish(text, p, &mut *heads, &mut *starts, &mut *bodies)
 }
 
 fn refusal(number: u8, spot: usize) -> TextRefusal

@@ -1,108 +1,22 @@
-use Rattle.program.proofs.Loop.{goes, dies, stops-place, stops-mode, stops, advanced, dead-of, live-of}
-use Rattle.program.specs.Reading.{readFrom, started}
+use Rattle.program.specs.Standing.{readOn}
+use Rattle.program.proofs.Loop.{ends-of}
 use borrow.Author.Needs.{needs}
-use lib.ListN.{length, drop}
-use mathlib.Core.Path.{_≡_, refl}
-use Prim.Native.Nat.{_≤_, _-_}
 use Rattle.program.proofs.read_into.Statement.{statement}
 use Rattle.program.proofs.read_into.Tie as tie
 use Rattle.program.proofs.read_into.Reads as reads
 use Rattle.program.proofs.read_into.Lts as lts
-use Rattle.form.proofs.step.Reads as step-reads
-use Rattle.program.proofs.begin_after.Reads as begin-after-reads
-use Rattle.program.proofs.refused.Reads as refused-reads
-use Rattle.program.proofs.value_after.Reads as value-after-reads
-use Rattle.program.proofs.work.Reads as work-reads
+use Rattle.program.proofs.finish.Reads as finish-reads
+use Rattle.program.proofs.quick.lines.Reads as lines-reads
 
-abbrev Inv-loop : tie.InvT-loop
-Inv-loop text heads₀ starts₀ bodies₀ k₀ mode₀ value₀ begin₀ c₀ i₀ heads starts bodies k mode value begin c i = (i ≤ length text) × (readFrom (record { k = k; mode = mode; value = value; begin = begin; counts = c; heads = heads; starts = starts; bodies = bodies }) i (drop i text) ≡ readFrom (started heads₀ starts₀ bodies₀) 0 text)
+lines-requires : tie.Need-lines-requires
+lines-requires c κs = search needs
 
-abbrev μ-loop : tie.MeasureT-loop
-μ-loop text heads₀ starts₀ bodies₀ k₀ mode₀ value₀ begin₀ c₀ i₀ heads starts bodies k mode value begin c i = length text - i
+finish-requires : tie.Need-finish-requires
+finish-requires c κs = search needs
 
--- src/lib.rt:243:5
-loop-holds : tie.Need-loop-holds Inv-loop μ-loop
-loop-holds c = (search needs, refl)
-
--- src/lib.rt:244:17
-shared-slice-read-b : tie.Need-shared-slice-read-b Inv-loop μ-loop
-shared-slice-read-b c = search needs
-
--- src/lib.rt:245:13
-step-requires : tie.Need-step-requires Inv-loop μ-loop
-step-requires c κs = search needs
-
--- src/lib.rt:248:13
-refused-requires : tie.Need-refused-requires Inv-loop μ-loop
-refused-requires c κs = search needs
-
--- src/lib.rt:248:13
-returns : tie.Need-returns Inv-loop μ-loop
-returns c = dies _ _ _ _ (c .before .before .before .before .before .before .loop .inv .1) _ (c .before .before .before .before .before .loop-test .taken) (dead-of _ _ _ _ (c .before .before .before .step .ensures) (c .before .if1 .taken)) (c .refused .ensures)
-
--- src/lib.rt:250:9
-work-requires : tie.Need-work-requires Inv-loop μ-loop
-work-requires c κs = search needs
-
--- src/lib.rt:251:9
-value-after-requires : tie.Need-value-after-requires Inv-loop μ-loop
-value-after-requires c κs = search needs
-
--- src/lib.rt:252:9
-begin-after-requires : tie.Need-begin-after-requires Inv-loop μ-loop
-begin-after-requires c κs = search needs
-
--- src/lib.rt:255:9
-add-i : tie.Need-add-i Inv-loop μ-loop
-add-i c = search needs
-
--- src/lib.rt:243:5
-loop-less : tie.Need-loop-less Inv-loop μ-loop
-loop-less c = search needs
-
--- src/lib.rt:243:5
-loop-again : tie.Need-loop-again Inv-loop μ-loop
-loop-again c = (search needs, goes _ _ _ _ (c .before .before .before .before .before .before .before .before .before .before .before .loop .inv .1) _ (c .before .before .before .before .before .before .before .before .before .before .loop-test .taken) (live-of _ _ _ _ (c .before .before .before .before .before .before .before .before .step .ensures) (c .before .before .before .before .before .before .if1 .left)) (advanced _ _ _ _ _ _ _ _ _ _ (c .before .before .before .before .before .before .before .before .step .ensures) (c .before .before .work .ensures .0) (c .before .before .work .ensures .1 .0) (c .before .before .work .ensures .1 .1 .0) (c .before .before .work .ensures .1 .1 .1) (c .before .value-after .ensures) (c .begin-after .ensures)))
-
--- src/lib.rt:258:9
-refused-requires-2 : tie.Need-refused-requires-2 Inv-loop μ-loop
-refused-requires-2 c κs = search needs
-
--- src/lib.rt:258:9
-returns-2 : tie.Need-returns-2 Inv-loop μ-loop
-returns-2 c = stops-place _ _ _ _ (c .before .before .before .loop .inv .1) _ (c .before .before .loop-test .left) (c .before .if2 .taken) (c .refused2 .ensures)
-
--- src/lib.rt:261:9
-refused-requires-3 : tie.Need-refused-requires-3 Inv-loop μ-loop
-refused-requires-3 c κs = search needs
-
--- src/lib.rt:261:9
-returns-3 : tie.Need-returns-3 Inv-loop μ-loop
-returns-3 c = stops-mode _ _ _ _ (c .before .before .before .before .loop .inv .1) _ (c .before .before .before .loop-test .left) (c .before .before .if2 .left) (c .before .if3 .taken) (c .refused3 .ensures)
-
--- src/lib.rt:234:1
-returns-4 : tie.Need-returns-4 Inv-loop μ-loop
-returns-4 c = stops _ _ _ _ (c .before .before .before .loop .inv .1) (c .before .before .loop-test .left) (c .before .if2 .left) (c .if3 .left)
+returns : tie.Need-returns
+unfolding readOn
+returns c = ends-of _ _ _ _ _ _ (c .before .before .before .before .lines .ensures) (c .finish .ensures)
 
 pub read-into-spec : {M : Type 1} → statement M
-read-into-spec =
-    tie.close
-    (tie.spec
-    Inv-loop
-    μ-loop
-    loop-holds
-    shared-slice-read-b
-    step-requires
-    refused-requires
-    returns
-    work-requires
-    value-after-requires
-    begin-after-requires
-    add-i
-    loop-less
-    loop-again
-    refused-requires-2
-    returns-2
-    refused-requires-3
-    returns-3
-    returns-4)
+read-into-spec = tie.close (tie.spec lines-requires finish-requires returns)
