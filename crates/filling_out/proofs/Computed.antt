@@ -8,8 +8,8 @@ use mathlib.Core.List.{List, [], _∷_, map}
 use lib.ListN.{replicate}
 use Rattle.lists.specs.Ascii.{ascii}
 use Rattle.form.specs.Automaton.{formAt, digitTest, literalOf, leaveOf, digitOf, itemOf, actAt, stepOf}
-use Rattle.program.specs.Work as Work
-use Rattle.program.specs.Reading.{ended, readFrom}
+use Rattle.reading.specs.Work as Work
+use Rattle.reading.specs.Reading.{ended, readFrom}
 use Rattle.program.specs.Verdict.{refusalOf, refuseOf, finished, readOf, emptyProgram}
 use Rattle.reader_laws.specs.Decoded.{decoded}
 use Rattle.meaning.specs.Stage.{reduct, stage, levelIn, differ}

@@ -15,3 +15,10 @@ pub fn atom_var(a: Atom) -> Var
 {
     Var(a.0)
 }
+
+// A number as an index or a count.
+pub fn wide(x: u16) -> usize
+    ensures { λ r. ⌜ r ≡ x ⌝ }
+{
+    x as usize
+}

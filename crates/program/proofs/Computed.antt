@@ -8,8 +8,8 @@ use Rattle.lists.specs.Ascii.{ascii}
 use Rattle.form.specs.Automaton.{formAt, digitTest, literalOf, leaveOf, digitOf, itemOf, actAt, stepOf}
 use Rattle.program.specs.declared.ReadVerdict.{ReadVerdict}
 use Rattle.program.specs.declared.ReadVerdict.the-variants.{Accepted, Refused}
-use Rattle.program.specs.Work as Work
-use Rattle.program.specs.Reading.{ended, readFrom}
+use Rattle.reading.specs.Work as Work
+use Rattle.reading.specs.Reading.{ended, readFrom}
 use Rattle.program.specs.Verdict.{textNumber, textSpot, refusalOf, refuseOf, finished, readOf}
 
 -- number and spot of a refusal

@@ -1,4 +1,1 @@
-pub mod Work
-pub mod Reading
-pub mod Standing
 pub mod Verdict

@@ -15,8 +15,8 @@ use Rattle.text.specs.Decimal.{decimal}
 use Rattle.text.specs.Text.{moreText, listText, ruleText, rulesText, textOf}
 use Rattle.text.proofs.Decimals.{decimal-small, decimal-large, digits-ind}
 use Rattle.form.specs.Automaton.{placed, formAt, digitTest, literalOf, leaveOf, digitOf, actAt, itemOf, stepOf}
-use Rattle.program.specs.Work.{grownOf, valueOf, beginOf, workOf, workHeads, workStarts, workBodies}
-use Rattle.program.specs.Reading.{State, ended, readFrom}
+use Rattle.reading.specs.Work.{grownOf, valueOf, beginOf, workOf, workHeads, workStarts, workBodies}
+use Rattle.reading.specs.Reading.{State, ended, readFrom}
 use Rattle.reader_laws.specs.Judge.{Work, acts, cap, numberRead, moreRead, listRead, positiveSpot, negativeSpot, ruleEnd, ruleRead, rulesRead, judged}
 
 abbrev pub stateOf : ℕ → ℕ → ℕ → ℕ → Work → State

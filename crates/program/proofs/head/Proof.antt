@@ -4,7 +4,7 @@ use Rattle.program.proofs.head.Statement.{statement}
 use Rattle.program.proofs.head.Tie as tie
 use Rattle.program.proofs.head.Reads as reads
 use Rattle.program.proofs.head.Lts as lts
-use Rattle.program.proofs.wide.Reads as wide-reads
+use Rattle.numbers.proofs.wide.Reads as wide-reads
 
 -- src/lib.rt:70:18
 sub-wide : tie.Need-sub-wide
