@@ -248,6 +248,22 @@ use Rattle.program.proofs.body_atom.Statement.{statement as body-atom·statemen
 use Rattle.program.proofs.body_atom.Met.{met as body-atom·met}
 use Rattle.form.proofs.step.Statement.{statement as step·statement}
 use Rattle.form.proofs.step.Met.{met as step·met}
+use Rattle.numbers.proofs.wide.Statement.{statement as wide·statement}
+use Rattle.numbers.proofs.wide.Met.{met as wide·met}
+use Rattle.reading.proofs.put_head.Statement.{statement as put-head·statement}
+use Rattle.reading.proofs.put_head.Met.{met as put-head·met}
+use Rattle.reading.proofs.put_body.Statement.{statement as put-body·statement}
+use Rattle.reading.proofs.put_body.Met.{met as put-body·met}
+use Rattle.reading.proofs.refused.Statement.{statement as reading-refused·statement}
+use Rattle.reading.proofs.refused.Met.{met as reading-refused·met}
+use Rattle.reading.proofs.value_after.Statement.{statement as value-after·statement}
+use Rattle.reading.proofs.value_after.Met.{met as value-after·met}
+use Rattle.reading.proofs.begin_after.Statement.{statement as begin-after·statement}
+use Rattle.reading.proofs.begin_after.Met.{met as begin-after·met}
+use Rattle.reading.proofs.work.Statement.{statement as work·statement}
+use Rattle.reading.proofs.work.Met.{met as work·met}
+use Rattle.pieces.proofs.lines.Statement.{statement as pieces-lines·statement}
+use Rattle.pieces.proofs.lines.Met.{met as pieces-lines·met}
 use Rattle.numbers.proofs.atom_var.Statement.{statement as atom-var·statement}
 use Rattle.numbers.proofs.atom_var.Met.{met as atom-var·met}
 use Rattle.stages.proofs.stage_levels.Statement.{statement as stage-levels·statement}
@@ -319,6 +335,8 @@ use Rattle.printing.proofs.is_rowed.Statement.{statement as is-rowed·statement
 use Rattle.printing.proofs.is_rowed.Met.{met as is-rowed·met}
 use Rattle.rows.proofs.put_row.Statement.{statement as put-row·statement}
 use Rattle.rows.proofs.put_row.Met.{met as put-row·met}
+use Rattle.finding.proofs.place_of.Statement.{statement as place-of·statement}
+use Rattle.finding.proofs.place_of.Met.{met as place-of·met}
 use Rattle.places.proofs.past_row.Statement.{statement as past-row·statement}
 use Rattle.places.proofs.past_row.Met.{met as past-row·met}
 use Rattle.files.proofs.rest_length.Statement.{statement as rest-length·statement}
@@ -865,11 +883,21 @@ pub record Reader (M : Type 1) : Type 2 where
   pub body-atom : body-atom·statement M
   -- one byte of the form is `stepOf`
   pub step : step·statement M
+  -- what a byte does to counts and arrays, the number at hand with its first byte, and a kept refusal are `workOf`, `valueOf`, `beginOf`, `refusedOf`
+  pub work : work·statement M
+  pub value-after : value-after·statement M
+  pub begin-after : begin-after·statement M
+  pub refused : reading-refused·statement M
+  pub put-head : put-head·statement M
+  pub put-body : put-body·statement M
+  -- the lines that are read at once: the rest of the text is read to the same end from where they stop
+  pub lines : pieces-lines·statement M
   -- an atom's variable has the atom's number
   pub atom-var : atom-var·statement M
+  pub wide : wide·statement M
 
 pub reader : (M : Type 1) → Reader M
-reader M = record { read = read·met; number-of = number-of·met; spot-of = spot-of·met; empty = empty·met; head = head·met; body-atom = body-atom·met; step = step·met; atom-var = atom-var·met }
+reader M = record { read = read·met; number-of = number-of·met; spot-of = spot-of·met; empty = empty·met; head = head·met; body-atom = body-atom·met; step = step·met; work = work·met; value-after = value-after·met; begin-after = begin-after·met; refused = reading-refused·met; put-head = put-head·met; put-body = put-body·met; lines = pieces-lines·met; atom-var = atom-var·met; wide = wide·met }
 
 -- literals
 pub record Literals (M : Type 1) : Type 2 where
@@ -964,12 +992,14 @@ pub record Walk (M : Type 1) : Type 2 where
   pub next : places-next·statement M
   -- and that of the clause behind the row
   pub past-row : past-row·statement M
+  -- the place of clause j
+  pub place-of : place-of·statement M
   -- truth of the clause at a place, and the first clause that is false, under the assignment of a buffer
   pub clause-holds : clause-holds·statement M
   pub first-false : first-false·statement M
 
 pub walks : (M : Type 1) → Walk M
-walks M = record { items = layout-items·met; rows = layout-rows·met; size = layout-size·met; slots = layout-slots·met; slot = layout-slot·met; chain-at = chain-at·met; literal-in = literal-in·met; next-head = next-head·met; past-empty = past-empty·met; start = places-start·met; next = places-next·met; past-row = past-row·met; clause-holds = clause-holds·met; first-false = first-false·met }
+walks M = record { items = layout-items·met; rows = layout-rows·met; size = layout-size·met; slots = layout-slots·met; slot = layout-slot·met; chain-at = chain-at·met; literal-in = literal-in·met; next-head = next-head·met; past-empty = past-empty·met; start = places-start·met; next = places-next·met; past-row = past-row·met; place-of = place-of·met; clause-holds = clause-holds·met; first-false = first-false·met }
 
 -- printing, lines, input
 pub record Lines (M : Type 1) : Type 2 where
