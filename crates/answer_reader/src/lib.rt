@@ -1,4 +1,4 @@
-// A solver answer, read byte by byte: its status, its literals one after the other, what follows literal 0, and the form of the whole
+// A solver answer, read byte by byte: its status, its literals one after the other, and what follows literal 0
 // (document 01, "Solver answer"). The definitions are those of the crate answers; states are those of its automaton.
 use literals::negate;
 ghost use Prim.Native.Nat.{_+_, _*_, _-_, _^_, _≤_, _<_, min, max};
@@ -8,7 +8,7 @@ ghost use Rattle.encoding.specs.Literal.{literalNumber, var, −_};
 ghost use Rattle.form.specs.Automaton.{digitTest};
 ghost use Rattle.answers.specs.Automaton.{seekStep, endStep};
 ghost use Rattle.answers.specs.Reading.{common, firstLine, statusOf, cappedValue, behindDigits, minusFrom, literalFrom, nextLiteral, closeOf};
-ghost use Rattle.answer_reader.specs.Results.{mostNumber, noComment, commentState, foundFor, nextFor, closeFor, closedForm, modelFrom, formOf};
+ghost use Rattle.answer_reader.specs.Results.{mostNumber, noComment, commentState, foundFor, nextFor, closeFor, closedForm};
 
 // Which status, and the index of the byte 10 that ends its line; or the spot where the answer leaves the form.
 pub enum Found {
@@ -360,49 +360,14 @@ pub fn next_from(answer: &[u8], position: usize) -> Next
     AnswerReader::new(answer, position).next()
 }
 
-// ---- the whole
+// ---- the form
 
 // The form of an answer whose literals begin at `at`, by what follows literal 0.
-fn closed_form(at: usize, c: Closed) -> Formed
+pub fn closed_form(at: usize, c: Closed) -> Formed
     ensures { λ r. ⌜ r ≡ closedForm at c ⌝ }
 {
     match c {
         Closed::Fine => Formed::Model(at),
         Closed::Left(s) => Formed::Malformed(s),
-    }
-}
-
-// The form of an answer whose literals begin at `at`: they are read to the end.
-fn model_form(answer: &[u8], at: usize) -> Formed
-    requires { ⌜ at ≤ length (now answer) ⌝ }
-    ensures { λ r. ⌜ r ≡ modelFrom at at (now (answer .entry)) ⌝ }
-{
-    let mut p = at;
-    loop {
-        let n = next_from(answer, p);
-        match n {
-            Next::Literal(_, _, behind) => {
-                p = behind;
-            }
-            Next::Last(behind) => {
-                let c = close(answer, behind);
-                return closed_form(at, c);
-            }
-            Next::Left(s) => {
-                return Formed::Malformed(s);
-            }
-        }
-    }
-}
-
-// The form of the whole answer.
-pub fn form(answer: &[u8]) -> Formed
-    ensures { λ r. ⌜ r ≡ formOf (now (answer .entry)) ⌝ }
-{
-    let s = status(answer);
-    match s {
-        Found::Satisfiable(e) => model_form(answer, e),
-        Found::Other => Formed::NoModel,
-        Found::Left(spot) => Formed::Malformed(spot),
     }
 }

@@ -6,7 +6,7 @@
 --   not-done                               an answer that is not `Done`
 --   literals-more, literals-ended, literals-broken   the literals from a position on, by the next one
 --   took-positive, took-small                        a literal given is fit to be put
---   assign-goes, assign-stops, assign-ends           the outcome and the buffer: literal done, literal stray or repeated, no more literals
+--   assign-goes, assign-stops                        the outcome and the buffer: literal done, literal stray or repeated
 -- Assumes nothing.
 use Prim.Native.Nat.{ℕ, zero, suc, _+_, _^_, _≤_, _<_}
 use native.Mathlib.Omega.{arith}
@@ -200,6 +200,3 @@ module _ (t : List ℕ) where
             outcome-is ∙ sym (ap assignedFor (ap (λ (u : List Spotted). assignedOf n u b) m ∙ then-stays _ _ stays)),
             bytes-are ∙ put-stops n (variable (w .literal)) f (valueOf (w .literal)) b stays ∙ sym (ap (λ (u : List Spotted). assignedBytes n u b) m ∙ bytes-stay _ _ b stays),
           )
-
-  pub assign-ends : (p n : ℕ) (b : List ℕ) → literalsFrom t p ≡ [] → (Done ≡ assignedFor (assignedOf n (literalsFrom t p) b)) × (b ≡ assignedBytes n (literalsFrom t p) b)
-  assign-ends p n b e = (sym (ap (λ (u : List Spotted). assignedFor (assignedOf n u b)) e), sym (ap (λ (u : List Spotted). assignedBytes n u b) e))

@@ -1,5 +1,6 @@
 -- One turn of each loop over a buffer, and its end.
 --   fill-none, fill-goes, fill-all         no byte is filled; one more is; all are
+--   copy-goes, copy-all                    one more byte is copied; all are
 --   unset-more, unset-here, unset-nowhere  the byte at i has a value; it has none; each has one
 --   unset-first                            what the first variable without a value is
 -- Assumes nothing.
@@ -8,10 +9,10 @@ use native.Mathlib.Numerals.{add-one}
 use native.Mathlib.Omega.{arith}
 use mathlib.Core.Path.{_≡_, refl, sym, _∙_, ap, subst}
 use mathlib.Core.Bool.{Bool, true, false, So}
-use mathlib.Core.List.{List, _∷_, _++_}
+use mathlib.Core.List.{List, [], _∷_, _++_, append-assoc}
 use lib.Dec.{eqb, ltb}
-use lib.ListN.{length, getD, set, drop, replicate, length-replicate}
-use lib.Seq.{drop-cons, set-at}
+use lib.ListN.{length, getD, set, take, drop, replicate, length-replicate}
+use lib.Seq.{drop-cons, take-suc, length-take-le, set-at}
 use borrow.Author.Tests.{eq-eqb, ne-eqb, eqb-true, eqb-false, ltb-true, ltb-false}
 use Rattle.lists.specs.Lists.{first}
 use Rattle.lists.proofs.First.{IsFirst, first-is, first-pos, first-le, first-none}
@@ -36,6 +37,20 @@ fill-goes b c i x h e =
 
 pub fill-all : (b c : List ℕ) (i n x : ℕ) → i ≤ n → n ≤ i → c ≡ filledWith i x b → c ≡ filledWith n x b
 fill-all b c i n x h g e = e ∙ ap (λ (k : ℕ). filledWith k x b) (omega (arith, h, g))
+
+-- ---- copying
+
+pub copy-goes : (s b c : List ℕ) (i : ℕ) → i < length s → i < length b → c ≡ take i s ++ drop i b
+    → set c i (getD s i 0) ≡ take (i + 1) s ++ drop (i + 1) b
+copy-goes s b c i g h e =
+    ap (λ (d : List ℕ). set d i (getD s i 0)) (e ∙ ap (λ (d : List ℕ). take i s ++ d) (drop-cons b i 0 h))
+    ∙ set-at (take i s) (getD b i 0) (drop (suc i) b) (getD s i 0) i (length-take-le i s (omega (arith, g)))
+    ∙ sym (append-assoc (take i s) (getD s i 0 ∷ []) (drop (suc i) b))
+    ∙ ap (λ (d : List ℕ). d ++ drop (suc i) b) (sym (take-suc s i 0 g))
+    ∙ ap (λ (k : ℕ). take k s ++ drop k b) (sym (add-one i))
+
+pub copy-all : (s b c : List ℕ) (i n : ℕ) → i ≤ n → n ≤ i → c ≡ take i s ++ drop i b → c ≡ take n s ++ drop n b
+copy-all s b c i n h g e = let same : i ≡ n = omega (arith, h, g) in e ∙ ap (λ (k : ℕ). take k s ++ drop k b) same
 
 -- ---- the first byte without a value
 

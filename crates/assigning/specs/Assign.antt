@@ -12,6 +12,9 @@
 --   filledWith n x b      b with x in its first n places
 --   numberValue x         the value that the literal with number x gives
 --   assignedFor o         the code's answer for an outcome
+--   nextAnswer, nextBytes the code's answer a, then an outcome; the buffer later on if a is Done, else the buffer now
+--   readOutcome n t b     the outcome of the literals of the whole answer t, done if its status is not SATISFIABLE
+--   readBytes n t b       the buffer at that moment
 -- Assumes nothing.
 use Prim.Native.Nat.{ℕ, zero, suc, _-_, _<_}
 use mathlib.Core.Path.{_≡_}
@@ -24,7 +27,7 @@ use Rattle.lists.specs.Lists.{first}
 use Rattle.encoding.specs.Literal.{Literal, variable}
 use Literal.{var, −_}
 use Rattle.literals.specs.Signed.{isNegative}
-use Rattle.answers.specs.Reading.{Next, nextLiteral, Spotted}
+use Rattle.answers.specs.Reading.{Found, statusOf, Next, nextLiteral, Spotted}
 use Rattle.assigning.specs.declared.Assigned.{Assigned}
 use Rattle.assigning.specs.declared.Assigned.the-variants.{Done, Stray, Repeated}
 
@@ -124,3 +127,31 @@ abbrev pub assignedFor : Outcome → Assigned
 assignedFor Outcome.done = Done
 assignedFor (Outcome.stray s) = Stray s
 assignedFor (Outcome.repeated s) = Repeated s
+
+abbrev pub nextAnswer : Assigned → Outcome → Assigned
+nextAnswer Done o = assignedFor o
+nextAnswer (Stray s) o = Stray s
+nextAnswer (Repeated s) o = Repeated s
+
+abbrev pub nextBytes : Assigned → List ℕ → List ℕ → List ℕ
+nextBytes Done later b = later
+nextBytes (Stray s) later b = b
+nextBytes (Repeated s) later b = b
+
+-- ---- the whole answer, by its status
+
+abbrev pub outcomeBy : ℕ → List ℕ → List ℕ → Found → Outcome
+outcomeBy n t b (Found.satisfiable e) = assignedOf n (literalsFrom t e) b
+outcomeBy n t b (Found.other s) = Outcome.done
+outcomeBy n t b (Found.left s) = Outcome.done
+
+unfoldable pub readOutcome : ℕ → List ℕ → List ℕ → Outcome
+readOutcome n t b = outcomeBy n t b (statusOf t)
+
+abbrev pub bytesBy : ℕ → List ℕ → List ℕ → Found → List ℕ
+bytesBy n t b (Found.satisfiable e) = assignedBytes n (literalsFrom t e) b
+bytesBy n t b (Found.other s) = b
+bytesBy n t b (Found.left s) = b
+
+unfoldable pub readBytes : ℕ → List ℕ → List ℕ → List ℕ
+readBytes n t b = bytesBy n t b (statusOf t)

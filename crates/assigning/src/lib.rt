@@ -1,20 +1,33 @@
-// Assigns the literals of a solver answer to a lent buffer, one byte for each variable (document 01, "Check and filling out"; rows 13, 14 and 15):
-// 1 or 0 is a value, 2 says that the variable has none yet.
+// Assigns the literals of a solver answer to a lent buffer, one byte for each variable, and decides the answer's form in the same pass
+// (document 01, "Check and filling out"; rows 11 to 15): 1 or 0 is a value, 2 says that the variable has none yet.
+use answer_reader::Formed;
+use answer_reader::Found;
 use answer_reader::Next;
+use answer_reader::close;
+use answer_reader::closed_form;
 use answer_reader::next_from;
+use answer_reader::status;
 use literals::is_negative;
 use literals::magnitude;
 ghost use Prim.Native.Nat.{_^_, _≤_, _<_};
 ghost use mathlib.Core.Path.{_≡_};
 ghost use lib.IntN.{natAbs};
-ghost use lib.ListN.{length};
-ghost use Rattle.assigning.specs.Assign.{literalsFrom, putOutcome, putBytes, assignedOf, assignedBytes, firstUnset, filledWith, numberValue, assignedFor};
+ghost use mathlib.Core.List.{_++_};
+ghost use lib.ListN.{length, take, drop};
+ghost use Rattle.answer_reader.specs.Results.{modelFrom, formOf};
+ghost use Rattle.assigning.specs.Assign.{literalsFrom, putOutcome, putBytes, assignedOf, assignedBytes, firstUnset, filledWith, numberValue, assignedFor, nextAnswer, nextBytes, readOutcome, readBytes};
 
 // Each literal is assigned; the first that is not is of a variable above V, or of one that has a value: the index of its first byte.
 pub enum Assigned {
     Done,
     Stray(usize),
     Repeated(usize),
+}
+
+// The form of an answer, and how its literals were assigned.
+pub struct Read {
+    pub form: Formed,
+    pub outcome: Assigned,
 }
 
 // Puts `value` into the first n bytes.
@@ -25,6 +38,18 @@ pub fn fill(buf: &mut [u8], n: usize, value: u8)
     let mut i: usize = 0;
     while i < n {
         buf[i] = value;
+        i += 1;
+    }
+}
+
+// Copies the first n bytes of `from`.
+pub fn copy_first(from: &[u8], n: usize, buf: &mut [u8])
+    requires { ⌜ (n ≤ length (now from)) × (n ≤ length (now buf)) ⌝ }
+    ensures { λ r. ⌜ now (buf .exit) ≡ take n (now (from .entry)) ++ drop n (now (buf .entry)) ⌝ }
+{
+    let mut i: usize = 0;
+    while i < n {
+        buf[i] = from[i];
         i += 1;
     }
 }
@@ -70,28 +95,64 @@ fn put_value(x: i32, first: usize, v: usize, assignment: &mut [u8]) -> Assigned
     Assigned::Done
 }
 
-// Assigns the literals of the answer from position `from` on, up to literal 0 or the first that is stray or repeated.
-pub fn assign(answer: &[u8], from: usize, v: usize, assignment: &mut [u8]) -> Assigned
-    requires { ⌜ (v ≤ length (now assignment)) × (v ≤ 9890) ⌝ }
-    ensures { λ r. ⌜ (r ≡ assignedFor (assignedOf v (literalsFrom (now (answer .entry)) from) (now (assignment .entry)))) × (now (assignment .exit) ≡ assignedBytes v (literalsFrom (now (answer .entry)) from) (now (assignment .entry))) ⌝ }
+// The same, if each literal before it was assigned; `o` says whether.
+fn put_next(o: Assigned, x: i32, first: usize, v: usize, assignment: &mut [u8]) -> Assigned
+    requires { ⌜ (0 < natAbs x) × (natAbs x < 2 ^ 31) × (v ≤ length (now assignment)) ⌝ }
+    ensures { λ r. ⌜ (r ≡ nextAnswer o (putOutcome v (natAbs x) first (now (assignment .entry)))) × (now (assignment .exit) ≡ nextBytes o (putBytes v (natAbs x) (numberValue x) (now (assignment .entry))) (now (assignment .entry))) ⌝ }
+{
+    let Assigned::Done = o else {
+        return o;
+    };
+    put_value(x, first, v, &mut *assignment)
+}
+
+// Reads the answer from position `from` on to its end: its form, and its literals, assigned up to literal 0 or the first that is stray or repeated.
+fn read_from(answer: &[u8], from: usize, v: usize, assignment: &mut [u8]) -> Read
+    requires { ⌜ (from ≤ length (now answer)) × (v ≤ length (now assignment)) × (v ≤ 9890) ⌝ }
+    ensures { λ r. ⌜ (r .form ≡ modelFrom from from (now (answer .entry))) × (r .outcome ≡ assignedFor (assignedOf v (literalsFrom (now (answer .entry)) from) (now (assignment .entry)))) × (now (assignment .exit) ≡ assignedBytes v (literalsFrom (now (answer .entry)) from) (now (assignment .entry))) ⌝ }
 {
     let mut p = from;
+    let mut o = Assigned::Done;
     loop {
         let n = next_from(answer, p);
         match n {
             Next::Literal(x, first, behind) => {
-                let r = put_value(x, first, v, &mut *assignment);
-                let Assigned::Done = r else {
-                    return r;
-                };
+                o = put_next(o, x, first, v, &mut *assignment);
                 p = behind;
             }
             Next::Last(behind) => {
-                return Assigned::Done;
+                let c = close(answer, behind);
+                let f = closed_form(from, c);
+                return Read {
+                    form: f,
+                    outcome: o,
+                };
             }
             Next::Left(s) => {
-                return Assigned::Done;
+                return Read {
+                    form: Formed::Malformed(s),
+                    outcome: o,
+                };
             }
         }
+    }
+}
+
+// The form of the whole answer. If its status is SATISFIABLE, its literals are assigned on the way; else the assignment stays.
+pub fn read_form(answer: &[u8], v: usize, assignment: &mut [u8]) -> Read
+    requires { ⌜ (v ≤ length (now assignment)) × (v ≤ 9890) ⌝ }
+    ensures { λ r. ⌜ (r .form ≡ formOf (now (answer .entry))) × (r .outcome ≡ assignedFor (readOutcome v (now (answer .entry)) (now (assignment .entry)))) × (now (assignment .exit) ≡ readBytes v (now (answer .entry)) (now (assignment .entry))) ⌝ }
+{
+    let s = status(answer);
+    match s {
+        Found::Satisfiable(e) => read_from(answer, e, v, &mut *assignment),
+        Found::Other => Read {
+            form: Formed::NoModel,
+            outcome: Assigned::Done,
+        },
+        Found::Left(spot) => Read {
+            form: Formed::Malformed(spot),
+            outcome: Assigned::Done,
+        },
     }
 }

@@ -4,14 +4,14 @@
 --   assigned-judged, assigned-stray, assigned-repeated   rows 13 and 14, then these
 --   short-assignment, short-levels, overlong, form-malformed, form-none, form-model   rows 8, 10, 11 and 12, then these
 -- Assumes nothing.
-use Prim.Native.Nat.{ℕ, suc, _+_, _*_, _≤_, _<_}
+use Prim.Native.Nat.{ℕ, zero, suc, _+_, _*_, _≤_, _<_}
 use native.Mathlib.Omega.{arith}
 use mathlib.Core.Path.{_≡_, refl, sym, _∙_, ap, ap₂, subst}
 use mathlib.Core.Bool.{Bool, true, false, cond}
-use mathlib.Core.List.{List, _++_}
+use mathlib.Core.List.{List, _∷_, _++_}
 use lib.Dec.{ltb}
 use lib.ListN.{length, getD, take, drop, replicate, take-append-drop, length-replicate}
-use lib.Seq.{take-at, drop-at}
+use lib.Seq.{take-at, drop-at, length-take-le}
 use borrow.Author.Tests.{lt-ltb, le-ltb}
 use Rattle.lists.specs.Lists.{tab}
 use Rattle.lists.proofs.Tables.{length-tab, getD-here}
@@ -26,10 +26,11 @@ use Rattle.answer_reader.specs.declared.Formed.the-variants.{Model as FormModel
 use Rattle.answer_reader.specs.Results.{formOf}
 use Rattle.assigning.specs.declared.Assigned.{Assigned}
 use Rattle.assigning.specs.declared.Assigned.the-variants.{Done, Stray, Repeated}
-use Rattle.assigning.specs.Assign.{Outcome, literalsFrom, assignedOf, assignedBytes, firstUnset, filledWith, assignedFor}
+use Rattle.assigning.specs.Assign.{Outcome, literalsFrom, assignedOf, assignedBytes, firstUnset, filledWith, assignedFor, readOutcome, readBytes}
 use Rattle.answers.specs.Reading.{Spotted}
 use Rattle.assigning.proofs.Steps.{rest-kept}
 use Rattle.assigning.proofs.Rows.{literals-named}
+use Rattle.assigning.proofs.Reading.{read-formed}
 use Rattle.offering.proofs.Values.{any-outcome, any-bytes}
 use Rattle.tables.specs.declared.Totals.{Totals}
 use Rattle.tables.specs.Tables.{countersOf, totalsOf, Tabled}
@@ -41,7 +42,7 @@ use Rattle.checking.specs.declared.CheckRefusal.{CheckRefusal}
 use Rattle.checking.specs.declared.CheckRefusal.the-variants.{ShortBuffer, OverlongAnswer, MalformedAnswer, NoModelOffered, StrayVariable, RepeatedVariable, MissingVariable, FalseClause}
 use Rattle.checking.specs.declared.CheckVerdict.{CheckVerdict}
 use Rattle.checking.specs.declared.CheckVerdict.the-variants.{Model, Refused}
-use Rattle.checking.specs.Check.{zeroes, refuse, judged, noValues, afterAssigning, assignedResult, formResult, answerResult, checkResult, Gives}
+use Rattle.checking.specs.Check.{zeroes, refuse, judged, noValues, outcomeOf, afterAssigning, assignedResult, formResult, answerResult, checkResult, Gives}
 use Rattle.results.proofs.Counting.{highest-same}
 use Rattle.checking.proofs.Agree.{unset-front, false-front, true-front, counters-front}
 
@@ -93,18 +94,17 @@ module _ (P : Program) (bs : List ℕ) where
 
 -- ---- the outcome of assigning, from the code's answer
 
-abbrev toOutcome : Assigned → Outcome
-toOutcome Done = Outcome.done
-toOutcome (Stray s) = Outcome.stray s
-toOutcome (Repeated s) = Outcome.repeated s
+outcome-back : (o : Outcome) → outcomeOf (assignedFor o) ≡ o
+outcome-back Outcome.done = refl
+outcome-back (Outcome.stray s) = refl
+outcome-back (Outcome.repeated s) = refl
 
-from-answer : (o : Outcome) {y : Assigned} → assignedFor o ≡ y → o ≡ toOutcome y
-from-answer o e = there o ∙ ap toOutcome e
-  where
-    there : (o : Outcome) → o ≡ toOutcome (assignedFor o)
-    there Outcome.done = refl
-    there (Outcome.stray s) = refl
-    there (Outcome.repeated s) = refl
+-- equal bytes, the first n of them filled
+filled-front : (n k x : ℕ) → n ≤ k → replicate k x ≡ filledWith n x (replicate k x)
+unfolding filledWith
+filled-front zero k x h = refl
+filled-front (suc n) zero x h = absurd (omega (arith, h))
+filled-front (suc n) (suc k) x h = ap (λ (b : List ℕ). x ∷ b) (filled-front n k x (omega (arith, h)))
 
 -- ---- the same, with the totals at hand
 
@@ -190,60 +190,66 @@ module _ {P : Program} {t : Totals} {hs ss bs ks xs ys : List ℕ} (T : Tabled P
 
   -- ---- rows 13 and 14
 
-  module _ (answer : List ℕ) (from : ℕ) (b l : List ℕ) where
+  module _ {o : Assigned} (vs b l : List ℕ) where
+    -- o says that each literal is assigned; b₂ is the buffer with the values vs
+    pub assigned-judged : o ≡ Done → t .vars ≤ length vs → {b₂ : List ℕ} → b₂ ≡ take (t .vars) vs ++ drop (t .vars) b → {r : CheckVerdict} {c m : List ℕ}
+        → Gives P (judged P (take (t .vars) b₂)) r b₂ c l m → Gives P (afterAssigning (outcomeOf o) (judged P (take (t .vars) vs))) r b c l m
+    assigned-judged d h {b₂} e {r} {c} {m} w =
+        subst (λ (a : Assigned). Gives P (afterAssigning (outcomeOf a) (judged P (take (t .vars) vs))) r b c l m) (sym d)
+        (then (subst (λ (y : List ℕ). Gives P (judged P y) r b₂ c l m) front-is w))
+      where
+        front-length : length (take (t .vars) vs) ≡ t .vars
+        front-length = length-take-le (t .vars) vs h
+
+        front-is : take (t .vars) b₂ ≡ take (t .vars) vs
+        front-is = ap (take (t .vars)) e ∙ take-at (take (t .vars) vs) (drop (t .vars) b) (t .vars) front-length
+
+        rest-is : drop (varTotal P) b₂ ≡ drop (varTotal P) b
+        rest-is =
+            subst (λ (k : ℕ). drop k b₂ ≡ drop k b) vars-is (ap (drop (t .vars)) e ∙ drop-at (take (t .vars) vs) (drop (t .vars) b) (t .vars) front-length)
+
+        then : Gives P (judged P (take (t .vars) vs)) r b₂ c l m → Gives P (judged P (take (t .vars) vs)) r b c l m
+        then w = (w .0, w .1 ∙ judged-rest P (take (t .vars) vs) b₂ b rest-is, w .2)
+
+    module _ {r : CheckVerdict} {c : List ℕ} {s : ℕ} where
+      pub assigned-stray : o ≡ Stray s → (r ≡ Refused (StrayVariable s)) × (c ≡ filledWith (t .vars) 0 b)
+          → Gives P (afterAssigning (outcomeOf o) (judged P (take (t .vars) vs))) r b c l l
+      assigned-stray d w =
+          gives-zeroed P (ap (λ (a : Assigned). afterAssigning (outcomeOf a) (judged P (take (t .vars) vs))) d) b l refl (w .0, w .1 ∙ ap (λ (k : ℕ). filledWith k 0 b) vars-is)
+
+      pub assigned-repeated : o ≡ Repeated s → (r ≡ Refused (RepeatedVariable s)) × (c ≡ filledWith (t .vars) 0 b)
+          → Gives P (afterAssigning (outcomeOf o) (judged P (take (t .vars) vs))) r b c l l
+      assigned-repeated d w =
+          gives-zeroed P (ap (λ (a : Assigned). afterAssigning (outcomeOf a) (judged P (take (t .vars) vs))) d) b l refl (w .0, w .1 ∙ ap (λ (k : ℕ). filledWith k 0 b) vars-is)
+
+  -- the values that the literals of an answer of the form give, read into k bytes without values
+  module _ (answer : List ℕ) {i : ℕ} (q : formOf answer ≡ FormModel i) (k : ℕ) (room : t .vars ≤ k) {o : Assigned} {vs : List ℕ}
+      (e : o ≡ assignedFor (readOutcome (t .vars) answer (replicate k 2))) (g : vs ≡ readBytes (t .vars) answer (replicate k 2)) where
     abbrev ls : List Spotted
-    ls = literalsFrom answer from
+    ls = literalsFrom answer i
 
-    abbrev values : List ℕ
-    values = assignedBytes (varTotal P) ls (noValues (varTotal P))
+    abbrev alone : List ℕ
+    alone = assignedBytes (t .vars) ls (noValues (t .vars))
 
-    values-length : length values ≡ varTotal P
-    values-length = rest-kept (varTotal P) ls (noValues (varTotal P)) (literals-named answer from) .1 ∙ length-replicate (varTotal P) 2
+    outcome-is : outcomeOf o ≡ assignedOf (t .vars) ls (noValues (t .vars))
+    outcome-is =
+        ap outcomeOf e ∙ outcome-back (readOutcome (t .vars) answer (replicate k 2)) ∙ read-formed answer i q (t .vars) (replicate k 2) .0
+        ∙ ap (assignedOf (t .vars) ls) (filled-front (t .vars) k 2 room) ∙ any-outcome (t .vars) ls (literals-named answer i) (replicate k 2)
 
-    -- b₁ is the buffer without values, b₂ that after the literals are assigned
-    module _ {a : Assigned} {b₁ b₂ : List ℕ} (f : b₁ ≡ filledWith (t .vars) 2 b)
-        (e : (a ≡ assignedFor (assignedOf (t .vars) ls b₁)) × (b₂ ≡ assignedBytes (t .vars) ls b₁)) where
-      outcome-is : a ≡ assignedFor (assignedOf (varTotal P) ls (noValues (varTotal P)))
-      outcome-is =
-          e .0 ∙ ap (λ (y : List ℕ). assignedFor (assignedOf (t .vars) ls y)) f ∙ ap (λ (k : ℕ). assignedFor (assignedOf k ls (filledWith k 2 b))) vars-is
-          ∙ ap assignedFor (any-outcome (varTotal P) ls (literals-named answer from) b)
+    alone-length : length alone ≡ t .vars
+    alone-length = rest-kept (t .vars) ls (noValues (t .vars)) (literals-named answer i) .1 ∙ length-replicate (t .vars) 2
 
-      -- the outcome that the code's answer says
-      outcome-of : {y : Assigned} → a ≡ y → assignedOf (varTotal P) ls (noValues (varTotal P)) ≡ toOutcome y
-      outcome-of q = from-answer (assignedOf (varTotal P) ls (noValues (varTotal P))) (sym outcome-is ∙ q)
+    values-are : take (t .vars) vs ≡ alone
+    values-are =
+        ap (take (t .vars))
+        (g ∙ read-formed answer i q (t .vars) (replicate k 2) .1 ∙ ap (assignedBytes (t .vars) ls) (filled-front (t .vars) k 2 room)
+        ∙ any-bytes (t .vars) ls (literals-named answer i) (replicate k 2))
+        ∙ take-at alone (drop (t .vars) (replicate k 2)) (t .vars) alone-length
 
-      bytes-are : b₂ ≡ values ++ drop (varTotal P) b
-      bytes-are =
-          e .1 ∙ ap (assignedBytes (t .vars) ls) f ∙ ap (λ (k : ℕ). assignedBytes k ls (filledWith k 2 b)) vars-is ∙ any-bytes (varTotal P) ls (literals-named answer from) b
-
-      rest-is : drop (varTotal P) b₂ ≡ drop (varTotal P) b
-      rest-is = ap (drop (varTotal P)) bytes-are ∙ drop-at values (drop (varTotal P) b) (varTotal P) values-length
-
-      -- each literal is assigned
-      pub assigned-judged : a ≡ Done → {r : CheckVerdict} {c m : List ℕ} → Gives P (judged P (take (t .vars) b₂)) r b₂ c l m
-          → Gives P (assignedResult P answer from) r b c l m
-      assigned-judged d {r} {c} {m} w =
-          subst (λ (o : Outcome). Gives P (afterAssigning o (judged P values)) r b c l m) (sym (outcome-of d))
-          (then (subst (λ (y : List ℕ). Gives P (judged P y) r b₂ c l m) front-is w))
-        where
-          front-is : take (t .vars) b₂ ≡ values
-          front-is = ap₂ take vars-is bytes-are ∙ take-at values (drop (varTotal P) b) (varTotal P) values-length
-
-          then : Gives P (judged P values) r b₂ c l m → Gives P (judged P values) r b c l m
-          then w = (w .0, w .1 ∙ judged-rest P values b₂ b rest-is, w .2)
-
-      zeros-are : {c : List ℕ} → c ≡ filledWith (t .vars) 0 b₂ → c ≡ filledWith (varTotal P) 0 b
-      unfolding filledWith
-      zeros-are w = w ∙ ap (λ (k : ℕ). filledWith k 0 b₂) vars-is ∙ ap (λ (y : List ℕ). replicate (varTotal P) 0 ++ y) rest-is
-
-      module _ {r : CheckVerdict} {c : List ℕ} where
-        pub assigned-stray : {s : ℕ} → a ≡ Stray s → (r ≡ Refused (StrayVariable s)) × (c ≡ filledWith (t .vars) 0 b₂) → Gives P (assignedResult P answer from) r b c l l
-        assigned-stray d w =
-            gives-zeroed P (ap (λ (o : Outcome). afterAssigning o (judged P values)) (outcome-of d)) b l refl (w .0, zeros-are (w .1))
-
-        pub assigned-repeated : {s : ℕ} → a ≡ Repeated s → (r ≡ Refused (RepeatedVariable s)) × (c ≡ filledWith (t .vars) 0 b₂) → Gives P (assignedResult P answer from) r b c l l
-        assigned-repeated d w =
-            gives-zeroed P (ap (λ (o : Outcome). afterAssigning o (judged P values)) (outcome-of d)) b l refl (w .0, zeros-are (w .1))
+    assigned-is : afterAssigning (outcomeOf o) (judged P (take (t .vars) vs)) ≡ assignedResult P answer i
+    assigned-is =
+        ap₂ (λ (u : Outcome) (y : List ℕ). afterAssigning u (judged P y)) outcome-is values-are
+        ∙ ap (λ (v : ℕ). afterAssigning (assignedOf v ls (noValues v)) (judged P (assignedBytes v ls (noValues v)))) vars-is
 
   -- ---- rows 8, 10, 11 and 12
 
@@ -286,5 +292,8 @@ module _ {P : Program} {t : Totals} {hs ss bs ks xs ys : List ℕ} (T : Tabled P
           pub form-none : f ≡ NoModel → Gives P x (Refused NoModelOffered) b b l l
           form-none q = gives-refused P (by-form q) b l refl
 
-          pub form-model : {i : ℕ} → f ≡ FormModel i → {r : CheckVerdict} {c m : List ℕ} → Gives P (assignedResult P answer i) r b c l m → Gives P x r b c l m
-          form-model q {r} {c} {m} w = subst (λ (y : Result CheckRefusal). Gives P y r b c l m) (sym (by-form q)) w
+          pub form-model : {i : ℕ} → f ≡ FormModel i → (z : ℕ) → t .vars ≤ z → {o : Assigned} {vs : List ℕ}
+              → o ≡ assignedFor (readOutcome (t .vars) answer (replicate z 2)) → vs ≡ readBytes (t .vars) answer (replicate z 2) → {r : CheckVerdict} {c m : List ℕ}
+              → Gives P (afterAssigning (outcomeOf o) (judged P (take (t .vars) vs))) r b c l m → Gives P x r b c l m
+          form-model q z h u v {r} {c} {m} w =
+              subst (λ (y : Result CheckRefusal). Gives P y r b c l m) (assigned-is answer (sym e ∙ q) z h u v ∙ sym (by-form q)) w

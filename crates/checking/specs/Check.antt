@@ -3,7 +3,9 @@
 --   checkNumber, checkSpot   the document's number and spot of a refusal
 --   zeroes r                 refusals 13 to 16 zero the assignment
 --   judged P bs              rows 15 and 16, for the values bs: a variable that has none has 2
---   assignedResult P t e     rows 13 and 14, for the literals of t from position e on, then these
+--   outcomeOf o              the outcome that the code's answer o says
+--   afterAssigning o x       rows 13 and 14, by the outcome o of assigning, then x
+--   assignedResult P t e     the same, for the literals of t from position e on, then these
 --   formResult P t f         rows 11 and 12, by the form f of t, then these
 --   answerResult P t k       row 10, then these
 --   checkResult P t k a l    row 8, for buffers of a and l bytes, then these
@@ -26,6 +28,8 @@ use Rattle.program.specs.Verdict.{readOf, textNumber, textSpot}
 use Rattle.answer_reader.specs.declared.Formed.{Formed}
 use Rattle.answer_reader.specs.declared.Formed.the-variants.{Model as FormModel, NoModel, Malformed}
 use Rattle.answer_reader.specs.Results.{formOf}
+use Rattle.assigning.specs.declared.Assigned.{Assigned}
+use Rattle.assigning.specs.declared.Assigned.the-variants.{Done, Stray, Repeated}
 use Rattle.assigning.specs.Assign.{Outcome, literalsFrom, assignedOf, assignedBytes, firstUnset}
 use Rattle.truth.specs.Truth.{firstFalse}
 use Rattle.results.specs.Results.{Result, trueCount, highest, levelIn, counters, assignmentAfter, levelsAfter, varTotal, programOf}
@@ -78,6 +82,11 @@ unfoldable pub judged : Program → List ℕ → Result CheckRefusal
 judged P bs =
     cond (ltb 0 (firstUnset (varTotal P) bs)) (refuse (MissingVariable (firstUnset (varTotal P) bs)))
     (cond (ltb 0 (firstFalse P bs)) (refuse (FalseClause (firstFalse P bs))) (Result.accepted bs (counters (sizes P (width (P .atoms))) bs)))
+
+abbrev pub outcomeOf : Assigned → Outcome
+outcomeOf Done = Outcome.done
+outcomeOf (Stray s) = Outcome.stray s
+outcomeOf (Repeated s) = Outcome.repeated s
 
 abbrev pub afterAssigning : Outcome → Result CheckRefusal → Result CheckRefusal
 afterAssigning Outcome.done x = x

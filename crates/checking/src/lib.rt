@@ -1,10 +1,10 @@
 // The check of a solver answer against a program (document 01, "Check and filling out").
 use answer_reader::Formed;
-use answer_reader::form;
 use assigning::Assigned;
-use assigning::assign;
+use assigning::copy_first;
 use assigning::fill;
 use assigning::first_unset;
+use assigning::read_form;
 use program::Program;
 use program::ReadVerdict;
 use program::Reading;
@@ -28,7 +28,7 @@ ghost use Rattle.tables.specs.Tables.{Stored, programIn, Ready};
 ghost use Rattle.assigning.specs.Assign.{filledWith};
 ghost use Rattle.checking.specs.declared.CheckVerdict.the-variants.{Refused};
 ghost use Rattle.results.specs.Results.{programOf};
-ghost use Rattle.checking.specs.Check.{checkNumber, checkSpot, Gives, judged, assignedResult, checkResult, readResult, checkAnswer, checkAssignment, checkLevels};
+ghost use Rattle.checking.specs.Check.{checkNumber, checkSpot, Gives, judged, outcomeOf, afterAssigning, checkResult, readResult, checkAnswer, checkAssignment, checkLevels};
 
 // Why no model is shown, each with its spot.
 pub enum CheckRefusal {
@@ -95,7 +95,7 @@ fn judge<'a>(
     CheckVerdict::Model(true_count(n, &*assignment), highest_of(n, &*levels))
 }
 
-// Rows 13 and 14, for the literals of the answer from position `from` on, then these.
+// Rows 13 and 14, by how the literals were assigned, then these, for the values that the literals gave.
 fn assigned<'a>(
     t: Totals,
     heads: &'a [u16],
@@ -104,28 +104,29 @@ fn assigned<'a>(
     before: &'a [u16],
     partners: &'a [u16],
     owners: &'a [u16],
-    answer: &'a [u8],
-    from: usize,
+    o: Assigned,
+    values: &'a [u8],
     assignment: &mut [u8],
     levels: &mut [u8],
 ) -> CheckVerdict
-    requires { ⌜ (Ready t (now heads) (now starts) (now bodies) (now before) (now partners) (now owners)) × (t .vars ≤ length (now assignment)) × (t .sizes .n ≤ length (now levels)) ⌝ }
-    ensures { λ r. ⌜ Gives (programIn (t .sizes) (now (heads .entry)) (now (starts .entry)) (now (bodies .entry))) (assignedResult (programIn (t .sizes) (now (heads .entry)) (now (starts .entry)) (now (bodies .entry))) (now (answer .entry)) from) r (now (assignment .entry)) (now (assignment .exit)) (now (levels .entry)) (now (levels .exit)) ⌝ }
+    requires { ⌜ (Ready t (now heads) (now starts) (now bodies) (now before) (now partners) (now owners)) × (t .vars ≤ length (now values)) × (t .vars ≤ length (now assignment)) × (t .sizes .n ≤ length (now levels)) ⌝ }
+    ensures { λ r. ⌜ Gives (programIn (t .sizes) (now (heads .entry)) (now (starts .entry)) (now (bodies .entry))) (afterAssigning (outcomeOf o) (judged (programIn (t .sizes) (now (heads .entry)) (now (starts .entry)) (now (bodies .entry))) (take (t .vars) (now (values .entry))))) r (now (assignment .entry)) (now (assignment .exit)) (now (levels .entry)) (now (levels .exit)) ⌝ }
 {
-    fill(&mut *assignment, t.vars, 2);
-    let a = assign(answer, from, t.vars, &mut *assignment);
-    match a {
-        Assigned::Done => judge(
-            t,
-            heads,
-            starts,
-            bodies,
-            before,
-            partners,
-            owners,
-            &mut *assignment,
-            &mut *levels,
-        ),
+    match o {
+        Assigned::Done => {
+            copy_first(values, t.vars, &mut *assignment);
+            judge(
+                t,
+                heads,
+                starts,
+                bodies,
+                before,
+                partners,
+                owners,
+                &mut *assignment,
+                &mut *levels,
+            )
+        }
         Assigned::Stray(s) => { zeroed(CheckRefusal::StrayVariable(s), t.vars, &mut *assignment) }
         Assigned::Repeated(s) => {
             zeroed(CheckRefusal::RepeatedVariable(s), t.vars, &mut *assignment)
@@ -133,7 +134,8 @@ fn assigned<'a>(
     }
 }
 
-// Rows 8, 10, 11 and 12, then these. The answer has `total` bytes; of one that is not overlong, `answer` is all.
+// Rows 8, 10, 11 and 12, then these. The answer has `total` bytes; of one that is not overlong, `answer` is all. Its values are read into an
+// array of the call's own, of the largest V, since refusal 11 writes nothing.
 fn check_in<'a>(
     t: Totals,
     heads: &'a [u16],
@@ -160,7 +162,10 @@ fn check_in<'a>(
     if 65536 < total {
         return CheckVerdict::Refused(CheckRefusal::OverlongAnswer(total));
     }
-    let f = form(answer);
+    let mut values = [2u8; 9890];
+    let x = read_form(answer, t.vars, &mut values);
+    let f = x.form;
+    let o = x.outcome;
     match f {
         Formed::Malformed(s) => CheckVerdict::Refused(CheckRefusal::MalformedAnswer(s)),
         Formed::NoModel => CheckVerdict::Refused(CheckRefusal::NoModelOffered),
@@ -172,8 +177,8 @@ fn check_in<'a>(
             before,
             partners,
             owners,
-            answer,
-            e,
+            o,
+            &values,
             &mut *assignment,
             &mut *levels,
         ),

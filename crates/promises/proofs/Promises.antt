@@ -188,16 +188,18 @@ use Rattle.answer_reader.proofs.next_from.Statement.{statement as answer-next-f
 use Rattle.answer_reader.proofs.next_from.Met.{met as answer-next-from·met}
 use Rattle.answer_reader.proofs.close.Statement.{statement as answer-close·statement}
 use Rattle.answer_reader.proofs.close.Met.{met as answer-close·met}
-use Rattle.answer_reader.proofs.form.Statement.{statement as answer-form·statement}
-use Rattle.answer_reader.proofs.form.Met.{met as answer-form·met}
+use Rattle.answer_reader.proofs.closed_form.Statement.{statement as answer-closed-form·statement}
+use Rattle.answer_reader.proofs.closed_form.Met.{met as answer-closed-form·met}
 use Rattle.answer_reader.specs.declared.Formed.the-variants.{Model, NoModel, Malformed as LeftForm}
 use Rattle.answer_reader.specs.Results.{formOf}
 use Rattle.answers.specs.Reading.{IsModel as IsModelText}
 use Rattle.answer_reader.proofs.Promised.{form-malformed, malformed-form, form-model, model-form, form-none, none-form}
 use Rattle.assigning.proofs.fill.Statement.{statement as assigning-fill·statement}
 use Rattle.assigning.proofs.fill.Met.{met as assigning-fill·met}
-use Rattle.assigning.proofs.assign.Statement.{statement as assigning-assign·statement}
-use Rattle.assigning.proofs.assign.Met.{met as assigning-assign·met}
+use Rattle.assigning.proofs.copy_first.Statement.{statement as assigning-copy-first·statement}
+use Rattle.assigning.proofs.copy_first.Met.{met as assigning-copy-first·met}
+use Rattle.assigning.proofs.read_form.Statement.{statement as assigning-read-form·statement}
+use Rattle.assigning.proofs.read_form.Met.{met as assigning-read-form·met}
 use Rattle.assigning.proofs.first_unset.Statement.{statement as assigning-first-unset·statement}
 use Rattle.assigning.proofs.first_unset.Met.{met as assigning-first-unset·met}
 use Rattle.assigning.specs.Assign.{Outcome, literalsFrom, literalAt, variableAt, Named, assignedOf, assignedBytes, firstUnset, filledWith}
@@ -1039,15 +1041,17 @@ pub record AnswerReader (M : Type 1) : Type 2 where
   pub new : answer-reader-new·statement M
   pub next : answer-reader-next·statement M
   pub next-from : answer-next-from·statement M
-  -- the form of the whole answer is `formOf`
-  pub form : answer-form·statement M
-  -- its literals, assigned to a lent buffer of which the other bytes stay; the first variable without a value; the first bytes of a buffer
-  pub assign : assigning-assign·statement M
+  -- the form of an answer whose literals begin at a position, by what follows literal 0
+  pub closed-form : answer-closed-form·statement M
+  -- the form of the whole answer is `formOf`; if its status is SATISFIABLE, its literals are assigned to a lent buffer of which the other bytes stay
+  pub read-form : assigning-read-form·statement M
+  -- the first variable without a value; the first bytes of a buffer, filled with one value or copied
   pub first-unset : assigning-first-unset·statement M
   pub fill : assigning-fill·statement M
+  pub copy-first : assigning-copy-first·statement M
 
 pub answer-reader : (M : Type 1) → AnswerReader M
-answer-reader M = record { status = answer-status·met; next-literal = answer-next-literal·met; close = answer-close·met; new = answer-reader-new·met; next = answer-reader-next·met; next-from = answer-next-from·met; form = answer-form·met; assign = assigning-assign·met; first-unset = assigning-first-unset·met; fill = assigning-fill·met }
+answer-reader M = record { status = answer-status·met; next-literal = answer-next-literal·met; close = answer-close·met; new = answer-reader-new·met; next = answer-reader-next·met; next-from = answer-next-from·met; closed-form = answer-closed-form·met; read-form = assigning-read-form·met; first-unset = assigning-first-unset·met; fill = assigning-fill·met; copy-first = assigning-copy-first·met }
 
 -- truth, stages, filling, results, checking, filling_out, models
 pub record Verdicts (M : Type 1) : Type 2 where
