@@ -1,6 +1,7 @@
 -- Numbers and literals, from their digits on.
 --   digit-from                              a digit is 48 or more
 --   number-goes, number-ends, number-stops  one turn of the loop over digits, a byte that is no digit, the end of the answer
+--   number-begins                           the number from its first digit on, by what follows that
 --   number-small                            a capped number is below 2^31
 --   minus-, literal- with short, zero, here, other   what the functions `minus_at` and `literal_at` answer
 -- Assumes nothing.
@@ -45,6 +46,12 @@ module _ (t : List ℕ) (v i x y : ℕ) (inv : (cappedValue mostNumber v (drop i
 
   pub number-stops : length t ≤ i → (v ≡ x) × (i ≡ y)
   number-stops h = (sym (capped-stop t i mostNumber v h) ∙ inv .0, sym (behind-stop t i h) ∙ inv .1)
+
+pub number-begins : (t : List ℕ) (i : ℕ) → i < length t → (d : Bool) → d ≡ digitTest (getD t i 0) → d ≡ true → (n : ℕ)
+    → n ≡ min mostNumber (0 * 10 + (getD t i 0 - 48)) → (x y : ℕ) → (x ≡ cappedValue mostNumber n (drop (i + 1) t)) × (y ≡ behindDigits (i + 1) (drop (i + 1) t))
+    → (x ≡ cappedValue mostNumber 0 (drop i t)) × (y ≡ behindDigits i (drop i t))
+number-begins t i h d e f n g x y w =
+    (w .0 ∙ sym (capped-turn t i mostNumber 0 h ∙ rw (← e, f, ← g)), w .1 ∙ sym (behind-turn t i h ∙ rw (← e, f)))
 
 kept : (u : List ℕ) → cappedValue mostNumber 0 u ≡ min mostNumber (digitsValue 0 u)
 kept u = capped-value mostNumber 0 u

@@ -2,22 +2,28 @@
 --   close-goes, close-dies, close-fine, close-short   the bytes behind literal 0
 --   first-goes, first-here, first-none                the c lines before the status
 --   common-goes, common-other, common-over, common-all   the bytes in common with a fixed string
---   seek-literal, seek-dies, seek-goes, seek-short    the bytes up to the next literal
+--   space-here                                        the next byte is a space
+--   space-behind, space-dies, space-goes, space-short the bytes up to the next space
+--   next-behind, next-lost                            the next literal, by the next space
 -- Assumes nothing.
 use Prim.Native.Nat.{ℕ, suc, _+_, _≤_, _<_}
 use native.Mathlib.Omega.{arith}
-use mathlib.Core.Path.{_≡_, sym, _∙_, ap}
+use mathlib.Core.Path.{_≡_, refl, sym, _∙_, ap}
 use mathlib.Core.Bool.{Bool, true, false, cond}
-use mathlib.Core.List.{List}
-use lib.ListN.{length, getD, drop}
+use mathlib.Core.List.{List, [], _∷_}
+use lib.Dec.{eqb}
+use lib.ListN.{length, getD, drop, drop-of-length-le}
+use lib.Seq.{drop-drop}
 use borrow.Author.Tests.{eq-eqb, ne-eqb}
 use Rattle.answers.specs.Automaton.{seekStep, endStep}
-use Rattle.answers.specs.Reading.{Close, closeFrom, firstLine, common, Next, literalFrom, seekFrom}
-use Rattle.answers.proofs.Turns.{close-turn, close-stop, first-turn, first-stop, common-turn, common-stop, common-short, seek-turn, seek-stop}
+use Rattle.answers.specs.Reading.{Close, closeFrom, firstLine, common, Next, literalFrom, seekFrom, nextLiteral}
+use Rattle.answers.proofs.Turns.{byte-at, close-turn, close-stop, first-turn, first-stop, common-turn, common-stop, common-short}
 use Rattle.answer_reader.specs.declared.Closed.the-variants.{Fine, Left as CloseLeft}
 use Rattle.answer_reader.specs.declared.Next.{Next as NextAnswer}
 use Rattle.answer_reader.specs.declared.Next.the-variants.{Left as NextLeft}
-use Rattle.answer_reader.specs.Results.{nextFor, closeFor, noComment, commentState}
+use Rattle.answer_reader.specs.declared.Space.{Space}
+use Rattle.answer_reader.specs.declared.Space.the-variants.{Behind, Left as SpaceLeft}
+use Rattle.answer_reader.specs.Results.{spaceFrom, spaceThen, nextFor, closeFor, noComment, commentState}
 
 -- ---- after literal 0
 
@@ -81,23 +87,61 @@ module _ (t w : List ℕ) (i k x : ℕ) (inv : k + common (drop i t) (drop k w) 
 
 -- ---- between literals
 
-module _ (t : List ℕ) (q i : ℕ) (x : Next) (inv : seekFrom q i (drop i t) ≡ x) where
-  module _ (n : ℕ) (h : i < length t) (e : n ≡ seekStep q (getD t i 0)) where
-    space-at : n ≡ 36 → literalFrom (i + 1) (drop (i + 1) t) ≡ x
-    space-at d = sym (seek-turn t i q h ∙ rw (← e, eq-eqb n 36 d)) ∙ inv
+module _ (t : List ℕ) where
+  space-turn : (q i : ℕ) → i < length t
+      → spaceFrom q i (drop i t)
+      ≡ cond (eqb (seekStep q (getD t i 0)) 36) (Behind (i + 1))
+      (cond (eqb (seekStep q (getD t i 0)) 43) (SpaceLeft i) (spaceFrom (seekStep q (getD t i 0)) (i + 1) (drop (i + 1) t)))
+  unfolding spaceFrom
+  space-turn q i h = ap (spaceFrom q i) (byte-at t i h)
 
-    pub seek-literal : n ≡ 36 → (r : NextAnswer) → r ≡ nextFor (literalFrom (i + 1) (drop (i + 1) t)) → r ≡ nextFor x
-    seek-literal d r f = f ∙ ap nextFor (space-at d)
+  space-stop : (q i : ℕ) → length t ≤ i → spaceFrom q i (drop i t) ≡ SpaceLeft i
+  unfolding spaceFrom
+  space-stop q i h = ap (spaceFrom q i) (drop-of-length-le t h)
 
-    module _ (m : n ≡ 36 → ⊥) where
-      lost-at : n ≡ 43 → Next.left i ≡ x
-      lost-at d = sym (seek-turn t i q h ∙ rw (← e, ne-eqb n 36 m, eq-eqb n 43 d)) ∙ inv
+  pub space-here : (i : ℕ) → i < length t → getD t i 0 ≡ 32 → Behind (i + 1) ≡ spaceFrom 35 i (drop i t)
+  unfolding seekStep
+  space-here i h e =
+      let s : seekStep 35 (getD t i 0) ≡ 36 = ap (seekStep 35) e in
+      sym (space-turn 35 i h ∙ rw (eq-eqb (seekStep 35 (getD t i 0)) 36 s))
 
-      pub seek-dies : n ≡ 43 → NextLeft i ≡ nextFor x
-      seek-dies d = ap nextFor (lost-at d)
+  module _ (q i : ℕ) (x : Space) (inv : spaceFrom q i (drop i t) ≡ x) where
+    module _ (n : ℕ) (h : i < length t) (e : n ≡ seekStep q (getD t i 0)) where
+      pub space-behind : n ≡ 36 → Behind (i + 1) ≡ x
+      space-behind d = sym (space-turn q i h ∙ rw (← e, eq-eqb n 36 d)) ∙ inv
 
-      pub seek-goes : (n ≡ 43 → ⊥) → seekFrom n (i + 1) (drop (i + 1) t) ≡ x
-      seek-goes d = sym (seek-turn t i q h ∙ rw (← e, ne-eqb n 36 m, ne-eqb n 43 d)) ∙ inv
+      pub space-dies : (n ≡ 36 → ⊥) → n ≡ 43 → SpaceLeft i ≡ x
+      space-dies m d = sym (space-turn q i h ∙ rw (← e, ne-eqb n 36 m, eq-eqb n 43 d)) ∙ inv
 
-  pub seek-short : length t ≤ i → NextLeft i ≡ nextFor x
-  seek-short h = ap nextFor (sym (seek-stop t i q h) ∙ inv)
+      pub space-goes : (n ≡ 36 → ⊥) → (n ≡ 43 → ⊥) → spaceFrom n (i + 1) (drop (i + 1) t) ≡ x
+      space-goes m d = sym (space-turn q i h ∙ rw (← e, ne-eqb n 36 m, ne-eqb n 43 d)) ∙ inv
+
+    pub space-short : length t ≤ i → SpaceLeft i ≡ x
+    space-short h = sym (space-stop q i h) ∙ inv
+
+  -- the next literal, by the next space
+  space-seeks : (u : List ℕ) (q i : ℕ) → drop i t ≡ u → spaceThen t (spaceFrom q i u) ≡ seekFrom q i u
+  unfolding spaceFrom seekFrom
+  space-seeks [] q i e = refl
+  space-seeks (b ∷ u) q i e = go (eqb (seekStep q b) 36) (eqb (seekStep q b) 43) (space-seeks u (seekStep q b) (i + 1) rest)
+    where
+      rest : drop (i + 1) t ≡ u
+      rest = sym (drop-drop 1 i t) ∙ ap (drop 1) e
+
+      go : (c d : Bool) → spaceThen t (spaceFrom (seekStep q b) (i + 1) u) ≡ seekFrom (seekStep q b) (i + 1) u
+          → spaceThen t (cond c (Behind (i + 1)) (cond d (SpaceLeft i) (spaceFrom (seekStep q b) (i + 1) u)))
+          ≡ cond c (literalFrom (i + 1) u) (cond d (Next.left i) (seekFrom (seekStep q b) (i + 1) u))
+      go true d r = ap (literalFrom (i + 1)) rest
+      go false true r = refl
+      go false false r = r
+
+  module _ (p : ℕ) (s : Space) (a : s ≡ spaceFrom 35 p (drop p t)) where
+    by-space : {y : Space} → s ≡ y → spaceThen t y ≡ nextLiteral t p
+    unfolding nextLiteral
+    by-space e = ap (spaceThen t) (sym e ∙ a) ∙ space-seeks (drop p t) 35 p refl
+
+    pub next-behind : (i : ℕ) → s ≡ Behind i → (r : NextAnswer) → r ≡ nextFor (literalFrom i (drop i t)) → r ≡ nextFor (nextLiteral t p)
+    next-behind i e r f = f ∙ ap nextFor (by-space e)
+
+    pub next-lost : (i : ℕ) → s ≡ SpaceLeft i → NextLeft i ≡ nextFor (nextLiteral t p)
+    next-lost i e = ap nextFor (by-space e)

@@ -2,6 +2,8 @@
 --   mostNumber        the largest magnitude of a literal that is handed out
 --   capped l          l as a signed number, of no larger magnitude
 --   foundFor, nextFor, closeFor   the answers about the status, the next literal and the end
+--   spaceFrom q i t   the index behind the next space of t, whose first byte has index i, from state q on; or the spot
+--   spaceThen t x     the next literal of t, by that
 --   noComment, commentState       before the status: byte b begins a line that is no c line; the state after byte b otherwise
 --   closedForm e c    the form of an answer whose literals begin at e, by what follows literal 0
 --   modelFrom e p t   the same, by what stands in t from position p on
@@ -10,14 +12,16 @@
 -- Assumes nothing.
 use Prim.Native.Nat.{ℕ, _+_, min}
 use mathlib.Core.Bool.{Bool, not, _&&_, cond}
-use mathlib.Core.List.{List}
+use mathlib.Core.List.{List, [], _∷_}
 use lib.Dec.{eqb}
 use lib.IntN.{ℤ}
 use lib.ListN.{drop}
 use Rattle.encoding.specs.Literal.{Literal, literalNumber}
 use Literal.{var, −_}
-use Rattle.answers.specs.Automaton.{accepts, leaves}
-use Rattle.answers.specs.Reading.{Found, Next, Close, statusOf}
+use Rattle.answers.specs.Automaton.{seekStep, accepts, leaves}
+use Rattle.answers.specs.Reading.{Found, Next, Close, statusOf, literalFrom}
+use Rattle.answer_reader.specs.declared.Space.{Space}
+use Rattle.answer_reader.specs.declared.Space.the-variants.{Behind, Left as SpaceLeft}
 use Rattle.answer_reader.specs.declared.Found.{Found as FoundAnswer}
 use Rattle.answer_reader.specs.declared.Found.the-variants.{Satisfiable, Other, Left as FoundLeft}
 use Rattle.answer_reader.specs.declared.Next.{Next as NextAnswer}
@@ -44,6 +48,15 @@ abbrev pub nextFor : Next → NextAnswer
 nextFor (Next.literal l first behind) = NextLiteral (capped l) first behind
 nextFor (Next.last behind) = Last behind
 nextFor (Next.left s) = NextLeft s
+
+unfoldable pub spaceFrom : ℕ → ℕ → List ℕ → Space
+spaceFrom q i [] = SpaceLeft i
+spaceFrom q i (b ∷ t) =
+    cond (eqb (seekStep q b) 36) (Behind (i + 1)) (cond (eqb (seekStep q b) 43) (SpaceLeft i) (spaceFrom (seekStep q b) (i + 1) t))
+
+abbrev pub spaceThen : List ℕ → Space → Next
+spaceThen t (Behind i) = literalFrom i (drop i t)
+spaceThen t (SpaceLeft s) = Next.left s
 
 abbrev pub closeFor : Close → Closed
 closeFor Close.fine = Fine

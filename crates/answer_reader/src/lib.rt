@@ -8,7 +8,7 @@ ghost use Rattle.encoding.specs.Literal.{literalNumber, var, −_};
 ghost use Rattle.form.specs.Automaton.{digitTest};
 ghost use Rattle.answers.specs.Automaton.{seekStep, endStep};
 ghost use Rattle.answers.specs.Reading.{common, firstLine, statusOf, cappedValue, behindDigits, minusFrom, literalFrom, nextLiteral, closeOf};
-ghost use Rattle.answer_reader.specs.Results.{mostNumber, noComment, commentState, foundFor, nextFor, closeFor, closedForm};
+ghost use Rattle.answer_reader.specs.Results.{mostNumber, noComment, commentState, foundFor, spaceFrom, nextFor, closeFor, closedForm};
 
 // Which status, and the index of the byte 10 that ends its line; or the spot where the answer leaves the form.
 pub enum Found {
@@ -218,25 +218,25 @@ struct Number {
     behind: usize,
 }
 
-// The number whose digits begin at `at`.
-fn number_at(answer: &[u8], at: usize) -> Number
-    ensures { λ r. ⌜ (r .value ≡ cappedValue mostNumber 0 (drop at (now (answer .entry)))) × (r .behind ≡ behindDigits at (drop at (now (answer .entry)))) ⌝ }
+// The number of `value`'s digits and those from `at` on.
+fn number_at(answer: &[u8], at: usize, value: u32) -> Number
+    ensures { λ r. ⌜ (r .value ≡ cappedValue mostNumber value (drop at (now (answer .entry)))) × (r .behind ≡ behindDigits at (drop at (now (answer .entry)))) ⌝ }
 {
-    let mut value: u32 = 0;
+    let mut v = value;
     let mut i = at;
     while i < answer.len() {
         let b = answer[i];
         if !is_digit(b) {
             return Number {
-                value: value,
+                value: v,
                 behind: i,
             };
         }
-        value = with_digit(value, b);
+        v = with_digit(v, b);
         i += 1;
     }
     Number {
-        value: value,
+        value: v,
         behind: i,
     }
 }
@@ -254,7 +254,7 @@ fn minus_at(answer: &[u8], at: usize) -> Next
         return Next::Left(at);
     }
     if is_digit(b) {
-        let n = number_at(answer, at);
+        let n = number_at(answer, at + 1, with_digit(0, b));
         return Next::Literal(negative(n.value), at - 1, n.behind);
     }
     Next::Left(at)
@@ -275,7 +275,7 @@ fn literal_at(answer: &[u8], at: usize) -> Next
         return Next::Last(at + 1);
     }
     if is_digit(b) {
-        let n = number_at(answer, at);
+        let n = number_at(answer, at + 1, with_digit(0, b));
         return Next::Literal(positive(n.value), at, n.behind);
     }
     Next::Left(at)
@@ -309,24 +309,46 @@ fn seek_step(q: u8, b: u8) -> u8
     43
 }
 
-// The next literal from position `at` on.
-pub fn next_literal(answer: &[u8], at: usize) -> Next
-    ensures { λ r. ⌜ r ≡ nextFor (nextLiteral (now (answer .entry)) at) ⌝ }
+// The index behind the next space; or the spot.
+enum Space {
+    Behind(usize),
+    Left(usize),
+}
+
+// The next space from position `at` on. Mostly it stands there.
+fn space_from(answer: &[u8], at: usize) -> Space
+    ensures { λ r. ⌜ r ≡ spaceFrom 35 at (drop at (now (answer .entry))) ⌝ }
 {
+    if at < answer.len() {
+        if answer[at] == 32 {
+            return Space::Behind(at + 1);
+        }
+    }
     let mut q: u8 = 35;
     let mut i = at;
     while i < answer.len() {
         let n = seek_step(q, answer[i]);
         if n == 36 {
-            return literal_at(answer, i + 1);
+            return Space::Behind(i + 1);
         }
         if n == 43 {
-            return Next::Left(i);
+            return Space::Left(i);
         }
         q = n;
         i += 1;
     }
-    Next::Left(i)
+    Space::Left(i)
+}
+
+// The next literal from position `at` on.
+pub fn next_literal(answer: &[u8], at: usize) -> Next
+    ensures { λ r. ⌜ r ≡ nextFor (nextLiteral (now (answer .entry)) at) ⌝ }
+{
+    let s = space_from(answer, at);
+    match s {
+        Space::Behind(i) => literal_at(answer, i),
+        Space::Left(spot) => Next::Left(spot),
+    }
 }
 
 // ---- the reader

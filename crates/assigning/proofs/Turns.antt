@@ -2,21 +2,24 @@
 --   fill-none, fill-goes, fill-all         no byte is filled; one more is; all are
 --   copy-goes, copy-all                    one more byte is copied; all are
 --   unset-more, unset-here, unset-nowhere  the byte at i has a value; it has none; each has one
+--   count-none, count-more, count-all      no byte is counted; one more is; all are
+--   one-at-most                            a byte counts 1 at most
+--   count-zero                             none is without a value
 --   unset-first                            what the first variable without a value is
 -- Assumes nothing.
 use Prim.Native.Nat.{ℕ, zero, suc, _+_, _-_, _≤_, _<_}
 use native.Mathlib.Numerals.{add-one}
 use native.Mathlib.Omega.{arith}
-use mathlib.Core.Path.{_≡_, refl, sym, _∙_, ap, subst}
-use mathlib.Core.Bool.{Bool, true, false, So}
+use mathlib.Core.Path.{_≡_, refl, sym, _∙_, ap, ap₂, subst}
+use mathlib.Core.Bool.{Bool, true, false, So, cond}
 use mathlib.Core.List.{List, [], _∷_, _++_, append-assoc}
 use lib.Dec.{eqb, ltb}
 use lib.ListN.{length, getD, set, take, drop, replicate, length-replicate}
 use lib.Seq.{drop-cons, take-suc, length-take-le, set-at}
 use borrow.Author.Tests.{eq-eqb, ne-eqb, eqb-true, eqb-false, ltb-true, ltb-false}
-use Rattle.lists.specs.Lists.{first}
+use Rattle.lists.specs.Lists.{sum, first, orLast}
 use Rattle.lists.proofs.First.{IsFirst, first-is, first-pos, first-le, first-none}
-use Rattle.assigning.specs.Assign.{firstUnset, filledWith}
+use Rattle.assigning.specs.Assign.{unsetCount, firstUnset, filledWith}
 
 -- ---- filling
 
@@ -99,3 +102,34 @@ unset-nowhere n b i below h = sym (unset-is n b ∙ first-none n (unsetAt b) (λ
 pub unset-first : (n : ℕ) (b : List ℕ) → IsFirst n (λ v. eqb (getD b (v - 1) 0) 2) (firstUnset n b)
 unfolding firstUnset
 unset-first n b = first-is n (λ v. eqb (getD b (v - 1) 0) 2)
+
+-- ---- how many have no value
+
+pub count-none : (b : List ℕ) → 0 ≡ unsetCount 0 b
+unfolding unsetCount
+count-none b = refl
+
+pub count-more : (b : List ℕ) (i k d : ℕ) → k ≡ unsetCount i b → d ≡ cond (eqb (getD b i 0) 2) 1 0 → k + d ≡ unsetCount (i + 1) b
+unfolding unsetCount
+count-more b i k d e f =
+    let same : i ≡ suc i - 1 = omega arith in
+    ap₂ (λ (x y : ℕ). x + y) e (f ∙ ap (λ (j : ℕ). cond (eqb (getD b j 0) 2) 1 0) same) ∙ ap (λ (j : ℕ). unsetCount j b) (sym (add-one i))
+
+pub count-all : (b : List ℕ) (i n k : ℕ) → i ≤ n → n ≤ i → k ≡ unsetCount i b → k ≡ unsetCount n b
+count-all b i n k h g e = let same : i ≡ n = omega (arith, h, g) in e ∙ ap (λ (j : ℕ). unsetCount j b) same
+
+pub one-at-most : (c : Bool) (d : ℕ) → d ≡ cond c 1 0 → d ≤ 1
+one-at-most true d e = omega (arith, e)
+one-at-most false d e = omega (arith, e)
+
+none-counted : (n : ℕ) (p : ℕ → Bool) → sum n (λ i. cond (p i) 1 0) ≡ 0 → first n p ≡ 0
+none-counted zero p e = refl
+none-counted (suc n) p e = go (p (suc n)) e (none-counted n p)
+  where
+    go : (d : Bool) → sum n (λ i. cond (p i) 1 0) + cond d 1 0 ≡ 0 → (sum n (λ i. cond (p i) 1 0) ≡ 0 → first n p ≡ 0) → orLast (first n p) d (suc n) ≡ 0
+    go true q r = absurd (omega (arith, q))
+    go false q r = ap (λ (f : ℕ). orLast f false (suc n)) (r (omega (arith, q)))
+
+pub count-zero : (n : ℕ) (b : List ℕ) (k : ℕ) → k ≡ unsetCount n b → k ≡ 0 → k ≡ firstUnset n b
+unfolding unsetCount firstUnset
+count-zero n b k e z = z ∙ sym (none-counted n (λ v. eqb (getD b (v - 1) 0) 2) (sym e ∙ z))

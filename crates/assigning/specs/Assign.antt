@@ -8,6 +8,7 @@
 --   putBytes n v x b      the buffer after it, where the value is x
 --   assignedOf n xs b     the first outcome of the literals xs that is not done
 --   assignedBytes n xs b  the buffer at that moment
+--   unsetCount n b        how many variables have no value
 --   firstUnset n b        the smallest variable that has no value, 0 if each has one
 --   filledWith n x b      b with x in its first n places
 --   numberValue x         the value that the literal with number x gives
@@ -23,7 +24,7 @@ use mathlib.Core.List.{List, [], _∷_, _++_}
 use lib.Dec.{eqb, ltb}
 use lib.IntN.{ℤ}
 use lib.ListN.{length, getD, set, drop, replicate}
-use Rattle.lists.specs.Lists.{first}
+use Rattle.lists.specs.Lists.{sum, first}
 use Rattle.encoding.specs.Literal.{Literal, variable}
 use Literal.{var, −_}
 use Rattle.literals.specs.Signed.{isNegative}
@@ -111,6 +112,9 @@ assignedBytes n (x ∷ xs) b =
     thenBytes (putOutcome n (variable (x .literal)) (x .first) b) (assignedBytes n xs (putBytes n (variable (x .literal)) (valueOf (x .literal)) b)) b
 
 -- ---- the whole buffer
+
+unfoldable pub unsetCount : ℕ → List ℕ → ℕ
+unsetCount n b = sum n (λ v. cond (eqb (getD b (v - 1) 0) 2) 1 0)
 
 unfoldable pub firstUnset : ℕ → List ℕ → ℕ
 firstUnset n b = first n (λ v. eqb (getD b (v - 1) 0) 2)

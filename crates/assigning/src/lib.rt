@@ -12,10 +12,12 @@ use literals::magnitude;
 ghost use Prim.Native.Nat.{_^_, _≤_, _<_};
 ghost use mathlib.Core.Path.{_≡_};
 ghost use lib.IntN.{natAbs};
+ghost use mathlib.Core.Bool.{cond};
 ghost use mathlib.Core.List.{_++_};
+ghost use lib.Dec.{eqb};
 ghost use lib.ListN.{length, take, drop};
 ghost use Rattle.answer_reader.specs.Results.{modelFrom, formOf};
-ghost use Rattle.assigning.specs.Assign.{literalsFrom, putOutcome, putBytes, assignedOf, assignedBytes, firstUnset, filledWith, numberValue, assignedFor, nextAnswer, nextBytes, readOutcome, readBytes};
+ghost use Rattle.assigning.specs.Assign.{literalsFrom, putOutcome, putBytes, assignedOf, assignedBytes, unsetCount, firstUnset, filledWith, numberValue, assignedFor, nextAnswer, nextBytes, readOutcome, readBytes};
 
 // Each literal is assigned; the first that is not is of a variable above V, or of one that has a value: the index of its first byte.
 pub enum Assigned {
@@ -54,11 +56,39 @@ pub fn copy_first(from: &[u8], n: usize, buf: &mut [u8])
     }
 }
 
-// The smallest variable that has no value, 0 if each has one.
+// 1 for a byte that says that its variable has no value, else 0.
+fn one_unset(b: u8) -> usize
+    ensures { λ r. ⌜ r ≡ cond (eqb b 2) 1 0 ⌝ }
+{
+    if b == 2 {
+        return 1;
+    }
+    0
+}
+
+// How many of the variables 1 to v have no value.
+fn unset_count(assignment: &[u8], v: usize) -> usize
+    requires { ⌜ v ≤ length (now assignment) ⌝ }
+    ensures { λ r. ⌜ r ≡ unsetCount v (now (assignment .entry)) ⌝ }
+{
+    let mut k: usize = 0;
+    let mut i: usize = 0;
+    while i < v {
+        k += one_unset(assignment[i]);
+        i += 1;
+    }
+    k
+}
+
+// The smallest variable that has no value, 0 if each has one. They are counted first: a loop that runs to its end is the quicker one.
 pub fn first_unset(assignment: &[u8], v: usize) -> usize
     requires { ⌜ v ≤ length (now assignment) ⌝ }
     ensures { λ r. ⌜ r ≡ firstUnset v (now (assignment .entry)) ⌝ }
 {
+    let k = unset_count(assignment, v);
+    if k == 0 {
+        return k;
+    }
     let mut i: usize = 0;
     while i < v {
         if assignment[i] == 2 {
