@@ -33,7 +33,8 @@ use Rattle.reader_laws.proofs.Contents.{admitted-answer}
 use Rattle.answers.specs.Reading.{Spotted}
 use Rattle.offering.specs.Offered.{valuesOf}
 use Rattle.assigning.specs.Rows.{Once}
-use Rattle.lines.specs.Lines.{clauseTotal, lineOf, lineBytes}
+use Rattle.runs.specs.Lines.{clauseTotal, lineOf}
+use Rattle.lines.specs.Lines.{lineBytes}
 use Rattle.lines.specs.Rows.{LineRow, of-text, short-buffer, no-such-clause}
 use Rattle.lines.proofs.Rows.{none-written}
 use Rattle.lines.proofs.Calls.{line-writes}

@@ -20,7 +20,8 @@ use Rattle.lines.specs.declared.LineVerdict.{LineVerdict}
 use Rattle.lines.specs.declared.LineVerdict.the-variants.{Written, Refused as LineRefused}
 use Rattle.lines.specs.declared.RunVerdict.{RunVerdict}
 use Rattle.lines.specs.declared.RunVerdict.the-variants.{WrittenRun, RefusedRun}
-use Rattle.lines.specs.Lines.{clauseTotal, lineNumber, lineSpot, lineAnswer, runAnswer}
+use Rattle.runs.specs.Lines.{clauseTotal}
+use Rattle.lines.specs.Lines.{lineNumber, lineSpot, lineAnswer, runAnswer}
 use Rattle.results.specs.Results.{varTotal}
 use Rattle.checking.specs.declared.CheckVerdict.{CheckVerdict}
 use Rattle.checking.specs.declared.CheckVerdict.the-variants.{Model, Refused as CheckRefused}

@@ -22,10 +22,11 @@ use Rattle.places.specs.Places.{placeAt}
 use Rattle.lines.specs.declared.LineRefusal.the-variants.{NoSuchClause, ShortBuffer}
 use Rattle.lines.specs.declared.LineVerdict.the-variants.{Written, Refused}
 use Rattle.lines.specs.declared.RunVerdict.the-variants.{WrittenRun, RefusedRun}
-use Rattle.lines.specs.declared.Part.{Part}
-use Rattle.lines.specs.Lines.{clauseTotal, linesOf, lineOf, answerIn, bytesIn, fitting, runIn, runAnswerIn, runBytesIn, partIn}
+use Rattle.runs.specs.declared.Part.{Part}
+use Rattle.runs.specs.Lines.{clauseTotal, linesOf, lineOf, fitting, runIn, runBytesIn, partIn}
+use Rattle.lines.specs.Lines.{answerIn, bytesIn, runAnswerIn}
 use Rattle.lines.proofs.Cases.{answer-none, answer-short, answer-fits, bytes-none, bytes-short, bytes-fits, run-none, run-short, run-fits}
-use Rattle.lines.proofs.Placed.{total-is, lines-count, line-some}
+use Rattle.runs.proofs.Placed.{total-is, lines-count, line-some}
 use Rattle.places.proofs.Numbers.{number-is}
 
 module _ {P : Program} {t : Totals} {hs ss bs ks xs ys : List ℕ} (T : Tabled P t hs ss bs ks xs ys) (j : ℕ) where

@@ -34,10 +34,11 @@ use Rattle.lines.specs.declared.LineVerdict.{LineVerdict}
 use Rattle.lines.specs.declared.LineVerdict.the-variants.{Written, Refused}
 use Rattle.lines.specs.declared.RunVerdict.{RunVerdict}
 use Rattle.lines.specs.declared.RunVerdict.the-variants.{WrittenRun, RefusedRun}
-use Rattle.lines.specs.Lines.{clauseTotal, linesOf, lineOf, afterText, keptBytes, answerIn, bytesIn, lineAnswer, lineBytes, fitting, runIn, afterTextRun, runAnswerIn, runBytesIn, runAnswer, runBytes}
+use Rattle.runs.specs.Lines.{clauseTotal, linesOf, lineOf, fitting, runIn, runBytesIn}
+use Rattle.lines.specs.Lines.{afterText, keptBytes, answerIn, bytesIn, lineAnswer, lineBytes, afterTextRun, runAnswerIn, runAnswer, runBytes}
 use Rattle.lines.specs.Rows.{RunWritten}
-use Rattle.lines.proofs.Placed.{total-is, lines-count}
-use Rattle.lines.proofs.Runs.{fitting-few, fitting-room}
+use Rattle.runs.proofs.Placed.{total-is, lines-count}
+use Rattle.runs.proofs.Runs.{fitting-few, fitting-room}
 use Rattle.lines.proofs.Open.{tabled}
 
 -- ---- the verdicts

@@ -13,7 +13,8 @@ use Rattle.lines.specs.declared.LineRefusal.the-variants.{NoSuchClause, 
 use Rattle.lines.specs.declared.LineVerdict.the-variants.{Written, Refused}
 use Rattle.lines.specs.declared.RunVerdict.{RunVerdict}
 use Rattle.lines.specs.declared.RunVerdict.the-variants.{WrittenRun, RefusedRun}
-use Rattle.lines.specs.Lines.{clauseTotal, linesOf, lineOf, answerIn, bytesIn, fitting, runIn, runAnswerIn}
+use Rattle.runs.specs.Lines.{clauseTotal, linesOf, lineOf, fitting, runIn}
+use Rattle.lines.specs.Lines.{answerIn, bytesIn, runAnswerIn}
 
 -- three values, the first where j is above C, the second where the room is short
 module _ {A : Type 0} (x y z : A) (P : Program) (j room : ℕ) where

@@ -21,8 +21,8 @@ use Rattle.tables.specs.Tables.{Stored, Tabled, pairTable, totalsOf}
 use Rattle.printing.specs.Lines.{headerText}
 use Rattle.places.specs.Places.{placeAt, clauseIn}
 use Rattle.places.proofs.Numbers.{clause-at, spot-count}
-use Rattle.lines.specs.Lines.{clauseTotal, linesOf, lineOf}
-use Rattle.lines.proofs.Placed.{total-is, line-short, line-of-clause}
+use Rattle.runs.specs.Lines.{clauseTotal, linesOf, lineOf}
+use Rattle.runs.proofs.Placed.{total-is, line-short, line-of-clause}
 use Rattle.lines.proofs.Open.{tabled}
 
 module _ (P : Program) where

@@ -1,15 +1,9 @@
--- Placed: the lines by the places of the clauses
--- Runs: a run of lines, line by line
--- Steps: one line, and the lines of a row
 -- Cases: answers and bytes for a program, by the tests on j and on the room
 -- Answer: the answers of the two calls
 -- Open: the two calls on a text
 -- Rows: the row answered is the first met
 -- Calls: what the two calls write
 -- File: the clause file of a program within the limits
-pub mod Placed
-pub mod Runs
-pub mod Steps
 pub mod Cases
 pub mod Answer
 pub mod Open

@@ -22,7 +22,8 @@ use Rattle.lines.specs.declared.LineVerdict.{LineVerdict}
 use Rattle.lines.specs.declared.LineVerdict.the-variants.{Refused}
 use Rattle.lines.specs.declared.RunVerdict.{RunVerdict}
 use Rattle.lines.specs.declared.RunVerdict.the-variants.{RefusedRun}
-use Rattle.lines.specs.Lines.{answerIn, bytesIn, afterText, keptBytes, lineAnswer, lineBytes, runAnswerIn, runBytesIn, afterTextRun, runAnswer, runBytes}
+use Rattle.runs.specs.Lines.{runBytesIn}
+use Rattle.lines.specs.Lines.{answerIn, bytesIn, afterText, keptBytes, lineAnswer, lineBytes, runAnswerIn, afterTextRun, runAnswer, runBytes}
 
 -- ---- from the arrays of a program
 

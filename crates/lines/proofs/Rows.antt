@@ -30,7 +30,8 @@ use Rattle.lines.specs.declared.LineRefusal.{LineRefusal}
 use Rattle.lines.specs.declared.LineRefusal.the-variants.{Text, NoSuchClause, ShortBuffer}
 use Rattle.lines.specs.declared.LineVerdict.{LineVerdict}
 use Rattle.lines.specs.declared.LineVerdict.the-variants.{Written, Refused}
-use Rattle.lines.specs.Lines.{clauseTotal, lineOf, lineNumber, lineSpot, answerIn, afterText, lineAnswer}
+use Rattle.runs.specs.Lines.{clauseTotal, lineOf}
+use Rattle.lines.specs.Lines.{lineNumber, lineSpot, answerIn, afterText, lineAnswer}
 use Rattle.lines.proofs.Cases.{answer-none, answer-short, answer-fits}
 use Rattle.lines.specs.Rows.{LineRow, of-text, short-buffer, no-such-clause, lineRank, FirstLineRow, LineAnswers, roomFrom}
 

@@ -1,48 +1,28 @@
--- The lines of a text's clause file, the call that gives one of them, and the call for a run of them (document 01, "Clauses, in order").
---   linesOf P            line 0, "p cnf V C", then line j for each clause j
---   lineOf P j           line j
+-- The call that gives a line of a text's clause file, and the call for a run of them (document 01, "Clauses, in order").
 --   lineNumber, lineSpot the document's number and spot of a refusal
 --   lineAnswer t j k n   the answer for line j of text t, into n bytes from place k on
 --   lineBytes t j k b    the buffer b afterwards
---   fitting n ls         how many whole lines of ls, from the first on, fit n bytes
 --   runAnswer t j n      the answer for the lines of text t from line j on, into n bytes: how many lines, and their bytes
 --   runBytes t j b       the buffer b afterwards
---   partIn P w j n       the same of a program, with the place of the line after the run
 -- Assumes nothing.
-use Prim.Native.Nat.{ℕ, suc, _+_, _-_}
+use Prim.Native.Nat.{ℕ, _+_, _-_}
 use mathlib.Core.Bool.{cond}
-use mathlib.Core.List.{List, [], _∷_, _++_, map}
-use lib.Dec.{ltb, leb}
-use lib.ListN.{length, getD, take, drop}
+use mathlib.Core.List.{List, _++_}
+use lib.Dec.{ltb}
+use lib.ListN.{length, take, drop}
 use Rattle.lists.specs.Lists.{joined}
 use Rattle.meaning.specs.Program.{Program}
-use Rattle.encoding.specs.Width.{width}
-use Rattle.encoding.specs.Clauses.{clauses, variables, clauseCount}
-use Rattle.digits.specs.Bytes.{lineText}
-use Rattle.printing.specs.Lines.{headerText}
 use Rattle.program.specs.declared.ReadVerdict.{ReadVerdict}
 use Rattle.program.specs.declared.ReadVerdict.the-variants.{Accepted, Refused as TextRefused}
 use Rattle.program.specs.Verdict.{readOf, textNumber, textSpot}
 use Rattle.reader_laws.specs.Decoded.{decoded}
-use Rattle.places.specs.Places.{placeAt}
-use Rattle.lines.specs.declared.Part.{Part}
+use Rattle.runs.specs.Lines.{clauseTotal, linesOf, lineOf, fitting, runIn, runBytesIn}
 use Rattle.lines.specs.declared.LineRefusal.{LineRefusal}
 use Rattle.lines.specs.declared.LineRefusal.the-variants.{Text, NoSuchClause, ShortBuffer}
 use Rattle.lines.specs.declared.LineVerdict.{LineVerdict}
 use Rattle.lines.specs.declared.LineVerdict.the-variants.{Written, Refused}
 use Rattle.lines.specs.declared.RunVerdict.{RunVerdict}
 use Rattle.lines.specs.declared.RunVerdict.the-variants.{WrittenRun, RefusedRun}
-
--- ---- the lines
-
-abbrev pub clauseTotal : Program → ℕ
-clauseTotal P = clauseCount P (width (P .atoms))
-
-unfoldable pub linesOf : Program → List (List ℕ)
-linesOf P = headerText (variables P (width (P .atoms))) (clauseTotal P) ∷ map lineText (clauses P (width (P .atoms)))
-
-abbrev pub lineOf : Program → ℕ → List ℕ
-lineOf P j = getD (linesOf P) j []
 
 -- ---- refusals
 
@@ -86,26 +66,10 @@ lineBytes t j k b = keptBytes (readOf t .verdict) (bytesIn (decoded (readOf t .p
 
 -- ---- a run of lines
 
-abbrev pub fitting : ℕ → List (List ℕ) → ℕ
-fitting n [] = 0
-fitting n (l ∷ ls) = cond (leb (length l) n) (suc (fitting (n - length l) ls)) 0
-
--- the lines from line j on that fit n bytes
-abbrev pub runIn : Program → ℕ → ℕ → List (List ℕ)
-runIn P j n = take (fitting n (drop j (linesOf P))) (drop j (linesOf P))
-
 abbrev pub runAnswerIn : Program → ℕ → ℕ → RunVerdict
 runAnswerIn P j n =
     cond (ltb (clauseTotal P) j) (RefusedRun (NoSuchClause (clauseTotal P)))
     (cond (ltb n (length (lineOf P j))) (RefusedRun (ShortBuffer (length (lineOf P j)))) (WrittenRun (fitting n (drop j (linesOf P))) (length (joined (runIn P j n)))))
-
-abbrev pub runBytesIn : Program → ℕ → List ℕ → List ℕ
-runBytesIn P j b = joined (runIn P j (length b)) ++ drop (length (joined (runIn P j (length b)))) b
-
--- as far as it fits n bytes, with the place of the line after it
-abbrev pub partIn : Program → ℕ → ℕ → ℕ → Part
-partIn P w j n =
-    record { lines = fitting n (drop j (linesOf P)); bytes = length (joined (runIn P j n)); place = placeAt P w (j + fitting n (drop j (linesOf P))) }
 
 abbrev pub afterTextRun : ReadVerdict → RunVerdict → RunVerdict
 afterTextRun Accepted x = x

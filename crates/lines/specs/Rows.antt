@@ -15,7 +15,8 @@ use Rattle.meaning.specs.Program.{Program}
 use Rattle.reader_laws.specs.Row.{Row, rank, NoLaterBy, Admitted}
 use Rattle.lines.specs.declared.LineRefusal.{LineRefusal}
 use Rattle.lines.specs.declared.LineVerdict.the-variants.{Refused}
-use Rattle.lines.specs.Lines.{clauseTotal, lineOf, lineNumber, lineSpot, lineAnswer}
+use Rattle.runs.specs.Lines.{clauseTotal, lineOf}
+use Rattle.lines.specs.Lines.{lineNumber, lineSpot, lineAnswer}
 
 -- the bytes of the buffer from place k on: none if that is past the end
 abbrev pub roomFrom : ℕ → ℕ → ℕ

@@ -1,35 +1,24 @@
 // The lines of a text's clause file: one line, and a run of lines, into a lent buffer (document 01, "Clauses, in order").
 use finding::place_of;
-use places::Place;
-use places::next;
-use places::past_row;
-use printing::clause_length;
-use printing::header_length;
-use printing::is_rowed;
-use printing::put_clause;
-use printing::put_header;
 use program::Program;
 use program::ReadVerdict;
 use program::TextRefusal;
 use program::number_of;
 use program::read;
 use program::spot_of;
-use rows::put_row;
+use runs::line_length;
+use runs::put_line;
+use runs::put_lines;
 use tables::Totals;
 use tabling::pairs_of;
 use tabling::totals_of;
-ghost use Prim.Native.Nat.{suc, _-_, _≤_};
+ghost use Prim.Native.Nat.{_-_};
 ghost use mathlib.Core.Path.{_≡_};
-ghost use mathlib.Core.Bool.{true};
-ghost use mathlib.Core.List.{_++_};
-ghost use lib.Dec.{leb};
-ghost use lib.ListN.{length, drop};
+ghost use lib.ListN.{length};
 ghost use Rattle.reader_laws.specs.Decoded.{decoded};
 ghost use Rattle.tables.specs.Tables.{Stored, programIn, Ready};
-ghost use Rattle.places.specs.Places.{placeAt};
-ghost use Rattle.printing.specs.Rows.{isRowed};
-ghost use Rattle.lines.specs.Taken.{Taken};
-ghost use Rattle.lines.specs.Lines.{lineOf, lineNumber, lineSpot, answerIn, bytesIn, lineAnswer, lineBytes, partIn, runAnswerIn, runBytesIn, runAnswer, runBytes};
+ghost use Rattle.runs.specs.Lines.{lineOf, partIn, runBytesIn};
+ghost use Rattle.lines.specs.Lines.{lineNumber, lineSpot, answerIn, bytesIn, lineAnswer, lineBytes, runAnswerIn, runAnswer, runBytes};
 
 // Why no line is written: the text is refused, the buffer is short, or there is no such clause, each with its spot.
 pub enum LineRefusal {
@@ -48,274 +37,6 @@ pub enum LineVerdict {
 pub enum RunVerdict {
     WrittenRun(usize, usize),
     RefusedRun(LineRefusal),
-}
-
-// A run of lines as far as it fits: how many lines, their bytes, and the place of the line after them.
-pub struct Part {
-    pub lines: usize,
-    pub bytes: usize,
-    pub place: Place,
-}
-
-// The length of the line at place c: line 0 stands before the first clause.
-fn line_length<'a>(
-    t: Totals,
-    heads: &'a [u16],
-    starts: &'a [u16],
-    bodies: &'a [u16],
-    before: &'a [u16],
-    partners: &'a [u16],
-    owners: &'a [u16],
-    c: Place,
-) -> usize
-    requires { ⌜ (Ready t (now heads) (now starts) (now bodies) (now before) (now partners) (now owners)) × (c ≡ placeAt (programIn (t .sizes) (now heads) (now starts) (now bodies)) (t .sizes .w) (c .number)) × (c .number ≤ t .clauses) ⌝ }
-    ensures { λ r. ⌜ r ≡ length (lineOf (programIn (t .sizes) (now (heads .entry)) (now (starts .entry)) (now (bodies .entry))) (c .number)) ⌝ }
-{
-    if c.number == 0 {
-        return header_length(t.vars, t.clauses);
-    }
-    let s = c.spot;
-    clause_length(
-        t,
-        heads,
-        starts,
-        bodies,
-        before,
-        partners,
-        owners,
-        s.group,
-        s.item,
-        s.row,
-        s.clause,
-    )
-}
-
-// Writes that line at the front of the buffer and returns its length.
-fn put_line<'a>(
-    t: Totals,
-    heads: &'a [u16],
-    starts: &'a [u16],
-    bodies: &'a [u16],
-    before: &'a [u16],
-    partners: &'a [u16],
-    owners: &'a [u16],
-    c: Place,
-    buf: &mut [u8],
-) -> usize
-    requires { ⌜ (Ready t (now heads) (now starts) (now bodies) (now before) (now partners) (now owners)) × (c ≡ placeAt (programIn (t .sizes) (now heads) (now starts) (now bodies)) (t .sizes .w) (c .number)) × (c .number ≤ t .clauses) × (length (lineOf (programIn (t .sizes) (now heads) (now starts) (now bodies)) (c .number)) ≤ length (now buf)) ⌝ }
-    ensures { λ r. ⌜ (r ≡ length (lineOf (programIn (t .sizes) (now (heads .entry)) (now (starts .entry)) (now (bodies .entry))) (c .number))) × (now (buf .exit) ≡ lineOf (programIn (t .sizes) (now (heads .entry)) (now (starts .entry)) (now (bodies .entry))) (c .number) ++ drop r (now (buf .entry))) ⌝ }
-{
-    if c.number == 0 {
-        return put_header(t.vars, t.clauses, &mut *buf);
-    }
-    let s = c.spot;
-    put_clause(
-        t,
-        heads,
-        starts,
-        bodies,
-        before,
-        partners,
-        owners,
-        s.group,
-        s.item,
-        s.row,
-        s.clause,
-        &mut *buf,
-    )
-}
-
-// Whether that line fits `room` bytes. No line passes 3,008 bytes.
-fn fits<'a>(
-    t: Totals,
-    heads: &'a [u16],
-    starts: &'a [u16],
-    bodies: &'a [u16],
-    before: &'a [u16],
-    partners: &'a [u16],
-    owners: &'a [u16],
-    c: Place,
-    room: usize,
-) -> bool
-    requires { ⌜ (Ready t (now heads) (now starts) (now bodies) (now before) (now partners) (now owners)) × (c ≡ placeAt (programIn (t .sizes) (now heads) (now starts) (now bodies)) (t .sizes .w) (c .number)) × (c .number ≤ t .clauses) ⌝ }
-    ensures { λ r. ⌜ r ≡ leb (length (lineOf (programIn (t .sizes) (now (heads .entry)) (now (starts .entry)) (now (bodies .entry))) (c .number))) room ⌝ }
-{
-    if 3008 <= room {
-        return true;
-    }
-    line_length(t, heads, starts, bodies, before, partners, owners, c) <= room
-}
-
-// Writes the lines of the row of groups 4 and 5 that begins at place c.
-fn put_whole_row<'a>(
-    t: Totals,
-    heads: &'a [u16],
-    starts: &'a [u16],
-    bodies: &'a [u16],
-    before: &'a [u16],
-    partners: &'a [u16],
-    owners: &'a [u16],
-    c: Place,
-    buf: &mut [u8],
-) -> Part
-    requires { ⌜ (Ready t (now heads) (now starts) (now bodies) (now before) (now partners) (now owners)) × (c ≡ placeAt (programIn (t .sizes) (now heads) (now starts) (now bodies)) (t .sizes .w) (c .number)) × (c .number ≤ t .clauses) × (isRowed (c .spot .group) ≡ true) × (c .spot .clause ≡ 1) × (3008 ≤ length (now buf)) ⌝ }
-    ensures { λ r. ⌜ Taken (programIn (t .sizes) (now (heads .entry)) (now (starts .entry)) (now (bodies .entry))) (t .sizes .w) (c .number) r (now (buf .entry)) (now (buf .exit)) ⌝ }
-{
-    let s = c.spot;
-    let bytes = put_row(
-        t,
-        heads,
-        starts,
-        bodies,
-        before,
-        partners,
-        owners,
-        s.group,
-        s.item,
-        s.row,
-        &mut *buf,
-    );
-    Part {
-        lines: s.clauses as usize + 1,
-        bytes: bytes,
-        place: past_row(t, heads, starts, bodies, before, partners, owners, c),
-    }
-}
-
-// Writes the line at place c.
-fn put_one<'a>(
-    t: Totals,
-    heads: &'a [u16],
-    starts: &'a [u16],
-    bodies: &'a [u16],
-    before: &'a [u16],
-    partners: &'a [u16],
-    owners: &'a [u16],
-    c: Place,
-    buf: &mut [u8],
-) -> Part
-    requires { ⌜ (Ready t (now heads) (now starts) (now bodies) (now before) (now partners) (now owners)) × (c ≡ placeAt (programIn (t .sizes) (now heads) (now starts) (now bodies)) (t .sizes .w) (c .number)) × (c .number ≤ t .clauses) × (length (lineOf (programIn (t .sizes) (now heads) (now starts) (now bodies)) (c .number)) ≤ length (now buf)) ⌝ }
-    ensures { λ r. ⌜ Taken (programIn (t .sizes) (now (heads .entry)) (now (starts .entry)) (now (bodies .entry))) (t .sizes .w) (c .number) r (now (buf .entry)) (now (buf .exit)) ⌝ }
-{
-    let bytes = put_line(
-        t,
-        heads,
-        starts,
-        bodies,
-        before,
-        partners,
-        owners,
-        c,
-        &mut *buf,
-    );
-    Part {
-        lines: 1,
-        bytes: bytes,
-        place: next(t, heads, starts, bodies, before, partners, owners, c),
-    }
-}
-
-// Writes the line at place c, which fits, or the lines of the whole row that begins there.
-fn put_some<'a>(
-    t: Totals,
-    heads: &'a [u16],
-    starts: &'a [u16],
-    bodies: &'a [u16],
-    before: &'a [u16],
-    partners: &'a [u16],
-    owners: &'a [u16],
-    c: Place,
-    buf: &mut [u8],
-) -> Part
-    requires { ⌜ (Ready t (now heads) (now starts) (now bodies) (now before) (now partners) (now owners)) × (c ≡ placeAt (programIn (t .sizes) (now heads) (now starts) (now bodies)) (t .sizes .w) (c .number)) × (c .number ≤ t .clauses) × (length (lineOf (programIn (t .sizes) (now heads) (now starts) (now bodies)) (c .number)) ≤ length (now buf)) ⌝ }
-    ensures { λ r. ⌜ Taken (programIn (t .sizes) (now (heads .entry)) (now (starts .entry)) (now (bodies .entry))) (t .sizes .w) (c .number) r (now (buf .entry)) (now (buf .exit)) ⌝ }
-{
-    if 3008 <= buf.len() {
-        if c.spot.clause == 1 {
-            if is_rowed(c.spot.group) {
-                return put_whole_row(
-                    t,
-                    heads,
-                    starts,
-                    bodies,
-                    before,
-                    partners,
-                    owners,
-                    c,
-                    &mut *buf,
-                );
-            }
-        }
-    }
-    put_one(
-        t,
-        heads,
-        starts,
-        bodies,
-        before,
-        partners,
-        owners,
-        c,
-        &mut *buf,
-    )
-}
-
-// Writes as many whole lines as fit the buffer, from the line at place c on.
-pub fn put_lines<'a>(
-    t: Totals,
-    heads: &'a [u16],
-    starts: &'a [u16],
-    bodies: &'a [u16],
-    before: &'a [u16],
-    partners: &'a [u16],
-    owners: &'a [u16],
-    c: Place,
-    buf: &mut [u8],
-) -> Part
-    requires { ⌜ (Ready t (now heads) (now starts) (now bodies) (now before) (now partners) (now owners)) × (c ≡ placeAt (programIn (t .sizes) (now heads) (now starts) (now bodies)) (t .sizes .w) (c .number)) × (c .number ≤ suc (t .clauses)) ⌝ }
-    ensures { λ r. ⌜ (r ≡ partIn (programIn (t .sizes) (now (heads .entry)) (now (starts .entry)) (now (bodies .entry))) (t .sizes .w) (c .number) (length (now (buf .entry)))) × (now (buf .exit) ≡ runBytesIn (programIn (t .sizes) (now (heads .entry)) (now (starts .entry)) (now (bodies .entry))) (c .number) (now (buf .entry))) ⌝ }
-{
-    let mut at = c;
-    let mut lines: usize = 0;
-    let mut to: usize = 0;
-    while at.number <= t.clauses {
-        if !fits(
-            t,
-            heads,
-            starts,
-            bodies,
-            before,
-            partners,
-            owners,
-            at,
-            buf.len() - to,
-        ) {
-            return Part {
-                lines: lines,
-                bytes: to,
-                place: at,
-            };
-        }
-        let part = put_some(
-            t,
-            heads,
-            starts,
-            bodies,
-            before,
-            partners,
-            owners,
-            at,
-            &mut buf[to..],
-        );
-        to += part.bytes;
-        lines += part.lines;
-        at = part.place;
-    }
-    Part {
-        lines: lines,
-        bytes: to,
-        place: at,
-    }
 }
 
 // Line j into the buffer from place `from` on.

@@ -158,8 +158,8 @@ use Rattle.places.proofs.start.Statement.{statement as places-start·statement}
 use Rattle.places.proofs.start.Met.{met as places-start·met}
 use Rattle.places.proofs.next.Statement.{statement as places-next·statement}
 use Rattle.places.proofs.next.Met.{met as places-next·met}
-use Rattle.lines.proofs.put_lines.Statement.{statement as put-lines·statement}
-use Rattle.lines.proofs.put_lines.Met.{met as put-lines·met}
+use Rattle.runs.proofs.put_lines.Statement.{statement as put-lines·statement}
+use Rattle.runs.proofs.put_lines.Met.{met as put-lines·met}
 use Rattle.lines.proofs.line.Statement.{statement as line·statement}
 use Rattle.lines.proofs.line.Met.{met as line·met}
 use Rattle.lines.proofs.run.Statement.{statement as run·statement}
@@ -217,7 +217,8 @@ use Rattle.places.specs.Places.{placeAt, clauseIn}
 use Rattle.lines.specs.declared.LineRefusal.{LineRefusal}
 use Rattle.lines.specs.declared.LineVerdict.the-variants.{Written, Refused as LineRefused}
 use Rattle.lines.specs.declared.RunVerdict.the-variants.{WrittenRun, RefusedRun}
-use Rattle.lines.specs.Lines.{clauseTotal, lineOf, lineAnswer, lineBytes, runAnswer, runBytes}
+use Rattle.runs.specs.Lines.{clauseTotal, lineOf}
+use Rattle.lines.specs.Lines.{lineAnswer, lineBytes, runAnswer, runBytes}
 use Rattle.lines.specs.Rows.{LineRow, FirstLineRow, LineAnswers, RunWritten}
 use Rattle.lines.proofs.File as File
 use Rattle.lines.proofs.Rows.{answers-line-first, first-line-answers, first-line-unique, written-none, none-written}
@@ -339,6 +340,10 @@ use Rattle.rows.proofs.put_row.Statement.{statement as put-row·statement}
 use Rattle.rows.proofs.put_row.Met.{met as put-row·met}
 use Rattle.finding.proofs.place_of.Statement.{statement as place-of·statement}
 use Rattle.finding.proofs.place_of.Met.{met as place-of·met}
+use Rattle.runs.proofs.line_length.Statement.{statement as line-length·statement}
+use Rattle.runs.proofs.line_length.Met.{met as line-length·met}
+use Rattle.runs.proofs.put_line.Statement.{statement as put-line·statement}
+use Rattle.runs.proofs.put_line.Met.{met as put-line·met}
 use Rattle.places.proofs.past_row.Statement.{statement as past-row·statement}
 use Rattle.places.proofs.past_row.Met.{met as past-row·met}
 use Rattle.files.proofs.rest_length.Statement.{statement as rest-length·statement}
@@ -1011,7 +1016,9 @@ pub record Lines (M : Type 1) : Type 2 where
   -- a refusal's number and spot are `lineNumber` and `lineSpot`
   pub line-number-of : line-number-of·statement M
   pub line-spot-of : line-spot-of·statement M
-  -- the lines from a place on, as many as fit
+  -- the line at a place, its length, and the lines from there on, as many as fit
+  pub put-line : put-line·statement M
+  pub line-length : line-length·statement M
   pub put-lines : put-lines·statement M
   -- the lines of a clause and of a refusal, and line 0, written into a lent buffer: the bytes behind them stay
   pub put-clause : put-clause·statement M
@@ -1029,7 +1036,7 @@ pub record Lines (M : Type 1) : Type 2 where
   pub read-counted : read-counted·statement M
 
 pub lines : (M : Type 1) → Lines M
-lines M = record { line = line·met; run = run·met; line-number-of = line-number-of·met; line-spot-of = line-spot-of·met; put-lines = put-lines·met; put-clause = put-clause·met; clause-length = clause-length·met; is-rowed = is-rowed·met; put-row = put-row·met; put-header = put-header·met; header-length = header-length·met; put-refusal = put-refusal·met; put-word = put-word·met; literal-number = literal-number·met; read-counted = read-counted·met }
+lines M = record { line = line·met; run = run·met; line-number-of = line-number-of·met; line-spot-of = line-spot-of·met; put-line = put-line·met; line-length = line-length·met; put-lines = put-lines·met; put-clause = put-clause·met; clause-length = clause-length·met; is-rowed = is-rowed·met; put-row = put-row·met; put-header = put-header·met; header-length = header-length·met; put-refusal = put-refusal·met; put-word = put-word·met; literal-number = literal-number·met; read-counted = read-counted·met }
 
 -- answer_reader, assigning
 pub record AnswerReader (M : Type 1) : Type 2 where

@@ -16,10 +16,10 @@ use Rattle.tables.specs.declared.Totals.{Totals}
 use Rattle.tables.specs.Tables.{Stored, Tabled, pairTable, totalsOf, programIn}
 use Rattle.places.specs.declared.Place.{Place}
 use Rattle.places.specs.Places.{placeAt}
-use Rattle.lines.specs.declared.Part.{Part}
-use Rattle.lines.specs.Lines.{partIn, runIn, runBytesIn}
+use Rattle.runs.specs.declared.Part.{Part}
+use Rattle.runs.specs.Lines.{partIn, runIn, runBytesIn}
 use Rattle.lines.proofs.Open.{program-is, tabled}
-use Rattle.lines.proofs.Runs.{part-bytes, part-place, part-within, part-onward}
+use Rattle.runs.proofs.Runs.{part-bytes, part-place, part-within, part-onward}
 use Rattle.writing.specs.Onward.{Onward}
 
 module _ {A : Arrays} {k : Pairs} {t : Totals} (pre : Stored A × (k ≡ pairTable (decoded A)) × (t ≡ totalsOf (decoded A))) where

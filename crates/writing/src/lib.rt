@@ -1,8 +1,6 @@
 // The writer: reads a program text from standard input and prints its clause file, or why the text is refused (document 01, "Programs").
 use files::rest_length;
 use input::read_counted;
-use lines::Part;
-use lines::put_lines;
 use places::Place;
 use places::start;
 use printing::put_refusal;
@@ -11,6 +9,8 @@ use program::ReadVerdict;
 use program::TextRefusal;
 use program::number_of;
 use program::spot_of;
+use runs::Part;
+use runs::put_lines;
 use tables::Pairs;
 use tables::Totals;
 use tabling::pairs_of;
@@ -22,7 +22,7 @@ ghost use Rattle.io.specs.Counts.{Counts};
 ghost use Rattle.reader_laws.specs.Decoded.{decoded};
 ghost use Rattle.tables.specs.Tables.{Stored, pairTable, totalsOf};
 ghost use Rattle.places.specs.Places.{placeAt};
-ghost use Rattle.lines.specs.Lines.{partIn, runBytesIn};
+ghost use Rattle.runs.specs.Lines.{partIn, runBytesIn};
 ghost use Rattle.writing.specs.Onward.{Onward};
 
 // Prints the line of a refusal.

@@ -8,9 +8,9 @@ use Rattle.lines.proofs.line_in.Statement.{statement}
 use Rattle.lines.proofs.line_in.Tie as tie
 use Rattle.lines.proofs.line_in.Reads as reads
 use Rattle.lines.proofs.line_in.Lts as lts
-use Rattle.lines.proofs.line_length.Reads as line-length-reads
+use Rattle.runs.proofs.line_length.Reads as line-length-reads
 use Rattle.finding.proofs.place_of.Reads as place-of-reads
-use Rattle.lines.proofs.put_line.Reads as put-line-reads
+use Rattle.runs.proofs.put_line.Reads as put-line-reads
 
 -- src/lib.rt:138:9
 returns : tie.Need-returns

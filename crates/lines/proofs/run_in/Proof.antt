@@ -1,6 +1,6 @@
 use Rattle.lines.proofs.Answer.{need-is, placed-within, placed-part, run-past, run-refused, run-written}
 use Rattle.places.proofs.Numbers.{own-number}
-use Rattle.lines.specs.declared.Part.{Part}
+use Rattle.runs.specs.declared.Part.{Part}
 use native.Mathlib.Omega.{arith}
 use mathlib.Core.Path.{ap}
 use denote.Ref.{now}
@@ -9,9 +9,9 @@ use Rattle.lines.proofs.run_in.Statement.{statement}
 use Rattle.lines.proofs.run_in.Tie as tie
 use Rattle.lines.proofs.run_in.Reads as reads
 use Rattle.lines.proofs.run_in.Lts as lts
-use Rattle.lines.proofs.line_length.Reads as line-length-reads
+use Rattle.runs.proofs.line_length.Reads as line-length-reads
 use Rattle.finding.proofs.place_of.Reads as place-of-reads
-use Rattle.lines.proofs.put_lines.Reads as put-lines-reads
+use Rattle.runs.proofs.put_lines.Reads as put-lines-reads
 
 -- src/lib.rt:157:9
 returns : tie.Need-returns

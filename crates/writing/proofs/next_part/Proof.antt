@@ -7,7 +7,7 @@ use Rattle.writing.proofs.next_part.Statement.{statement}
 use Rattle.writing.proofs.next_part.Tie as tie
 use Rattle.writing.proofs.next_part.Reads as reads
 use Rattle.writing.proofs.next_part.Lts as lts
-use Rattle.lines.proofs.put_lines.Reads as put-lines-reads
+use Rattle.runs.proofs.put_lines.Reads as put-lines-reads
 
 -- src/lib.rt:72:5
 put-lines-requires : tie.Need-put-lines-requires

@@ -1,13 +1,13 @@
-use Rattle.lines.proofs.Placed.{short-fits}
+use Rattle.runs.proofs.Placed.{short-fits}
 use lib.Dec.{leb}
 use Prim.Native.Nat.{ℕ}
 use mathlib.Core.Path.{ap}
 use borrow.Author.Needs.{needs}
-use Rattle.lines.proofs.fits.Statement.{statement}
-use Rattle.lines.proofs.fits.Tie as tie
-use Rattle.lines.proofs.fits.Reads as reads
-use Rattle.lines.proofs.fits.Lts as lts
-use Rattle.lines.proofs.line_length.Reads as line-length-reads
+use Rattle.runs.proofs.fits.Statement.{statement}
+use Rattle.runs.proofs.fits.Tie as tie
+use Rattle.runs.proofs.fits.Reads as reads
+use Rattle.runs.proofs.fits.Lts as lts
+use Rattle.runs.proofs.line_length.Reads as line-length-reads
 
 -- src/lib.rt:83:9
 returns : tie.Need-returns

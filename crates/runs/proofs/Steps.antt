@@ -25,10 +25,10 @@ use Rattle.places.proofs.Numbers.{placed-at}
 use Rattle.places.proofs.RowPlaces.{along, place-some, row-size}
 use Rattle.printing.specs.Rows.{isRowed, rowText}
 use Rattle.rows.proofs.RowTexts.{row-short}
-use Rattle.lines.specs.Lines.{linesOf, lineOf}
-use Rattle.lines.specs.Taken.{Taken}
-use Rattle.lines.proofs.Placed.{lines-count, clause-is}
-use Rattle.lines.proofs.Runs.{joined-next}
+use Rattle.runs.specs.Lines.{linesOf, lineOf}
+use Rattle.runs.specs.Taken.{Taken}
+use Rattle.runs.proofs.Placed.{lines-count, clause-is}
+use Rattle.runs.proofs.Runs.{joined-next}
 
 -- k lines from line n on, line by line
 lines-each : (ls : List (List ℕ)) (n k : ℕ) → n + k ≤ length ls → joined (take k (drop n ls)) ≡ each k (λ y. getD ls (n + pred y) [])

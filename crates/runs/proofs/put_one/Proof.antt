@@ -1,11 +1,11 @@
 use denote.Ref.{now}
-use Rattle.lines.proofs.Steps.{one-taken}
+use Rattle.runs.proofs.Steps.{one-taken}
 use borrow.Author.Needs.{needs}
-use Rattle.lines.proofs.put_one.Statement.{statement}
-use Rattle.lines.proofs.put_one.Tie as tie
-use Rattle.lines.proofs.put_one.Reads as reads
-use Rattle.lines.proofs.put_one.Lts as lts
-use Rattle.lines.proofs.put_line.Reads as put-line-reads
+use Rattle.runs.proofs.put_one.Statement.{statement}
+use Rattle.runs.proofs.put_one.Tie as tie
+use Rattle.runs.proofs.put_one.Reads as reads
+use Rattle.runs.proofs.put_one.Lts as lts
+use Rattle.runs.proofs.put_line.Reads as put-line-reads
 use Rattle.places.proofs.next.Reads as next-reads
 
 -- src/lib.rt:203:9

@@ -26,11 +26,11 @@ use Rattle.tables.specs.declared.Totals.{Totals}
 use Rattle.tables.specs.Tables.{Tabled}
 use Rattle.places.specs.declared.Place.{Place}
 use Rattle.places.specs.Places.{placeAt}
-use Rattle.lines.specs.declared.Part.{Part}
-use Rattle.lines.proofs.Placed.{lines-count, line-short, clauses-short}
+use Rattle.runs.specs.declared.Part.{Part}
+use Rattle.runs.proofs.Placed.{lines-count, line-short, clauses-short}
 use Rattle.places.proofs.Numbers.{own-number, number-is}
-use Rattle.lines.specs.Lines.{linesOf, lineOf, fitting, partIn, runBytesIn}
-use Rattle.lines.specs.Taken.{Taken}
+use Rattle.runs.specs.Lines.{linesOf, lineOf, fitting, partIn, runBytesIn}
+use Rattle.runs.specs.Taken.{Taken}
 
 pub joined-append : (xs ys : List (List ℕ)) → joined (xs ++ ys) ≡ joined xs ++ joined ys
 joined-append [] ys = refl

@@ -4,15 +4,15 @@ use native.Mathlib.Omega.{arith}
 use borrow.Author.Needs.{needs}
 use Rattle.tables.specs.Tables.{programIn}
 use Rattle.places.specs.Places.{placeAt}
-use Rattle.lines.specs.Lines.{linesOf}
-use Rattle.lines.proofs.Runs.{Going, begun, part-out, part-full, line-asks, lines-fit, sum-fits, run-goes-on, run-less}
+use Rattle.runs.specs.Lines.{linesOf}
+use Rattle.runs.proofs.Runs.{Going, begun, part-out, part-full, line-asks, lines-fit, sum-fits, run-goes-on, run-less}
 use borrow.Author.Tests.{not-true, not-false}
-use Rattle.lines.proofs.put_lines.Statement.{statement}
-use Rattle.lines.proofs.put_lines.Tie as tie
-use Rattle.lines.proofs.put_lines.Reads as reads
-use Rattle.lines.proofs.put_lines.Lts as lts
-use Rattle.lines.proofs.fits.Reads as fits-reads
-use Rattle.lines.proofs.put_some.Reads as put-some-reads
+use Rattle.runs.proofs.put_lines.Statement.{statement}
+use Rattle.runs.proofs.put_lines.Tie as tie
+use Rattle.runs.proofs.put_lines.Reads as reads
+use Rattle.runs.proofs.put_lines.Lts as lts
+use Rattle.runs.proofs.fits.Reads as fits-reads
+use Rattle.runs.proofs.put_some.Reads as put-some-reads
 
 abbrev Inv-loop : tie.InvT-loop
 Inv-loop t heads starts bodies before partners owners buf₀ at₀ lines₀ to₀ buf at lines to = (at ≡ placeAt (programIn (t .sizes) heads starts bodies) (t .sizes .w) (at .number)) × (at .number ≤ suc (t .clauses)) × Going (linesOf (programIn (t .sizes) heads starts bodies)) (at₀ .number) buf₀ (at .number) lines to buf

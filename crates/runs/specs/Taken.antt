@@ -8,8 +8,8 @@ use lib.ListN.{length, take, drop}
 use Rattle.lists.specs.Lists.{joined}
 use Rattle.meaning.specs.Program.{Program}
 use Rattle.places.specs.Places.{placeAt}
-use Rattle.lines.specs.declared.Part.{Part}
-use Rattle.lines.specs.Lines.{linesOf}
+use Rattle.runs.specs.declared.Part.{Part}
+use Rattle.runs.specs.Lines.{linesOf}
 
 pub record Taken (P : Program) (w n : ℕ) (r : Part) (b c : List ℕ) : Type 0 where
   pub some : 0 < r .lines

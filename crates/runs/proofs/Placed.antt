@@ -31,7 +31,7 @@ use Rattle.printing.proofs.Parts.{header-small, header-length}
 use Rattle.places.specs.declared.Place.{Place}
 use Rattle.places.specs.Places.{placeAt}
 use Rattle.places.proofs.Numbers.{placed-clause}
-use Rattle.lines.specs.Lines.{linesOf, lineOf, clauseTotal}
+use Rattle.runs.specs.Lines.{linesOf, lineOf, clauseTotal}
 
 module _ {P : Program} {t : Totals} {hs ss bs ks xs ys : List ℕ} (T : Tabled P t hs ss bs ks xs ys) where
   abbrev w : ℕ

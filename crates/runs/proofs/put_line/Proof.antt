@@ -1,11 +1,11 @@
-use Rattle.lines.proofs.Placed.{header-asks, header-line, clause-is, some-number, as-line, line-in-room}
+use Rattle.runs.proofs.Placed.{header-asks, header-line, clause-is, some-number, as-line, line-in-room}
 use Rattle.places.proofs.Numbers.{placed-at}
 use denote.Ref.{now}
 use borrow.Author.Needs.{needs}
-use Rattle.lines.proofs.put_line.Statement.{statement}
-use Rattle.lines.proofs.put_line.Tie as tie
-use Rattle.lines.proofs.put_line.Reads as reads
-use Rattle.lines.proofs.put_line.Lts as lts
+use Rattle.runs.proofs.put_line.Statement.{statement}
+use Rattle.runs.proofs.put_line.Tie as tie
+use Rattle.runs.proofs.put_line.Reads as reads
+use Rattle.runs.proofs.put_line.Lts as lts
 use Rattle.printing.proofs.put_clause.Reads as put-clause-reads
 use Rattle.printing.proofs.put_header.Reads as put-header-reads
 

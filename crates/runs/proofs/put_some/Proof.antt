@@ -1,11 +1,11 @@
 use mathlib.Core.Path.{sym, _∙_}
 use borrow.Author.Needs.{needs}
-use Rattle.lines.proofs.put_some.Statement.{statement}
-use Rattle.lines.proofs.put_some.Tie as tie
-use Rattle.lines.proofs.put_some.Reads as reads
-use Rattle.lines.proofs.put_some.Lts as lts
-use Rattle.lines.proofs.put_one.Reads as put-one-reads
-use Rattle.lines.proofs.put_whole_row.Reads as put-whole-row-reads
+use Rattle.runs.proofs.put_some.Statement.{statement}
+use Rattle.runs.proofs.put_some.Tie as tie
+use Rattle.runs.proofs.put_some.Reads as reads
+use Rattle.runs.proofs.put_some.Lts as lts
+use Rattle.runs.proofs.put_one.Reads as put-one-reads
+use Rattle.runs.proofs.put_whole_row.Reads as put-whole-row-reads
 use Rattle.printing.proofs.is_rowed.Reads as is-rowed-reads
 
 -- src/lib.rt:238:16

@@ -1,11 +1,11 @@
-use Rattle.lines.proofs.Placed.{header-asks, header-line, clause-is, some-number}
+use Rattle.runs.proofs.Placed.{header-asks, header-line, clause-is, some-number}
 use Rattle.places.proofs.Numbers.{placed-at}
 use lib.ListN.{length}
 use mathlib.Core.Path.{_∙_, ap}
-use Rattle.lines.proofs.line_length.Statement.{statement}
-use Rattle.lines.proofs.line_length.Tie as tie
-use Rattle.lines.proofs.line_length.Reads as reads
-use Rattle.lines.proofs.line_length.Lts as lts
+use Rattle.runs.proofs.line_length.Statement.{statement}
+use Rattle.runs.proofs.line_length.Tie as tie
+use Rattle.runs.proofs.line_length.Reads as reads
+use Rattle.runs.proofs.line_length.Lts as lts
 use Rattle.printing.proofs.clause_length.Reads as clause-length-reads
 use Rattle.printing.proofs.header_length.Reads as header-length-reads
 

@@ -1,10 +1,10 @@
-use Rattle.lines.proofs.Steps.{row-asks, row-taken}
+use Rattle.runs.proofs.Steps.{row-asks, row-taken}
 use denote.Ref.{now}
 use borrow.Author.Needs.{needs}
-use Rattle.lines.proofs.put_whole_row.Statement.{statement}
-use Rattle.lines.proofs.put_whole_row.Tie as tie
-use Rattle.lines.proofs.put_whole_row.Reads as reads
-use Rattle.lines.proofs.put_whole_row.Lts as lts
+use Rattle.runs.proofs.put_whole_row.Statement.{statement}
+use Rattle.runs.proofs.put_whole_row.Tie as tie
+use Rattle.runs.proofs.put_whole_row.Reads as reads
+use Rattle.runs.proofs.put_whole_row.Lts as lts
 use Rattle.places.proofs.past_row.Reads as past-row-reads
 use Rattle.rows.proofs.put_row.Reads as put-row-reads
 
