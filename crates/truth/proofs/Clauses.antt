@@ -1,16 +1,16 @@
 -- Truth of a clause slot by slot, and the first false clause place by place, from the tables.
 -- Assumes nothing.
-use Prim.Native.Nat.{ℕ, zero, suc, _+_, _-_, _≤_, _<_}
-use native.Mathlib.Nat.{le-trans, le-antisymm, not-suc-le-zero}
-use native.Mathlib.Numerals.{add-one}
+use Prim.Native.Nat.{ℕ, zero, suc, pred, _+_, _-_, _≤_, _<_}
+use native.Mathlib.Nat.{le-trans, le-antisymm, not-suc-le-zero, suc-add}
+use native.Mathlib.Numerals.{add-one, one-add}
 use native.Mathlib.Omega.{arith}
 use mathlib.Core.Path.{_≡_, refl, sym, _∙_, ap, ap₂, subst}
-use mathlib.Core.Bool.{Bool, true, false, not, _||_, So}
+use mathlib.Core.Bool.{Bool, true, false, not, _||_, cond, So, false≢true}
 use mathlib.Core.List.{List, [], _∷_}
 use lib.ListN.{length}
 use Rattle.lists.specs.Lists.{all, any, each, first}
 use Rattle.lists.proofs.Bools.{and-left, not-So}
-use Rattle.lists.proofs.Tests.{le-or-lt, up-to, any-append, any-each, anyTo-in}
+use Rattle.lists.proofs.Tests.{le-or-lt, up-to, allTo-at, any-append, any-each, anyTo-in}
 use Rattle.lists.proofs.First.{IsFirst, first-is, first-le, first-none}
 use Rattle.theory.proofs.Atoms.{atom-le}
 use mathlib.Core.Logic.{⊎-elim}
@@ -20,7 +20,7 @@ use Rattle.encoding.specs.Literal.{Literal, literalTrue, clauseTrue, variable}
 use Rattle.encoding.specs.Clauses.{clauses, variables}
 use Rattle.theory.proofs.Widths.{width-enough}
 use Rattle.theory.proofs.Counts.{count-whole}
-use Rattle.walk.specs.Walk.{slots, slot, clauseAt, At}
+use Rattle.walk.specs.Walk.{size, slots, slot, clauseAt, At}
 use Rattle.slots.specs.declared.Signed.{Signed}
 use Rattle.slots.specs.Signed.{literalIn, held}
 use Rattle.tables.specs.declared.Totals.{Totals}
@@ -32,10 +32,13 @@ use Rattle.layout.proofs.Passed.{passed, passed-each}
 use Rattle.printing.specs.Lines.{literalsIn}
 use Rattle.printing.proofs.Held.{held-is}
 use Rattle.printing.proofs.Clause.{slotted, slot-asks}
+use Rattle.places.specs.declared.Spot.{Spot}
 use Rattle.places.specs.declared.Place.{Place}
 use Rattle.places.specs.Places.{placeAt}
-use Rattle.places.proofs.Numbers.{number-is, own-number, placed-clause}
+use Rattle.places.proofs.Numbers.{number-is, own-number, placed-at, placed-clause}
+use Rattle.places.proofs.RowPlaces.{along, row-size}
 use Rattle.truth.specs.Truth.{valueIn, falseAt, firstFalse}
+use Rattle.row_truth.specs.Rows.{rowTrue, isWhole, rowPasses}
 use Rattle.truth.proofs.Values.{variable-in}
 
 or-false : (a b : Bool) → a ≡ false → b ≡ false → (a || b) ≡ false
@@ -48,6 +51,13 @@ held-in n (z ∷ ls) u = atom-le n (variable z) (and-left (isAtom n (variable z)
 -- the first n clauses are true
 pub record TrueTo (P : Program) (vs : List ℕ) (n : ℕ) : Type 0 where
   pub each-true : (j : ℕ) → j < n → falseAt P vs (suc j) ≡ false
+
+-- where the walk stands: at a place, with all clauses before it true
+pub record Standing (P : Program) (t : Totals) (vs : List ℕ) (c : Place) : Type 0 where
+  pub own : c ≡ placeAt P (t .sizes .w) (c .number)
+  pub some : 0 < c .number
+  pub within : c .number ≤ suc (t .clauses)
+  pub true-before : TrueTo P vs (pred (c .number))
 
 module _ {P : Program} {t : Totals} {hs ss bs ks xs ys : List ℕ} (T : Tabled P t hs ss bs ks xs ys) where
   abbrev w : ℕ
@@ -141,14 +151,80 @@ module _ {P : Program} {t : Totals} {hs ss bs ks xs ys : List ℕ} (T : Tabled P
     none-false n h G =
         sym (first-none (length (clauses P (width (P .atoms)))) (falseAt P vs) (λ i l. G .each-true i (le-trans (subst (λ (k : ℕ). i < k) clauses-many l) h)))
 
-    pub started : {c : Place} → c ≡ placeAt P w 0 → (c ≡ placeAt P w (c .number)) × (c .number ≤ t .clauses) × TrueTo P vs (c .number)
-    started {c} e = (own-number T e, omega (arith, number-is T e), subst (TrueTo P vs) (sym (number-is T e)) none-before)
+    stands-by : {c : Place} {n : ℕ} → c ≡ placeAt P w (suc n) → n ≤ t .clauses → TrueTo P vs n → Standing P t vs c
+    stands-by {c} {n} e h G =
+        record {
+          own = own-number T e;
+          some = omega (arith, number-is T e);
+          within = omega (arith, number-is T e, h);
+          true-before = subst (λ (k : ℕ). TrueTo P vs (pred k)) (sym (number-is T e)) G;
+        }
 
-  -- the place after clause n's
+    pub start-asks : {c : Place} → c ≡ placeAt P w 0 → (c ≡ placeAt P w (c .number)) × (c .number ≤ t .clauses)
+    start-asks e = (own-number T e, omega (arith, number-is T e))
 
-  module _ {n : ℕ} {d : Place} (e : d ≡ placeAt P w (suc n)) where
-    pub next-some : 0 < d .number
-    next-some = omega (arith, number-is T e)
+    pub begun : {c d : Place} → c ≡ placeAt P w 0 → d ≡ placeAt P w (suc (c .number)) → Standing P t vs d
+    begun e f = stands-by (f ∙ ap (λ (n : ℕ). placeAt P w (suc n)) (number-is T e)) (omega arith) none-before
 
-    pub next-within : n < t .clauses → d .number ≤ t .clauses
-    next-within h = subst (λ (k : ℕ). k ≤ t .clauses) (sym (number-is T e)) h
+    module _ {c : Place} (S : Standing P t vs c) (h : c .number ≤ t .clauses) where
+      one-before : c .number ≡ suc (pred (c .number))
+      one-before = go (c .number) (S .some)
+        where
+          go : (n : ℕ) → 0 < n → n ≡ suc (pred n)
+          go zero p = absurd (not-suc-le-zero p)
+          go (suc n) p = refl
+
+      pub clause-asks : At P w (c .spot .group) (c .spot .item) (c .spot .row) (c .spot .clause)
+      clause-asks = placed-at T (S .own) (S .some) h
+
+      module _ {r : Bool} (u : r ≡ clauseTrue (valueIn vs) (clauseAt P w (c .spot .group) (c .spot .item) (c .spot .row) (c .spot .clause))) where
+        pub clause-passed : r ≡ true → {d : Place} → d ≡ placeAt P w (suc (c .number)) → Standing P t vs d
+        clause-passed z e = stands-by e h (true-to (S .own) (S .some) h u (pred (c .number)) one-before z (S .true-before))
+
+        pub clause-false : r ≡ false → c .number ≡ firstFalse P vs
+        clause-false z = first-found (S .own) (S .some) h u (pred (c .number)) one-before z (S .true-before)
+
+      -- the row that begins at c
+      module _ (z : c .spot .clause ≡ 1) {r : Bool} (u : r ≡ rowPasses P w (valueIn vs) (c .spot .group) (c .spot .item) (c .spot .row)) (v : r ≡ true) where
+        row-clause : (y : ℕ) → y ≤ c .spot .clauses → So (clauseTrue (valueIn vs) (clauseAt P w (c .spot .group) (c .spot .item) (c .spot .row) (suc y)))
+        unfolding rowTrue
+        row-clause y q =
+            allTo-at (size P w (c .spot .group) (c .spot .item) (c .spot .row)) (λ y. clauseTrue (valueIn vs) (clauseAt P w (c .spot .group) (c .spot .item) (c .spot .row) y))
+            (whole (isWhole (c .spot .group)) (rowTrue P w (valueIn vs) (c .spot .group) (c .spot .item) (c .spot .row)) (sym u ∙ v)) y
+            (subst (λ (n : ℕ). y < n) (row-size T (S .own) h (S .some)) (omega (arith, q, z)))
+          where
+            whole : (d e : Bool) → cond d e false ≡ true → e ≡ true
+            whole true e p = p
+            whole false e p = absurd (false≢true p)
+
+        row-false : (y : ℕ) → y ≤ c .spot .clauses → falseAt P vs (suc (pred (c .number) + y)) ≡ false
+        row-false y q =
+            ap (falseAt P vs) (number-at (c .number) y one-before)
+            ∙ ap not
+            (ap (clauseTrue (valueIn vs))
+            (sym (placed-clause T {c = placeAt P w (c .number + y)} refl (omega (arith, S .some)) (along T (S .own) h y q .listed))
+            ∙ ap (λ (d : Spot). clauseAt P w (d .group) (d .item) (d .row) (d .clause)) (along T (S .own) h y q .stands)
+            ∙ ap (λ (n : ℕ). clauseAt P w (c .spot .group) (c .spot .item) (c .spot .row) (n + y)) z)
+            ∙ row-clause-at y q)
+          where
+            number-at : (n y : ℕ) → n ≡ suc (pred n) → suc (pred n + y) ≡ n + y
+            number-at n y q = sym (ap (λ (m : ℕ). m + y) q ∙ suc-add (pred n) y)
+
+            row-clause-at : (y : ℕ) → y ≤ c .spot .clauses → clauseTrue (valueIn vs) (clauseAt P w (c .spot .group) (c .spot .item) (c .spot .row) (1 + y)) ≡ true
+            row-clause-at y q = ap (λ (n : ℕ). clauseTrue (valueIn vs) (clauseAt P w (c .spot .group) (c .spot .item) (c .spot .row) n)) (one-add y) ∙ row-clause y q
+
+        row-to : (k : ℕ) → k ≤ suc (c .spot .clauses) → (j : ℕ) → j < pred (c .number) + k → falseAt P vs (suc j) ≡ false
+        row-to zero q j l = S .true-before .each-true j (omega (arith, l))
+        row-to (suc k) q j l =
+            up-to (λ j. falseAt P vs (suc j) ≡ false) (pred (c .number) + k) (row-to k (omega (arith, q))) (row-false k (omega (arith, q))) j (omega (arith, l))
+
+        pub row-passed : {d : Place} → (d ≡ placeAt P w (suc (c .number + c .spot .clauses))) × (c .number + c .spot .clauses ≤ t .clauses) → Standing P t vs d
+        row-passed e =
+            stands-by (e .0) (e .1) (record { each-true = λ j l. row-to (suc (c .spot .clauses)) (omega arith) j (omega (arith, l, one-before)) })
+
+    pub ended : {c : Place} → Standing P t vs c → t .clauses < c .number → 0 ≡ firstFalse P vs
+    ended {c} S h = none-false (pred (c .number)) (below (c .number) h) (S .true-before)
+      where
+        below : (n : ℕ) {k : ℕ} → k < n → k ≤ pred n
+        below zero q = absurd (not-suc-le-zero q)
+        below (suc n) q = omega (arith, q)

@@ -1,4 +1,4 @@
--- Values: truth of single literals and of slots
+-- Values: truth of slots
 -- Clauses: truth of a clause, and the first false one
 pub mod Values
 pub mod Clauses

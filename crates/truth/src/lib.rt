@@ -1,44 +1,33 @@
-// Truth of literals and clauses under an assignment (document 01, "Check and filling out").
+// Truth of clauses under an assignment (document 01, "Check and filling out").
 use layout::chain_at;
 use layout::literal_in;
 use layout::past_empty;
 use layout::slots;
-use literals::is_negative;
-use literals::magnitude;
 use places::next;
+use places::past_row;
 use places::start;
 use printing::number_of;
+use row_truth::holds;
+use row_truth::row_passes;
+use row_truth::value_of as value;
 use slots::Signed;
 use tables::Totals;
-ghost use Prim.Native.Nat.{_^_, _≤_, _<_};
+ghost use Prim.Native.Nat.{_≤_, _<_};
 ghost use mathlib.Core.Path.{_≡_};
-ghost use lib.IntN.{natAbs};
 ghost use lib.ListN.{length};
 ghost use Rattle.lists.specs.Lists.{any};
 ghost use Rattle.encoding.specs.Literal.{literalTrue, clauseTrue};
 ghost use Rattle.walk.specs.Walk.{clauseAt, At};
 ghost use Rattle.tables.specs.Tables.{programIn, Ready};
 ghost use Rattle.printing.specs.Lines.{literalsIn};
-ghost use Rattle.truth.specs.Truth.{valueIn, numberTrue, firstFalse};
+ghost use Rattle.truth.specs.Truth.{valueIn, firstFalse};
 
 // Whether variable v has 1.
 pub fn value_of(assignment: &[u8], v: usize) -> bool
     requires { ⌜ (0 < v) × (v ≤ length (now assignment)) ⌝ }
     ensures { λ r. ⌜ r ≡ valueIn (now (assignment .entry)) v ⌝ }
 {
-    assignment[v - 1] != 0
-}
-
-// Whether the literal x is true: its sign and its variable's value.
-fn holds(x: i32, assignment: &[u8]) -> bool
-    requires { ⌜ (natAbs x < 2 ^ 31) × (0 < natAbs x) × (natAbs x ≤ length (now assignment)) ⌝ }
-    ensures { λ r. ⌜ r ≡ numberTrue (now (assignment .entry)) x ⌝ }
-{
-    let v = value_of(assignment, magnitude(x) as usize);
-    if is_negative(x) {
-        return !v;
-    }
-    v
+    value(assignment, v)
 }
 
 // Whether a slot holds a true literal.
@@ -123,10 +112,36 @@ pub fn first_false<'a>(
     requires { ⌜ (Ready t (now heads) (now starts) (now bodies) (now before) (now partners) (now owners)) × (t .vars ≤ length (now assignment)) ⌝ }
     ensures { λ r. ⌜ r ≡ firstFalse (programIn (t .sizes) (now (heads .entry)) (now (starts .entry)) (now (bodies .entry))) (now (assignment .entry)) ⌝ }
 {
-    let mut at = start(t, heads, starts, bodies, before, partners, owners);
-    while at.number < t.clauses {
-        at = next(t, heads, starts, bodies, before, partners, owners, at);
+    let mut at = next(
+        t,
+        heads,
+        starts,
+        bodies,
+        before,
+        partners,
+        owners,
+        start(t, heads, starts, bodies, before, partners, owners),
+    );
+    while at.number <= t.clauses {
         let s = at.spot;
+        if s.clause == 1 {
+            if row_passes(
+                t,
+                heads,
+                starts,
+                bodies,
+                before,
+                partners,
+                owners,
+                s.group,
+                s.item,
+                s.row,
+                assignment,
+            ) {
+                at = past_row(t, heads, starts, bodies, before, partners, owners, at);
+                continue;
+            }
+        }
         if !clause_holds(
             t,
             heads,
@@ -143,6 +158,7 @@ pub fn first_false<'a>(
         ) {
             return at.number;
         }
+        at = next(t, heads, starts, bodies, before, partners, owners, at);
     }
     0
 }

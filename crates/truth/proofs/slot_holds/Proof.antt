@@ -10,7 +10,7 @@ use Rattle.truth.proofs.slot_holds.Tie as tie
 use Rattle.truth.proofs.slot_holds.Reads as reads
 use Rattle.truth.proofs.slot_holds.Lts as lts
 use Rattle.printing.proofs.number_of.Reads as number-of-reads
-use Rattle.truth.proofs.holds.Reads as holds-reads
+use Rattle.row_truth.proofs.holds.Reads as holds-reads
 
 -- src/lib.rt:50:9
 returns : tie.Need-returns

@@ -1,14 +1,14 @@
-use Rattle.truth.proofs.Values.{true-negative, true-positive, place-asks}
+use Rattle.row_truth.proofs.Values.{true-negative, true-positive, place-asks}
 use mir.Facts.{toZ-ofZ}
 use denote.Ref.{now}
 use borrow.Author.Needs.{needs}
-use Rattle.truth.proofs.holds.Statement.{statement}
-use Rattle.truth.proofs.holds.Tie as tie
-use Rattle.truth.proofs.holds.Reads as reads
-use Rattle.truth.proofs.holds.Lts as lts
+use Rattle.row_truth.proofs.holds.Statement.{statement}
+use Rattle.row_truth.proofs.holds.Tie as tie
+use Rattle.row_truth.proofs.holds.Reads as reads
+use Rattle.row_truth.proofs.holds.Lts as lts
 use Rattle.literals.proofs.is_negative.Reads as is-negative-reads
 use Rattle.literals.proofs.magnitude.Reads as magnitude-reads
-use Rattle.truth.proofs.value_of.Reads as value-of-reads
+use Rattle.row_truth.proofs.value_of.Reads as value-of-reads
 
 -- src/lib.rt:37:34
 magnitude-requires : tie.Need-magnitude-requires

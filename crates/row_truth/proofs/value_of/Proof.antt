@@ -1,10 +1,10 @@
-use Rattle.truth.proofs.Values.{value-is}
+use Rattle.row_truth.proofs.Values.{value-is}
 use denote.Ref.{now}
 use borrow.Author.Needs.{needs}
-use Rattle.truth.proofs.value_of.Statement.{statement}
-use Rattle.truth.proofs.value_of.Tie as tie
-use Rattle.truth.proofs.value_of.Reads as reads
-use Rattle.truth.proofs.value_of.Lts as lts
+use Rattle.row_truth.proofs.value_of.Statement.{statement}
+use Rattle.row_truth.proofs.value_of.Tie as tie
+use Rattle.row_truth.proofs.value_of.Reads as reads
+use Rattle.row_truth.proofs.value_of.Lts as lts
 
 -- src/lib.rt:29:16
 sub-result : tie.Need-sub-result

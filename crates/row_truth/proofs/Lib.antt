@@ -1,0 +1,6 @@
+-- Values: truth of single literals
+-- RowLaws: truth of the clauses of rows, over plain numbers
+-- WholeRows: the rows that are taken whole, from the tables
+pub mod Values
+pub mod RowLaws
+pub mod WholeRows

@@ -1,0 +1,67 @@
+-- Truth of whole rows of the walk: group 3, the next levels, group 4, and the chains' bits, group 5.
+--   Has bs v                    variable v has a byte in bs
+--   twoTrue, threeTrue          a clause of two literals is true, of three, each by its sign and its variable
+--   BitIn bs c i                the variables of bit i of the chain c have bytes in bs
+--   bitTrue A c i               every clause of that bit is true
+--   nextTrue A S a i            group 4: every clause of row i of atom a is true
+--   zeroTrue A S a              group 3: every clause of atom a is true
+--   rowTrue P w A g a i         every clause of row i of item a of group g is true
+--   rowPasses P w A g a i       group g is 3, 4 or 5, and every clause of that row is true
+-- Assumes nothing.
+use Prim.Native.Nat.{ℕ, _*_, _≤_, _<_}
+use mathlib.Core.Path.{_≡_}
+use mathlib.Core.Bool.{Bool, true, false, _||_, cond}
+use mathlib.Core.List.{List}
+use lib.Dec.{eqb}
+use lib.ListN.{length}
+use Rattle.lists.specs.Lists.{allTo, anyTo}
+use Rattle.meaning.specs.Program.{Program}
+use Rattle.encoding.specs.Literal.{Assignment, literalTrue, clauseTrue}
+use Rattle.encoding.specs.Variables.{Sizes}
+use Rattle.walk.specs.Walk.{signed, slot3, slots4, slot4, chainSize, chainSlots, chainSlot, size, clauseAt}
+use Rattle.slots.specs.declared.Chain.{Chain}
+
+abbrev pub Has : List ℕ → ℕ → Type 0
+Has bs v = (0 < v) × (v ≤ length bs)
+
+abbrev pub twoTrue : Assignment → Bool → ℕ → Bool → ℕ → Bool
+twoTrue A p x q y = literalTrue A (signed p x) || literalTrue A (signed q y)
+
+abbrev pub threeTrue : Assignment → Bool → ℕ → Bool → ℕ → Bool → ℕ → Bool
+threeTrue A p x q y s z = (literalTrue A (signed p x) || literalTrue A (signed q y)) || literalTrue A (signed s z)
+
+pub record BitIn (bs : List ℕ) (c : Chain) (i : ℕ) : Type 0 where
+  pub z-in : Has bs (c .z .0)
+  pub x-in : Has bs (c .x .0)
+  pub y-in : Has bs (c .y .0)
+  -- the first bit has no bit before it
+  pub g-in : (i ≡ 1 → ⊥) → Has bs (c .g .0)
+
+-- clause y of the bit
+abbrev pub bitClause : Assignment → Chain → ℕ → ℕ → Bool
+bitClause A c i y = anyTo (chainSlots i y) (λ l. literalTrue A (chainSlot (c .z .0) (c .x .0) (c .y .0) (c .g .0) i y l))
+
+unfoldable pub bitTrue : Assignment → Chain → ℕ → Bool
+bitTrue A c i = allTo (chainSize i) (bitClause A c i)
+
+-- clause y of the row
+abbrev pub nextClause : Assignment → Sizes → ℕ → ℕ → ℕ → Bool
+nextClause A S a i y = anyTo (slots4 i y) (λ l. literalTrue A (slot4 S a i y l))
+
+unfoldable pub nextTrue : Assignment → Sizes → ℕ → ℕ → Bool
+nextTrue A S a i = allTo (2 * i) (nextClause A S a i)
+
+abbrev pub zeroClause : Assignment → Sizes → ℕ → ℕ → Bool
+zeroClause A S a y = anyTo 2 (λ l. literalTrue A (slot3 S a y l))
+
+unfoldable pub zeroTrue : Assignment → Sizes → ℕ → Bool
+zeroTrue A S a = allTo (S .w) (zeroClause A S a)
+
+unfoldable pub rowTrue : Program → ℕ → Assignment → ℕ → ℕ → ℕ → Bool
+rowTrue P w A g a i = allTo (size P w g a i) (λ y. clauseTrue A (clauseAt P w g a i y))
+
+abbrev pub isWhole : ℕ → Bool
+isWhole g = cond (eqb g 5) true (cond (eqb g 4) true (eqb g 3))
+
+abbrev pub rowPasses : Program → ℕ → Assignment → ℕ → ℕ → ℕ → Bool
+rowPasses P w A g a i = cond (isWhole g) (rowTrue P w A g a i) false
