@@ -2,7 +2,10 @@
 use layout::chain_at;
 use layout::literal_in;
 use layout::past_empty;
+use layout::size;
 use layout::slots;
+use places::Place;
+use places::Spot;
 use places::next;
 use places::past_row;
 use places::start;
@@ -12,13 +15,14 @@ use row_truth::row_passes;
 use row_truth::value_of as value;
 use slots::Signed;
 use tables::Totals;
-ghost use Prim.Native.Nat.{_≤_, _<_};
+ghost use Prim.Native.Nat.{suc, _+_, _≤_, _<_};
 ghost use mathlib.Core.Path.{_≡_};
 ghost use lib.ListN.{length};
 ghost use Rattle.lists.specs.Lists.{any};
 ghost use Rattle.encoding.specs.Literal.{literalTrue, clauseTrue};
 ghost use Rattle.walk.specs.Walk.{clauseAt, At};
 ghost use Rattle.tables.specs.Tables.{programIn, Ready};
+ghost use Rattle.places.specs.Places.{placeAt};
 ghost use Rattle.printing.specs.Lines.{literalsIn};
 ghost use Rattle.truth.specs.Truth.{valueIn, firstFalse};
 
@@ -98,6 +102,53 @@ pub fn clause_holds<'a>(
     false
 }
 
+// What `past_row` gives; a further row of the item is at hand without a call.
+fn behind_row<'a>(
+    t: Totals,
+    heads: &'a [u16],
+    starts: &'a [u16],
+    bodies: &'a [u16],
+    before: &'a [u16],
+    partners: &'a [u16],
+    owners: &'a [u16],
+    c: Place,
+) -> Place
+    requires { ⌜ (Ready t (now heads) (now starts) (now bodies) (now before) (now partners) (now owners)) × (c ≡ placeAt (programIn (t .sizes) (now heads) (now starts) (now bodies)) (t .sizes .w) (c .number)) × (c .number ≤ t .clauses) ⌝ }
+    ensures { λ r. ⌜ (r ≡ placeAt (programIn (t .sizes) (now (heads .entry)) (now (starts .entry)) (now (bodies .entry))) (t .sizes .w) (suc (c .number + c .spot .clauses))) × (c .number + c .spot .clauses ≤ t .clauses) ⌝ }
+{
+    let s = c.spot;
+    if 0 < s.rows {
+        let i = s.row + 1;
+        let k = size(
+            t,
+            heads,
+            starts,
+            bodies,
+            before,
+            partners,
+            owners,
+            s.group,
+            s.item,
+            i,
+        );
+        if 0 < k {
+            return Place {
+                number: c.number + s.clauses as usize + 1,
+                spot: Spot {
+                    group: s.group,
+                    item: s.item,
+                    row: i,
+                    clause: 1,
+                    clauses: k - 1,
+                    rows: s.rows - 1,
+                    items: s.items,
+                },
+            };
+        }
+    }
+    past_row(t, heads, starts, bodies, before, partners, owners, c)
+}
+
 // The first clause that is false, 0 if none is.
 pub fn first_false<'a>(
     t: Totals,
@@ -138,7 +189,7 @@ pub fn first_false<'a>(
                 s.row,
                 assignment,
             ) {
-                at = past_row(t, heads, starts, bodies, before, partners, owners, at);
+                at = behind_row(t, heads, starts, bodies, before, partners, owners, at);
                 continue;
             }
         }
