@@ -2,19 +2,44 @@
 --   behind-sum                 the number of the row's last clause fits
 --   behind-adds, behind-at     the further row
 --   behind-is                  its first place
+--   place-listed               a place with a clause is that of a clause in the list
 -- Assumes nothing.
 use Prim.Native.Nat.{ℕ, suc, _+_, _-_, _≤_, _<_}
 use native.Mathlib.Nat.{le-trans}
-use mathlib.Core.Path.{_≡_, refl}
-use mathlib.Core.List.{List}
+use native.Mathlib.Omega.{arith}
+use mathlib.Core.Path.{_≡_, refl, sym, _∙_, ap, subst}
+use mathlib.Core.Logic.{_⊎_, inl, inr}
+use mathlib.Core.List.{List, _∷_}
+use lib.ListN.{length, List·getD-eq-default}
+use Rattle.lists.proofs.Tests.{le-or-lt}
 use Rattle.meaning.specs.Program.{Program}
 use Rattle.walk.specs.Walk.{size, RowAt}
 use Rattle.tables.specs.declared.Totals.{Totals}
 use Rattle.tables.specs.Tables.{Tabled}
 use Rattle.places.specs.declared.Place.{Place}
-use Rattle.places.specs.Places.{placeAt}
-use Rattle.places.proofs.Numbers.{number-fits}
+use Rattle.places.specs.declared.Spot.{Spot}
+use Rattle.places.specs.Places.{spots, before, past, spotAt, placeAt}
+use Rattle.places.proofs.Numbers.{count-is, number-fits}
 use Rattle.places.proofs.RowPlaces.{last-is, behind, further-adds, further-at, further-row}
+
+-- behind the last clause
+spot-past : (P : Program) (w j : ℕ) → length (spots P w) < j → spotAt P w j ≡ past
+unfolding spotAt
+spot-past P w j h = List·getD-eq-default (before P 1 ∷ spots P w) past h
+
+pub place-listed : {P : Program} {t : Totals} {hs ss bs ks xs ys : List ℕ} (T : Tabled P t hs ss bs ks xs ys) {c : Place} → c ≡ placeAt P (t .sizes .w) (c .number) → 0 < c .spot .clause → c .number ≤ t .clauses
+place-listed {P} {t} T {c} e p = go (le-or-lt (c .number) (t .clauses))
+  where
+    go : (c .number ≤ t .clauses) ⊎ (t .clauses < c .number) → c .number ≤ t .clauses
+    go (inl l) = l
+    go (inr l) =
+        absurd
+        (omega (
+          arith,
+          p,
+          ap (λ (d : Place). d .spot .clause) e,
+          ap (λ (d : Spot). d .clause) (spot-past P (t .sizes .w) (c .number) (subst (λ (n : ℕ). n < c .number) (sym (count-is T)) l)),
+        ))
 
 module _ {P : Program} {t : Totals} {hs ss bs ks xs ys : List ℕ} (T : Tabled P t hs ss bs ks xs ys) {c : Place} (e : c ≡ placeAt P (t .sizes .w) (c .number)) (h : c .number ≤ t .clauses) where
   -- the place of the row's last clause

@@ -39,7 +39,9 @@ use Rattle.places.proofs.Numbers.{number-is, own-number, placed-at, placed-clau
 use Rattle.places.proofs.RowPlaces.{along, row-size}
 use Rattle.truth.specs.Truth.{valueIn, falseAt, firstFalse}
 use Rattle.row_truth.specs.Rows.{rowTrue, isWhole, rowPasses}
+use Rattle.truth.specs.Standing.{TrueTo, Standing, furtherRow}
 use Rattle.truth.proofs.Values.{variable-in}
+use Rattle.truth.proofs.Behind.{behind-is, place-listed}
 
 or-false : (a b : Bool) → a ≡ false → b ≡ false → (a || b) ≡ false
 or-false a b p q = ap₂ _||_ p q
@@ -47,17 +49,6 @@ or-false a b p q = ap₂ _||_ p q
 held-in : (n : ℕ) (ls : List Literal) → So (all (λ z. isAtom n (variable z)) ls) → variable (held ls) ≤ n
 held-in n [] u = omega arith
 held-in n (z ∷ ls) u = atom-le n (variable z) (and-left (isAtom n (variable z)) (all (λ z. isAtom n (variable z)) ls) u)
-
--- the first n clauses are true
-pub record TrueTo (P : Program) (vs : List ℕ) (n : ℕ) : Type 0 where
-  pub each-true : (j : ℕ) → j < n → falseAt P vs (suc j) ≡ false
-
--- where the walk stands: at a place, with all clauses before it true
-pub record Standing (P : Program) (t : Totals) (vs : List ℕ) (c : Place) : Type 0 where
-  pub own : c ≡ placeAt P (t .sizes .w) (c .number)
-  pub some : 0 < c .number
-  pub within : c .number ≤ suc (t .clauses)
-  pub true-before : TrueTo P vs (pred (c .number))
 
 module _ {P : Program} {t : Totals} {hs ss bs ks xs ys : List ℕ} (T : Tabled P t hs ss bs ks xs ys) where
   abbrev w : ℕ
@@ -221,6 +212,23 @@ module _ {P : Program} {t : Totals} {hs ss bs ks xs ys : List ℕ} (T : Tabled P
         pub row-passed : {d : Place} → (d ≡ placeAt P w (suc (c .number + c .spot .clauses))) × (c .number + c .spot .clauses ≤ t .clauses) → Standing P t vs d
         row-passed e =
             stands-by (e .0) (e .1) (record { each-true = λ j l. row-to (suc (c .spot .clauses)) (omega arith) j (omega (arith, l, one-before)) })
+
+    -- the next row of the item, behind one that is taken whole and true
+    pub furthered : {c : Place} (S : Standing P t vs c) (h : c .number ≤ t .clauses) → c .spot .clause ≡ 1 → 0 < c .spot .rows → {r : Bool}
+        → r ≡ rowPasses P w (valueIn vs) (c .spot .group) (c .spot .item) (c .spot .row) → r ≡ true → {k : ℕ}
+        → k ≡ size P w (c .spot .group) (c .spot .item) (c .spot .row + 1) → 0 < k → {d : Place} → d ≡ furtherRow c k
+        → (Standing P t vs d) × (c .number < d .number) × (d .number ≤ t .clauses)
+    furthered {c} S h z p u v {k} q l {d} e =
+        (D, omega (arith, ap (λ (x : Place). x .number) e), within-list)
+      where
+        at : d ≡ placeAt P w (suc (c .number + c .spot .clauses))
+        at = e ∙ behind-is T (S .own) h p q l .0
+
+        D : Standing P t vs d
+        D = row-passed S h z u v (at, behind-is T (S .own) h p q l .1)
+
+        within-list : d .number ≤ t .clauses
+        within-list = place-listed T (D .own) (omega (arith, ap (λ (x : Place). x .spot .clause) e))
 
     pub ended : {c : Place} → Standing P t vs c → t .clauses < c .number → 0 ≡ firstFalse P vs
     ended {c} S h = none-false (pred (c .number)) (below (c .number) h) (S .true-before)

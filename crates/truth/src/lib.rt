@@ -15,16 +15,16 @@ use row_truth::row_passes;
 use row_truth::value_of as value;
 use slots::Signed;
 use tables::Totals;
-ghost use Prim.Native.Nat.{suc, _+_, _≤_, _<_};
+ghost use Prim.Native.Nat.{_+_, _≤_, _<_};
 ghost use mathlib.Core.Path.{_≡_};
 ghost use lib.ListN.{length};
 ghost use Rattle.lists.specs.Lists.{any};
 ghost use Rattle.encoding.specs.Literal.{literalTrue, clauseTrue};
 ghost use Rattle.walk.specs.Walk.{clauseAt, At};
 ghost use Rattle.tables.specs.Tables.{programIn, Ready};
-ghost use Rattle.places.specs.Places.{placeAt};
 ghost use Rattle.printing.specs.Lines.{literalsIn};
 ghost use Rattle.truth.specs.Truth.{valueIn, firstFalse};
+ghost use Rattle.truth.specs.Standing.{Standing, furtherRow};
 
 // Whether variable v has 1.
 pub fn value_of(assignment: &[u8], v: usize) -> bool
@@ -102,8 +102,28 @@ pub fn clause_holds<'a>(
     false
 }
 
-// What `past_row` gives; a further row of the item is at hand without a call.
-fn behind_row<'a>(
+// The place of the first clause of the next row of c's item, which has k clauses.
+fn further_row(c: Place, k: u16) -> Place
+    requires { ⌜ (c .number + c .spot .clauses ≤ 53690) × (c .spot .row + 1 ≤ 501) × (0 < c .spot .rows) × (0 < k) ⌝ }
+    ensures { λ r. ⌜ r ≡ furtherRow c k ⌝ }
+{
+    let s = c.spot;
+    Place {
+        number: c.number + s.clauses as usize + 1,
+        spot: Spot {
+            group: s.group,
+            item: s.item,
+            row: s.row + 1,
+            clause: 1,
+            clauses: k - 1,
+            rows: s.rows - 1,
+            items: s.items,
+        },
+    }
+}
+
+// From a place with all clauses before it true to such a place further on in the item: past rows that are taken whole and are true.
+fn through_rows<'a>(
     t: Totals,
     heads: &'a [u16],
     starts: &'a [u16],
@@ -112,13 +132,32 @@ fn behind_row<'a>(
     partners: &'a [u16],
     owners: &'a [u16],
     c: Place,
+    assignment: &'a [u8],
 ) -> Place
-    requires { ⌜ (Ready t (now heads) (now starts) (now bodies) (now before) (now partners) (now owners)) × (c ≡ placeAt (programIn (t .sizes) (now heads) (now starts) (now bodies)) (t .sizes .w) (c .number)) × (c .number ≤ t .clauses) ⌝ }
-    ensures { λ r. ⌜ (r ≡ placeAt (programIn (t .sizes) (now (heads .entry)) (now (starts .entry)) (now (bodies .entry))) (t .sizes .w) (suc (c .number + c .spot .clauses))) × (c .number + c .spot .clauses ≤ t .clauses) ⌝ }
+    requires { ⌜ (Ready t (now heads) (now starts) (now bodies) (now before) (now partners) (now owners)) × (Standing (programIn (t .sizes) (now heads) (now starts) (now bodies)) t (now assignment) c) × (c .number ≤ t .clauses) × (t .vars ≤ length (now assignment)) ⌝ }
+    ensures { λ r. ⌜ (Standing (programIn (t .sizes) (now (heads .entry)) (now (starts .entry)) (now (bodies .entry))) t (now (assignment .entry)) r) × (c .number ≤ r .number) × (r .number ≤ t .clauses) ⌝ }
 {
-    let s = c.spot;
-    if 0 < s.rows {
-        let i = s.row + 1;
+    let mut at = c;
+    while 0 < at.spot.rows {
+        let s = at.spot;
+        if s.clause != 1 {
+            return at;
+        }
+        if !row_passes(
+            t,
+            heads,
+            starts,
+            bodies,
+            before,
+            partners,
+            owners,
+            s.group,
+            s.item,
+            s.row,
+            assignment,
+        ) {
+            return at;
+        }
         let k = size(
             t,
             heads,
@@ -129,24 +168,14 @@ fn behind_row<'a>(
             owners,
             s.group,
             s.item,
-            i,
+            s.row + 1,
         );
-        if 0 < k {
-            return Place {
-                number: c.number + s.clauses as usize + 1,
-                spot: Spot {
-                    group: s.group,
-                    item: s.item,
-                    row: i,
-                    clause: 1,
-                    clauses: k - 1,
-                    rows: s.rows - 1,
-                    items: s.items,
-                },
-            };
+        if k == 0 {
+            return at;
         }
+        at = further_row(at, k);
     }
-    past_row(t, heads, starts, bodies, before, partners, owners, c)
+    at
 }
 
 // The first clause that is false, 0 if none is.
@@ -174,7 +203,18 @@ pub fn first_false<'a>(
         start(t, heads, starts, bodies, before, partners, owners),
     );
     while at.number <= t.clauses {
-        let s = at.spot;
+        let c = through_rows(
+            t,
+            heads,
+            starts,
+            bodies,
+            before,
+            partners,
+            owners,
+            at,
+            assignment,
+        );
+        let s = c.spot;
         if s.clause == 1 {
             if row_passes(
                 t,
@@ -189,7 +229,7 @@ pub fn first_false<'a>(
                 s.row,
                 assignment,
             ) {
-                at = behind_row(t, heads, starts, bodies, before, partners, owners, at);
+                at = past_row(t, heads, starts, bodies, before, partners, owners, c);
                 continue;
             }
         }
@@ -207,9 +247,9 @@ pub fn first_false<'a>(
             s.clause,
             assignment,
         ) {
-            return at.number;
+            return c.number;
         }
-        at = next(t, heads, starts, bodies, before, partners, owners, at);
+        at = next(t, heads, starts, bodies, before, partners, owners, c);
     }
     0
 }
