@@ -1,17 +1,18 @@
--- The rows of groups 3, 4 and 5, in a program whose tables are at hand: their clauses, their variables, and which rows are taken whole.
+-- The rows of groups 3 to 6, in a program whose tables are at hand: their clauses, their variables, and which rows are taken whole.
 --   row-of                       a row by the literals in its slots
---   bit-row, next-row, zero-row  the rows of groups 5, 4 and 3
---   bit-in, next-asks, zero-asks their variables have bytes
---   passes-five, passes-four, passes-three, passes-none    by the tests of the group
+--   bit-row, next-row, zero-row, rule-row    the rows of groups 5, 4, 3 and 6
+--   bit-in, next-asks, zero-asks, rule-asks  their variables have bytes
+--   count-asks, head-asks, before-asks       group 6: what is read from the tables
+--   passes-five, passes-four, passes-three, passes-six, passes-none    by the tests of the group
 -- Assumes nothing.
-use Prim.Native.Nat.{ℕ, zero, suc, pred, _+_, _*_, _≤_, _<_}
-use native.Mathlib.Nat.{le-trans, le-refl, mul-le-mul-right, mul-assoc}
+use Prim.Native.Nat.{ℕ, zero, suc, _+_, _-_, _*_, _≤_, _<_}
+use native.Mathlib.Nat.{le-trans, le-refl, add-zero, mul-le-mul-right, mul-assoc}
 use native.Mathlib.Omega.{arith}
-use mathlib.Core.Path.{_≡_, refl, sym, _∙_, ap, subst}
+use mathlib.Core.Path.{_≡_, refl, sym, _∙_, ap, ap₂, subst}
 use mathlib.Core.Bool.{Bool, true, false, _||_, cond, So}
 use mathlib.Core.List.{List, [], _∷_}
 use lib.Dec.{eqb}
-use lib.ListN.{length}
+use lib.ListN.{length, getD}
 use borrow.Author.Tests.{eq-eqb, ne-eqb, eqb-true}
 use Rattle.lists.specs.Lists.{all, any, each, allTo, anyTo}
 use Rattle.lists.proofs.Bools.{and-left}
@@ -23,17 +24,18 @@ use Rattle.encoding.specs.Variables.{Sizes, levelVar, nextVar, varCount}
 use Rattle.encoding.specs.Clauses.{sizes, pairCount, variables}
 use Rattle.theory.proofs.Atoms.{atom-pos, atom-le}
 use Rattle.literals.specs.Sizes.{sizesOf, Bounded}
-use Rattle.walk.specs.Walk.{itemCount, size, slots, slot, clauseAt, slot3, slots4, slot4, chainSize, chainSlots, chainSlot, chainFirst, chainNext, chainBit, RowAt, At}
+use Rattle.walk.specs.Walk.{headOf, itemCount, size, slots, slot, clauseAt, slot3, slots4, slot4, size6, slots6, slot6, chainSize, chainSlots, chainSlot, chainFirst, chainNext, chainBit, RowAt, At}
 use Rattle.slots.specs.declared.Chain.{Chain}
 use Rattle.slots.specs.Signed.{held}
 use Rattle.tables.specs.declared.Totals.{Totals}
 use Rattle.tables.specs.Tables.{Tabled}
-use Rattle.table_laws.proofs.Elements.{width-are, vars-are}
+use Rattle.table_laws.proofs.Elements.{width-are, vars-are, rules-are, heads-length, starts-length, before-length, head-atom, head-is, before-is, before-fits, pairs-fit}
 use Rattle.table_laws.proofs.Bounds.{slot-in}
 use Rattle.layout.specs.RowChain.{chainAt}
-use Rattle.layout.proofs.Groups.{sizes-are, bounded, atom3, atom4, row4, bits4, size-zero, size-next, size-pair, slots-zero, slots-next, slots-pair, slot-zero, slot-next}
+use Rattle.layout.proofs.Groups.{sizes-are, bounded, atom3, atom4, row4, bits4, size-zero, size-next, size-pair, size-rule, slots-zero, slots-next, slots-pair, slots-rule, slot-zero, slot-next, slot-rule, rule6, rule-fits, first-middle, span1}
 use Rattle.layout.proofs.RowChains.{literal-pair}
-use Rattle.row_truth.specs.Rows.{Has, BitIn, bitTrue, nextTrue, zeroTrue, rowTrue, isWhole, rowPasses}
+use Rattle.row_truth.specs.Rows.{Has, BitIn, bitTrue, nextTrue, zeroTrue, ruleTrue, rowTrue, isWhole, rowPasses}
+use Rattle.row_truth.proofs.RuleLaws.{rule-is}
 
 -- ---- the variables of counters
 
@@ -41,9 +43,18 @@ level-fits : (S : Sizes) (a i k : ℕ) → 0 < a → a ≤ S .n → i ≤ S .w �
 level-fits S zero i k p h g = absurd (omega (arith, p))
 level-fits S (suc a) i k p h g = omega (arith, mul-le-mul-right (S .w) h, mul-assoc 2 (S .n) (S .w), g)
 
+pub level-in : (S : Sizes) (a i k : ℕ) → 0 < a → a ≤ S .n → i < S .w → {n : ℕ} → varCount S k ≤ n → {v : ℕ} → v ≡ levelVar S a (i + 1) → (0 < v) × (v ≤ n)
+level-in S a i k p h g f e = (omega (arith, e), omega (arith, e, f, level-fits S a (i + 1) k p h (omega (arith, g))))
+
 next-fits : (S : Sizes) (a i k : ℕ) → 0 < a → a ≤ S .n → i ≤ S .w → nextVar S a i ≤ varCount S k
 next-fits S zero i k p h g = absurd (omega (arith, p))
 next-fits S (suc a) i k p h g = omega (arith, mul-le-mul-right (S .w) h, mul-assoc 2 (S .n) (S .w), g)
+
+count-grows : (S : Sizes) (k n : ℕ) → k ≤ n → varCount S k ≤ varCount S n
+count-grows S k n h = omega (arith, mul-le-mul-right (S .w) (twice k n h))
+  where
+    twice : (k n : ℕ) → k ≤ n → 2 * k ≤ 2 * n
+    twice k n h = omega (arith, h)
 
 -- ---- the variables of a chain's bit are those in its clauses
 
@@ -96,6 +107,11 @@ module _ (P : Program) (w g a i y l : ℕ) where
   unfolding slot
   single3 e = subst (λ (g : ℕ). slot P w g a i y l ≡ held (slot P w g a i y l) ∷ []) (sym e) refl
 
+module _ (P : Program) (w g a i y l : ℕ) where
+  single6 : g ≡ 6 → slot P w g a i y l ≡ held (slot P w g a i y l) ∷ []
+  unfolding slot
+  single6 e = subst (λ (g : ℕ). slot P w g a i y l ≡ held (slot P w g a i y l) ∷ []) (sym e) refl
+
 items3 : (P : Program) → itemCount P 3 ≡ P .atoms
 unfolding itemCount
 items3 P = refl
@@ -111,20 +127,22 @@ module _ (P : Program) (w : ℕ) (A : Assignment) (g a i : ℕ) {r : Bool} where
   passes q e = e ∙ sym (ap (λ (d : Bool). cond d (rowTrue P w A g a i) false) q)
 
   pub passes-five : g ≡ 5 → r ≡ rowTrue P w A g a i → r ≡ rowPasses P w A g a i
-  passes-five q e = passes (ap (λ (d : Bool). cond d true (cond (eqb g 4) true (eqb g 3))) (eq-eqb g 5 q)) e
+  passes-five q e = passes (ap (λ (d : Bool). cond d true (cond (eqb g 4) true (cond (eqb g 3) true (eqb g 6)))) (eq-eqb g 5 q)) e
 
   pub passes-four : g ≡ 4 → r ≡ rowTrue P w A g a i → r ≡ rowPasses P w A g a i
   passes-four q e = passes (ap isWhole q) e
 
+  pub passes-six : g ≡ 6 → r ≡ rowTrue P w A g a i → r ≡ rowPasses P w A g a i
+  passes-six q e = passes (ap isWhole q) e
+
   pub passes-three : g ≡ 3 → r ≡ rowTrue P w A g a i → r ≡ rowPasses P w A g a i
   passes-three q e = passes (ap isWhole q) e
 
-pub passes-none : (P : Program) (w : ℕ) (A : Assignment) (g a i : ℕ) → (g ≡ 5 → ⊥) → (g ≡ 4 → ⊥) → (g ≡ 3 → ⊥) → false ≡ rowPasses P w A g a i
-passes-none P w A g a i x y z =
+pub passes-none : (P : Program) (w : ℕ) (A : Assignment) (g a i : ℕ) → (g ≡ 5 → ⊥) → (g ≡ 4 → ⊥) → (g ≡ 3 → ⊥) → (g ≡ 6 → ⊥) → false ≡ rowPasses P w A g a i
+passes-none P w A g a i x y z u =
     sym
-    (ap (λ (d : Bool). cond (cond d true (cond (eqb g 4) true (eqb g 3))) (rowTrue P w A g a i) false) (ne-eqb g 5 x)
-    ∙ ap (λ (d : Bool). cond (cond d true (eqb g 3)) (rowTrue P w A g a i) false) (ne-eqb g 4 y)
-    ∙ ap (λ (d : Bool). cond d (rowTrue P w A g a i) false) (ne-eqb g 3 z))
+    (ap₂ (λ (d e : Bool). cond (cond d true (cond e true (cond (eqb g 3) true (eqb g 6)))) (rowTrue P w A g a i) false) (ne-eqb g 5 x) (ne-eqb g 4 y)
+    ∙ ap₂ (λ (d e : Bool). cond (cond d true e) (rowTrue P w A g a i) false) (ne-eqb g 3 z) (ne-eqb g 6 u))
 
 module _ {P : Program} {t : Totals} {hs ss bs ks xs ys : List ℕ} (T : Tabled P t hs ss bs ks xs ys) {g a i : ℕ} (R : RowAt P (t .sizes .w) g a i) where
   abbrev w : ℕ
@@ -231,3 +249,46 @@ module _ {P : Program} {t : Totals} {hs ss bs ks xs ys : List ℕ} (T : Tabled P
 
         fits : (v : ℕ) → v ≤ varCount (sizesOf (t .sizes)) (pairCount P) → v ≤ length vs
         fits v h = le-trans (subst (λ (n : ℕ). v ≤ n) (sym vars-of) h) f
+
+  -- ---- group 6
+
+  module _ (e : g ≡ 6) where
+    rule : a ≤ length (P .rules)
+    rule = rule6 T R e
+
+    span : getD ss (2 * (a - 1) + 1) 0 - getD ss (2 * (a - 1)) 0 ≡ getD ss (2 * (a - 1) + 1) 0 - getD ss (2 * (a - 1) + 0) 0
+    span = ap (λ (n : ℕ). getD ss (2 * (a - 1) + 1) 0 - getD ss n 0) (sym (add-zero (2 * (a - 1))))
+
+    pub count-asks : (0 < a) × (a ≤ 500) × (length ss ≡ 1001) × (getD ss (2 * (a - 1)) 0 ≤ getD ss (2 * (a - 1) + 1) 0)
+    count-asks =
+        (R .item-some, rule-fits T R rule, starts-length P t hs ss bs ks xs ys T, subst (λ (n : ℕ). getD ss n 0 ≤ getD ss (2 * (a - 1) + 1) 0) (add-zero (2 * (a - 1))) (first-middle T R rule))
+
+    pub head-asks : (0 < a) × (a ≤ length hs)
+    head-asks = (R .item-some, subst (λ (k : ℕ). a ≤ k) (sym (heads-length P t hs ss bs ks xs ys T)) (rule-fits T R rule))
+
+    pub before-asks : (0 < a) × (a ≤ length ks)
+    before-asks = (R .item-some, subst (λ (k : ℕ). a ≤ k) (sym (before-length P t hs ss bs ks xs ys T)) (le-trans (rule-fits T R rule) (omega arith)))
+
+    module _ {h k b : ℕ} (p : h ≡ getD hs (a - 1) 0) (q : k ≡ getD ks (a - 1) 0) (s : b ≡ getD ss (2 * (a - 1) + 1) 0 - getD ss (2 * (a - 1)) 0) where
+      pub rule-row : (A : Assignment) → ruleTrue A (sizesOf (t .sizes)) a h k b ≡ rowTrue P w A g a i
+      rule-row A =
+          rule-is A (sizesOf (t .sizes)) a h k b
+          ∙ row-of A (size6 w b) (slots6 b) (slot6 (sizesOf (t .sizes)) a h k b) (size-rule T R e (s ∙ span) refl) (λ y B. slots-rule T B e (s ∙ span) refl)
+          (λ y l B. single6 P w g a i y l e ∙ ap (λ (x : Literal). x ∷ []) (sym (slot-rule T B l e p q (s ∙ span) refl)))
+
+      pub rule-asks : (vs : List ℕ) → t .vars ≤ length vs
+          → (Bounded (t .sizes)) × (0 < a) × (a ≤ t .sizes .m) × (0 < h) × (h ≤ t .sizes .n) × (k + b ≤ 500) × (varCount (sizesOf (t .sizes)) (k + b) ≤ length vs)
+      rule-asks vs f =
+          (bounded T, R .item-some, subst (λ (n : ℕ). a ≤ n) (sym (rules-are P t hs ss bs ks xs ys T)) rule, subst (λ (n : ℕ). 0 < n) (sym head) (x .0), subst (λ (n : ℕ). n ≤ t .sizes .n) (sym head) (subst (λ (n : ℕ). headOf P a ≤ n) atoms-of (x .1)), le-trans in-pairs (pairs-fit P (T .limits)), le-trans (subst (λ (n : ℕ). varCount (sizesOf (t .sizes)) (k + b) ≤ n) (sym vars-of) (count-grows (sizesOf (t .sizes)) (k + b) (pairCount P) in-pairs)) f)
+        where
+          x : (0 < headOf P a) × (headOf P a ≤ P .atoms)
+          x = head-atom P (T .limits) a (R .item-some) rule
+
+          head : h ≡ headOf P a
+          head = p ∙ head-is P t hs ss bs ks xs ys T a (R .item-some) rule
+
+          in-pairs : k + b ≤ pairCount P
+          in-pairs =
+              subst (λ (n : ℕ). n ≤ pairCount P)
+              (sym (ap₂ (λ (k b : ℕ). k + b) (q ∙ before-is P t hs ss bs ks xs ys T a (R .item-some) (le-trans rule (omega arith))) (s ∙ span ∙ span1 T R rule)))
+              (before-fits P (T .limits) a (R .item-some) rule)

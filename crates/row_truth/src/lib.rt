@@ -1,30 +1,35 @@
 // Truth of single literals, and of whole rows of clauses, under an assignment (document 01, "Check and filling out").
 use layout::chain_at;
 use literals::Sizes;
+use literals::below_var;
+use literals::body_var;
+use literals::founds_var;
 use literals::is_negative;
 use literals::level_var;
 use literals::literal;
 use literals::magnitude;
 use literals::negated;
+use literals::next_below_var;
 use literals::next_var;
 use numbers::Atom;
+use numbers::Rule;
 use numbers::Var;
 use numbers::atom_var;
 use slots::Chain;
 use slots::chain_bit;
 use tables::Totals;
-ghost use Prim.Native.Nat.{_^_, _≤_, _<_};
+ghost use Prim.Native.Nat.{_+_, _-_, _*_, _^_, _≤_, _<_};
 ghost use mathlib.Core.Path.{_≡_};
 ghost use mathlib.Core.Bool.{true, false, _||_, _&&_};
 ghost use lib.IntN.{natAbs};
-ghost use lib.ListN.{length};
+ghost use lib.ListN.{length, getD};
 ghost use Rattle.encoding.specs.Literal.{literalTrue};
-ghost use Rattle.encoding.specs.Variables.{levelVar, nextVar};
+ghost use Rattle.encoding.specs.Variables.{levelVar, nextVar, varCount};
 ghost use Rattle.literals.specs.Sizes.{sizesOf, Bounded};
 ghost use Rattle.walk.specs.Walk.{signed, RowAt};
 ghost use Rattle.tables.specs.Tables.{programIn, Ready};
 ghost use Rattle.row_truth.specs.Values.{valueIn, numberTrue};
-ghost use Rattle.row_truth.specs.Rows.{Has, twoTrue, threeTrue, BitIn, bitTrue, nextTrue, zeroTrue, rowPasses};
+ghost use Rattle.row_truth.specs.Rows.{Has, twoTrue, threeTrue, BitIn, bitTrue, nextTrue, zeroTrue, foundsTrue, factTrue, boundTrue, ruleTrue, rowPasses};
 
 // Whether variable v has 1.
 pub fn value_of(assignment: &[u8], v: usize) -> bool
@@ -166,7 +171,95 @@ fn zero_row_holds(s: Sizes, a: Atom, assignment: &[u8]) -> bool
     true
 }
 
-// Whether row i of item a of group g is taken whole, as those of groups 3, 4 and 5 are, and all its clauses are true.
+// Group 6, rule r, whose b pairs stand behind k others: whether s(r) says that its body is true with every pair's level below.
+fn founds_hold(s: Sizes, r: Rule, k: u16, b: u16, assignment: &[u8]) -> bool
+    requires { ⌜ (Bounded s) × (0 < r .0) × (r .0 ≤ s .m) × (k + b ≤ 500) × (varCount (sizesOf s) (k + b) ≤ length (now assignment)) ⌝ }
+    ensures { λ x. ⌜ x ≡ foundsTrue (valueIn (now (assignment .entry))) (sizesOf s) (r .0) k b ⌝ }
+{
+    let f = founds_var(s, r);
+    let t = body_var(s, r);
+    if !two_hold(false, f, true, t, assignment) {
+        return false;
+    }
+    let mut low = false;
+    let mut j: u16 = 0;
+    while j < b {
+        let p = below_var(s, k + (j + 1), s.w);
+        if !two_hold(false, f, true, p, assignment) {
+            return false;
+        }
+        low = low | signed_holds(false, p, assignment);
+        j += 1;
+    }
+    two_hold(true, f, false, t, assignment) | low
+}
+
+// Whether a true body without pairs gives the head, h, level 1.
+fn fact_holds(s: Sizes, r: Rule, h: Atom, assignment: &[u8]) -> bool
+    requires { ⌜ (Bounded s) × (0 < r .0) × (r .0 ≤ s .m) × (0 < h .0) × (h .0 ≤ s .n) × (varCount (sizesOf s) 0 ≤ length (now assignment)) ⌝ }
+    ensures { λ x. ⌜ x ≡ factTrue (valueIn (now (assignment .entry))) (sizesOf s) (r .0) (h .0) ⌝ }
+{
+    let t = body_var(s, r);
+    let w = s.w;
+    let mut j: u16 = 0;
+    while j < w {
+        let first = j == 0;
+        if !two_hold(false, t, first, level_var(s, h, j + 1), assignment) {
+            return false;
+        }
+        j += 1;
+    }
+    true
+}
+
+// Whether a true body leaves some pair's next not below the head.
+fn bound_holds(s: Sizes, r: Rule, k: u16, b: u16, assignment: &[u8]) -> bool
+    requires { ⌜ (Bounded s) × (0 < r .0) × (r .0 ≤ s .m) × (k + b ≤ 500) × (varCount (sizesOf s) (k + b) ≤ length (now assignment)) ⌝ }
+    ensures { λ x. ⌜ x ≡ boundTrue (valueIn (now (assignment .entry))) (sizesOf s) (r .0) k b ⌝ }
+{
+    let mut low = signed_holds(false, body_var(s, r), assignment);
+    let mut j: u16 = 0;
+    while j < b {
+        let q = next_below_var(s, k + (j + 1), s.w);
+        low = low | signed_holds(false, q, assignment);
+        j += 1;
+    }
+    low
+}
+
+// Group 6, rule r with head h and b pairs behind k others: whether every clause is true.
+fn rule_row_holds(s: Sizes, r: Rule, h: Atom, k: u16, b: u16, assignment: &[u8]) -> bool
+    requires { ⌜ (Bounded s) × (0 < r .0) × (r .0 ≤ s .m) × (0 < h .0) × (h .0 ≤ s .n) × (k + b ≤ 500) × (varCount (sizesOf s) (k + b) ≤ length (now assignment)) ⌝ }
+    ensures { λ x. ⌜ x ≡ ruleTrue (valueIn (now (assignment .entry))) (sizesOf s) (r .0) (h .0) k b ⌝ }
+{
+    if !founds_hold(s, r, k, b, assignment) {
+        return false;
+    }
+    if b == 0 {
+        return fact_holds(s, r, h, assignment);
+    }
+    bound_holds(s, r, k, b, assignment)
+}
+
+// Entry k of an array, from 1.
+fn entry(xs: &[u16], k: u16) -> u16
+    requires { ⌜ (0 < k) × (k ≤ length (now xs)) ⌝ }
+    ensures { λ r. ⌜ r ≡ getD (now (xs .entry)) (k - 1) 0 ⌝ }
+{
+    let i = (k - 1) as usize;
+    xs[i]
+}
+
+// How many pairs rule r has: its positive body atoms.
+fn pair_count(starts: &[u16], r: u16) -> u16
+    requires { ⌜ (0 < r) × (r ≤ 500) × (length (now starts) ≡ 1001) × (getD (now starts) (2 * (r - 1)) 0 ≤ getD (now starts) (2 * (r - 1) + 1) 0) ⌝ }
+    ensures { λ x. ⌜ x ≡ getD (now (starts .entry)) (2 * (r - 1) + 1) 0 - getD (now (starts .entry)) (2 * (r - 1)) 0 ⌝ }
+{
+    let j = 2 * ((r - 1) as usize);
+    starts[j + 1] - starts[j]
+}
+
+// Whether row i of item a of group g is taken whole, as those of groups 3 to 6 are, and all its clauses are true.
 pub fn row_passes<'a>(
     t: Totals,
     heads: &'a [u16],
@@ -192,6 +285,11 @@ pub fn row_passes<'a>(
     }
     if g == 3 {
         return zero_row_holds(t.sizes, Atom(a), assignment);
+    }
+    if g == 6 {
+        let b = pair_count(starts, a);
+        let h = Atom(entry(heads, a));
+        return rule_row_holds(t.sizes, Rule(a), h, entry(before, a), b, assignment);
     }
     false
 }
