@@ -122,7 +122,7 @@ fn further_row(c: Place, k: u16) -> Place
     }
 }
 
-// From a place with all clauses before it true to such a place further on in the item: past rows that are taken whole and are true.
+// From the place of a clause, with all clauses before it true, to such a place that is not before it: past rows that are taken whole and are true.
 fn through_rows<'a>(
     t: Totals,
     heads: &'a [u16],
@@ -135,14 +135,11 @@ fn through_rows<'a>(
     assignment: &'a [u8],
 ) -> Place
     requires { ⌜ (Ready t (now heads) (now starts) (now bodies) (now before) (now partners) (now owners)) × (Standing (programIn (t .sizes) (now heads) (now starts) (now bodies)) t (now assignment) c) × (c .number ≤ t .clauses) × (t .vars ≤ length (now assignment)) ⌝ }
-    ensures { λ r. ⌜ (Standing (programIn (t .sizes) (now (heads .entry)) (now (starts .entry)) (now (bodies .entry))) t (now (assignment .entry)) r) × (c .number ≤ r .number) × (r .number ≤ t .clauses) ⌝ }
+    ensures { λ r. ⌜ (Standing (programIn (t .sizes) (now (heads .entry)) (now (starts .entry)) (now (bodies .entry))) t (now (assignment .entry)) r) × (c .number ≤ r .number) ⌝ }
 {
     let mut at = c;
-    while 0 < at.spot.rows {
+    while at.spot.clause == 1 {
         let s = at.spot;
-        if s.clause != 1 {
-            return at;
-        }
         if !row_passes(
             t,
             heads,
@@ -157,6 +154,9 @@ fn through_rows<'a>(
             assignment,
         ) {
             return at;
+        }
+        if s.rows == 0 {
+            return past_row(t, heads, starts, bodies, before, partners, owners, at);
         }
         let k = size(
             t,
@@ -214,25 +214,11 @@ pub fn first_false<'a>(
             at,
             assignment,
         );
-        let s = c.spot;
-        if s.clause == 1 {
-            if row_passes(
-                t,
-                heads,
-                starts,
-                bodies,
-                before,
-                partners,
-                owners,
-                s.group,
-                s.item,
-                s.row,
-                assignment,
-            ) {
-                at = past_row(t, heads, starts, bodies, before, partners, owners, c);
-                continue;
-            }
+        if at.number < c.number {
+            at = c;
+            continue;
         }
+        let s = at.spot;
         if !clause_holds(
             t,
             heads,
@@ -247,9 +233,9 @@ pub fn first_false<'a>(
             s.clause,
             assignment,
         ) {
-            return c.number;
+            return at.number;
         }
-        at = next(t, heads, starts, bodies, before, partners, owners, c);
+        at = next(t, heads, starts, bodies, before, partners, owners, at);
     }
     0
 }
