@@ -1,7 +1,7 @@
 // The line of a model, written into a lent buffer (document 01, "Programs").
 use digits::put_decimal;
 use printing::put_word;
-use truth::value_of;
+use row_truth::value_of;
 ghost use Prim.Native.Nat.{_≤_, _<_};
 ghost use mathlib.Core.Path.{_≡_};
 ghost use mathlib.Core.List.{_++_, map};

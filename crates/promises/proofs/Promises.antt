@@ -305,8 +305,12 @@ use Rattle.filling_out.proofs.fill_spot_of.Statement.{statement as fill-spot-of
 use Rattle.filling_out.proofs.fill_spot_of.Met.{met as fill-spot-of·met}
 use Rattle.models.proofs.put_model.Statement.{statement as put-model·statement}
 use Rattle.models.proofs.put_model.Met.{met as put-model·met}
-use Rattle.truth.proofs.value_of.Statement.{statement as truth-value-of·statement}
-use Rattle.truth.proofs.value_of.Met.{met as truth-value-of·met}
+use Rattle.row_truth.proofs.holds.Statement.{statement as literal-holds·statement}
+use Rattle.row_truth.proofs.holds.Met.{met as literal-holds·met}
+use Rattle.row_truth.proofs.row_passes.Statement.{statement as row-passes·statement}
+use Rattle.row_truth.proofs.row_passes.Met.{met as row-passes·met}
+use Rattle.row_truth.proofs.value_of.Statement.{statement as truth-value-of·statement}
+use Rattle.row_truth.proofs.value_of.Met.{met as truth-value-of·met}
 use Rattle.program.specs.declared.Reading.{Reading}
 use Rattle.answers.specs.Reading.{Spotted}
 use Rattle.encoding.specs.Literal.{clauseTrue}
@@ -1002,11 +1006,13 @@ pub record Walk (M : Type 1) : Type 2 where
   -- the place of clause j
   pub place-of : place-of·statement M
   -- truth of the clause at a place, and the first clause that is false, under the assignment of a buffer
+  pub literal-holds : literal-holds·statement M
+  pub row-passes : row-passes·statement M
   pub clause-holds : clause-holds·statement M
   pub first-false : first-false·statement M
 
 pub walks : (M : Type 1) → Walk M
-walks M = record { items = layout-items·met; rows = layout-rows·met; size = layout-size·met; slots = layout-slots·met; slot = layout-slot·met; chain-at = chain-at·met; literal-in = literal-in·met; next-head = next-head·met; past-empty = past-empty·met; start = places-start·met; next = places-next·met; past-row = past-row·met; place-of = place-of·met; clause-holds = clause-holds·met; first-false = first-false·met }
+walks M = record { items = layout-items·met; rows = layout-rows·met; size = layout-size·met; slots = layout-slots·met; slot = layout-slot·met; chain-at = chain-at·met; literal-in = literal-in·met; next-head = next-head·met; past-empty = past-empty·met; start = places-start·met; next = places-next·met; past-row = past-row·met; place-of = place-of·met; literal-holds = literal-holds·met; row-passes = row-passes·met; clause-holds = clause-holds·met; first-false = first-false·met }
 
 -- printing, lines, input
 pub record Lines (M : Type 1) : Type 2 where

@@ -2,7 +2,7 @@
 use literals::Sizes;
 use literals::level_var;
 use numbers::Atom;
-use truth::value_of;
+use row_truth::value_of;
 ghost use Prim.Native.Nat.{_+_, _*_, _≤_, _<_, max};
 ghost use mathlib.Core.Path.{_≡_};
 ghost use mathlib.Core.Bool.{cond};

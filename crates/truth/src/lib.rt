@@ -12,7 +12,6 @@ use places::start;
 use printing::number_of;
 use row_truth::holds;
 use row_truth::row_passes;
-use row_truth::value_of as value;
 use slots::Signed;
 use tables::Totals;
 ghost use Prim.Native.Nat.{_+_, _≤_, _<_};
@@ -25,14 +24,6 @@ ghost use Rattle.tables.specs.Tables.{programIn, Ready};
 ghost use Rattle.printing.specs.Lines.{literalsIn};
 ghost use Rattle.truth.specs.Truth.{valueIn, firstFalse};
 ghost use Rattle.truth.specs.Standing.{Standing, furtherRow};
-
-// Whether variable v has 1.
-pub fn value_of(assignment: &[u8], v: usize) -> bool
-    requires { ⌜ (0 < v) × (v ≤ length (now assignment)) ⌝ }
-    ensures { λ r. ⌜ r ≡ valueIn (now (assignment .entry)) v ⌝ }
-{
-    value(assignment, v)
-}
 
 // Whether a slot holds a true literal.
 fn slot_holds(x: Signed, assignment: &[u8]) -> bool

@@ -12,7 +12,7 @@ use Rattle.models.proofs.put_atoms.Tie as tie
 use Rattle.models.proofs.put_atoms.Reads as reads
 use Rattle.models.proofs.put_atoms.Lts as lts
 use Rattle.models.proofs.put_shown.Reads as put-shown-reads
-use Rattle.truth.proofs.value_of.Reads as value-of-reads
+use Rattle.row_truth.proofs.value_of.Reads as value-of-reads
 
 abbrev Inv-loop : tie.InvT-loop
 Inv-loop n assignment buf₀ a₀ to₀ buf a to = (a ≤ n) × Begins buf₀ buf (numbersText (listed (valueIn assignment) (λ (a : ℕ). a) a)) to

@@ -17,7 +17,7 @@ use Rattle.models.proofs.put_levels.Reads as reads
 use Rattle.models.proofs.put_levels.Lts as lts
 use Rattle.models.proofs.level_of.Reads as level-of-reads
 use Rattle.models.proofs.put_shown.Reads as put-shown-reads
-use Rattle.truth.proofs.value_of.Reads as value-of-reads
+use Rattle.row_truth.proofs.value_of.Reads as value-of-reads
 
 abbrev Inv-loop : tie.InvT-loop
 Inv-loop n assignment levels buf₀ a₀ to₀ buf a to = (a ≤ n) × Begins buf₀ buf (numbersText (listed (valueIn assignment) (levelIn levels) a)) to

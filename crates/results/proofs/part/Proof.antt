@@ -4,7 +4,7 @@ use Rattle.results.proofs.part.Statement.{statement}
 use Rattle.results.proofs.part.Tie as tie
 use Rattle.results.proofs.part.Reads as reads
 use Rattle.results.proofs.part.Lts as lts
-use Rattle.truth.proofs.value_of.Reads as value-of-reads
+use Rattle.row_truth.proofs.value_of.Reads as value-of-reads
 
 -- src/lib.rt:22:8
 value-of-requires : tie.Need-value-of-requires
