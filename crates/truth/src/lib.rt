@@ -113,7 +113,7 @@ fn further_row(c: Place, k: u16) -> Place
     }
 }
 
-// From the place of a clause, with all clauses before it true, to such a place that is not before it: past rows that are taken whole and are true.
+// From a place with all clauses before it true to such a place further on in the item: past rows that are taken whole and are true.
 fn through_rows<'a>(
     t: Totals,
     heads: &'a [u16],
@@ -126,11 +126,14 @@ fn through_rows<'a>(
     assignment: &'a [u8],
 ) -> Place
     requires { ⌜ (Ready t (now heads) (now starts) (now bodies) (now before) (now partners) (now owners)) × (Standing (programIn (t .sizes) (now heads) (now starts) (now bodies)) t (now assignment) c) × (c .number ≤ t .clauses) × (t .vars ≤ length (now assignment)) ⌝ }
-    ensures { λ r. ⌜ (Standing (programIn (t .sizes) (now (heads .entry)) (now (starts .entry)) (now (bodies .entry))) t (now (assignment .entry)) r) × (c .number ≤ r .number) ⌝ }
+    ensures { λ r. ⌜ (Standing (programIn (t .sizes) (now (heads .entry)) (now (starts .entry)) (now (bodies .entry))) t (now (assignment .entry)) r) × (c .number ≤ r .number) × (r .number ≤ t .clauses) ⌝ }
 {
     let mut at = c;
-    while at.spot.clause == 1 {
+    while 0 < at.spot.rows {
         let s = at.spot;
+        if s.clause != 1 {
+            return at;
+        }
         if !row_passes(
             t,
             heads,
@@ -145,9 +148,6 @@ fn through_rows<'a>(
             assignment,
         ) {
             return at;
-        }
-        if s.rows == 0 {
-            return past_row(t, heads, starts, bodies, before, partners, owners, at);
         }
         let k = size(
             t,
@@ -205,11 +205,25 @@ pub fn first_false<'a>(
             at,
             assignment,
         );
-        if at.number < c.number {
-            at = c;
-            continue;
+        let s = c.spot;
+        if s.clause == 1 {
+            if row_passes(
+                t,
+                heads,
+                starts,
+                bodies,
+                before,
+                partners,
+                owners,
+                s.group,
+                s.item,
+                s.row,
+                assignment,
+            ) {
+                at = past_row(t, heads, starts, bodies, before, partners, owners, c);
+                continue;
+            }
         }
-        let s = at.spot;
         if !clause_holds(
             t,
             heads,
@@ -224,9 +238,9 @@ pub fn first_false<'a>(
             s.clause,
             assignment,
         ) {
-            return at.number;
+            return c.number;
         }
-        at = next(t, heads, starts, bodies, before, partners, owners, at);
+        at = next(t, heads, starts, bodies, before, partners, owners, c);
     }
     0
 }
