@@ -1,5 +1,6 @@
 -- The next rule whose head is an atom, by its index in the heads.
 --   next-here, next-on, next-end    index by index, as code goes on
+--   next-eight                      eight indexes at once
 --   next-from, next-fits            where it lies
 --   next-at, next-between           a stands there, and nowhere between
 --   next-in, next-adds              bounds of it among the first m heads
@@ -9,13 +10,13 @@ use native.Mathlib.Nat.{le-of-eq, not-suc-le-zero, le-of-suc-le-suc, add-zero}
 use native.Mathlib.Numerals.{add-one}
 use native.Mathlib.Omega.{arith}
 use mathlib.Core.Path.{_≡_, refl, sym, _∙_, ap}
-use mathlib.Core.Bool.{Bool, true, false, cond}
+use mathlib.Core.Bool.{Bool, true, false, _||_, cond, false≢true}
 use mathlib.Core.List.{List, [], _∷_}
 use lib.Dec.{eqb}
 use lib.ListN.{length, getD, take, drop, length-drop, drop-of-length-le}
 use lib.Seq.{drop-cons, getD-drop, length-take-le}
 use borrow.Author.Tests.{eq-eqb, ne-eqb, eqb-true, eqb-false}
-use Rattle.layout.specs.Numbers.{others, nextHead}
+use Rattle.layout.specs.Numbers.{others, isAt, amongEight, nextHead}
 
 -- ---- the first a of a list
 
@@ -95,3 +96,29 @@ module _ (hs : List ℕ) (m a i : ℕ) (h : m ≤ length hs) where
 
   pub next-adds : m ≤ 500 → i + 1 < 2 ^ 16 → nextHead (take m hs) a i + 1 < 2 ^ 16
   next-adds k n = omega (arith, next-fits (take m hs) a i (2 ^ 16 - 2) (omega (arith, n)) (omega (arith, k, length-take-le m hs h)))
+
+-- ---- eight indexes at once
+
+neither : (x y : Bool) → (x || y) ≡ false → (x ≡ false) × (y ≡ false)
+neither true y e = absurd (false≢true (sym e))
+neither false y e = (refl, e)
+
+next-more : (hs : List ℕ) (a i k : ℕ) → i + k < length hs → isAt hs a (i + k) ≡ false → nextHead hs a (i + suc k) ≡ nextHead hs a (i + k)
+next-more hs a i k h e = ap (nextHead hs a) (shift i k) ∙ next-on hs a (i + k) h (eqb-false (getD hs (i + k) 0) a e)
+  where
+    shift : (i k : ℕ) → i + suc k ≡ i + k + 1
+    shift i k = omega arith
+
+pub next-eight : (hs : List ℕ) (a i : ℕ) → i + 8 ≤ length hs → amongEight hs a i ≡ false → nextHead hs a (i + 8) ≡ nextHead hs a i
+unfolding amongEight
+next-eight hs a i h e7 =
+    let p7 = neither _ _ e7 in
+    let p6 = neither _ _ (p7 .0) in
+    let p5 = neither _ _ (p6 .0) in
+    let p4 = neither _ _ (p5 .0) in
+    let p3 = neither _ _ (p4 .0) in
+    let p2 = neither _ _ (p3 .0) in
+    let p1 = neither _ _ (p2 .0) in
+    next-more hs a i 7 (omega (arith, h)) (p7 .1) ∙ next-more hs a i 6 (omega (arith, h)) (p6 .1) ∙ next-more hs a i 5 (omega (arith, h)) (p5 .1)
+    ∙ next-more hs a i 4 (omega (arith, h)) (p4 .1) ∙ next-more hs a i 3 (omega (arith, h)) (p3 .1) ∙ next-more hs a i 2 (omega (arith, h)) (p2 .1)
+    ∙ next-more hs a i 1 (omega (arith, h)) (p1 .1) ∙ next-on hs a i (omega (arith, h)) (eqb-false (getD hs i 0) a (p1 .0))

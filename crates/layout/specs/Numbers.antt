@@ -3,10 +3,12 @@
 --   rowsOf s g        how many rows an item of group g has, from the sizes
 --   impliedSize       group 2: how many clauses row i of atom a has, from m and the heads
 --   nextHead hs a i   the first index of hs, from i on, where a stands; if there is none, the length, or i where that is more
+--   isAt hs a i       a stands at index i
+--   amongEight hs a i a stands at one of the eight indexes from i on
 --   pastEmpty         how many slots are done once the empty ones behind slot l are passed, from m and the heads
 -- Assumes nothing.
 use Prim.Native.Nat.{ℕ, suc, _+_, _-_}
-use mathlib.Core.Bool.{cond}
+use mathlib.Core.Bool.{Bool, _||_, cond}
 use mathlib.Core.List.{List, [], _∷_}
 use lib.ListN.{getD, take, drop}
 use lib.Dec.{eqb, ltb}
@@ -29,6 +31,14 @@ others a (h ∷ hs) = cond (eqb h a) 0 (suc (others a hs))
 
 unfoldable pub nextHead : List ℕ → ℕ → ℕ → ℕ
 nextHead hs a i = i + others a (drop i hs)
+
+abbrev pub isAt : List ℕ → ℕ → ℕ → Bool
+isAt hs a i = eqb (getD hs i 0) a
+
+unfoldable pub amongEight : List ℕ → ℕ → ℕ → Bool
+amongEight hs a i =
+    (((((((isAt hs a i || isAt hs a (i + 1)) || isAt hs a (i + 2)) || isAt hs a (i + 3)) || isAt hs a (i + 4)) || isAt hs a (i + 5)) || isAt hs a (i + 6))
+    || isAt hs a (i + 7))
 
 -- slots can be empty in the last clause of an atom in groups 2 and 7, where slot l is that of rule l − 1
 abbrev pub pastEmpty : ℕ → List ℕ → ℕ → ℕ → ℕ → ℕ → ℕ

@@ -23,7 +23,7 @@ use slots::rule_slot;
 use slots::rule_slots;
 use slots::zero_slot;
 use tables::Totals;
-ghost use Prim.Native.Nat.{_+_, _-_, _*_, _≤_, _<_};
+ghost use Prim.Native.Nat.{_+_, _-_, _*_, _^_, _≤_, _<_};
 ghost use mathlib.Core.Path.{_≡_};
 ghost use lib.ListN.{length, getD, take, drop};
 ghost use Rattle.literals.specs.Sizes.{sizesOf, Bounded};
@@ -32,7 +32,7 @@ ghost use Rattle.walk.specs.Walk.{slots1, slot1, ofHead, size as sizeAt, slots 
 ghost use Rattle.tables.specs.Tables.{programIn, Ready};
 ghost use Rattle.walk.specs.Walk.{RowAt, At};
 ghost use Rattle.layout.specs.RowChain.{chainAt};
-ghost use Rattle.layout.specs.Numbers.{itemsOf, rowsOf, impliedSize, nextHead, pastEmpty};
+ghost use Rattle.layout.specs.Numbers.{itemsOf, rowsOf, impliedSize, isAt, amongEight, nextHead, pastEmpty};
 
 fn wide(x: u16) -> usize
     ensures { λ r. ⌜ r ≡ x ⌝ }
@@ -281,12 +281,50 @@ pub fn slot<'a>(
     heads_part(s.m, heads, Atom(a), s.n + s.m, l)
 }
 
+// Whether head i, from 0, is a.
+fn is_at(heads: &[u16], i: usize, a: u16) -> bool
+    requires { ⌜ i < length (now heads) ⌝ }
+    ensures { λ r. ⌜ r ≡ isAt (now (heads .entry)) a i ⌝ }
+{
+    heads[i] == a
+}
+
+// Whether one of the eight heads from i on is a: one comparison of the machine.
+fn among_eight(heads: &[u16], i: usize, a: u16) -> bool
+    requires { ⌜ i + 8 ≤ length (now heads) ⌝ }
+    ensures { λ r. ⌜ r ≡ amongEight (now (heads .entry)) a i ⌝ }
+{
+    is_at(heads, i, a)
+        | is_at(heads, i + 1, a)
+        | is_at(heads, i + 2, a)
+        | is_at(heads, i + 3, a)
+        | is_at(heads, i + 4, a)
+        | is_at(heads, i + 5, a)
+        | is_at(heads, i + 6, a)
+        | is_at(heads, i + 7, a)
+}
+
+// Passes heads from `from` on, eight at a time, as long as none of them is a.
+fn past_eights(heads: &[u16], a: u16, from: usize) -> usize
+    requires { ⌜ (length (now heads) ≤ 500) × (from < 2 ^ 16) ⌝ }
+    ensures { λ r. ⌜ (r < 2 ^ 16) × (nextHead (now (heads .entry)) a r ≡ nextHead (now (heads .entry)) a from) ⌝ }
+{
+    let mut i = from;
+    while i + 8 <= heads.len() {
+        if among_eight(heads, i, a) {
+            return i;
+        }
+        i += 8;
+    }
+    i
+}
+
 // The first index, from `from` on, whose head is a; if there is none, the length, or `from` where that is more.
 pub fn next_head(heads: &[u16], a: Atom, from: u16) -> u16
     requires { ⌜ length (now heads) ≤ 500 ⌝ }
     ensures { λ r. ⌜ r ≡ nextHead (now (heads .entry)) (a .0) from ⌝ }
 {
-    let mut i = from as usize;
+    let mut i = past_eights(heads, a.0, from as usize);
     while i < heads.len() {
         if heads[i] == a.0 {
             return i as u16;
