@@ -8,3 +8,5 @@ pub mod HeadRow
 pub mod Numbers
 -- RowPlaces: the places of a row
 pub mod RowPlaces
+-- Behind: the place behind a row, where the item has a further row
+pub mod Behind

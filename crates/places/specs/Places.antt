@@ -3,8 +3,9 @@
 --   spots P w           where the clauses stand, in the walk's order
 --   placeAt P w j       the place of clause j, from 1; 0 is before the first clause, and what follows the last one is past all groups
 --   clauseIn P w c      the clause that stands at c
+--   furtherRow c k      the place of the first clause of the next row of c's item, which has k clauses
 -- Assumes nothing.
-use Prim.Native.Nat.{ℕ, _-_}
+use Prim.Native.Nat.{ℕ, _+_, _-_}
 use mathlib.Core.List.{List, _∷_}
 use lib.ListN.{getD}
 use Rattle.lists.specs.Lists.{tab, each}
@@ -53,3 +54,19 @@ placeAt P w j = record { number = j; spot = spotAt P w j }
 
 abbrev pub clauseIn : Program → ℕ → Spot → Clause
 clauseIn P w c = clauseAt P w (c .group) (c .item) (c .row) (c .clause)
+
+abbrev pub furtherRow : Place → ℕ → Place
+furtherRow c k =
+    record {
+      number = c .number + c .spot .clauses + 1;
+      spot =
+          record {
+            group = c .spot .group;
+            item = c .spot .item;
+            row = c .spot .row + 1;
+            clause = 1;
+            clauses = k - 1;
+            rows = c .spot .rows - 1;
+            items = c .spot .items;
+          };
+    }

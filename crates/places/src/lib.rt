@@ -5,12 +5,12 @@ use layout::rows;
 use layout::size;
 use numbers::Atom;
 use tables::Totals;
-ghost use Prim.Native.Nat.{suc, _+_, _≤_};
+ghost use Prim.Native.Nat.{suc, _+_, _≤_, _<_};
 ghost use mathlib.Core.Path.{_≡_};
 ghost use mathlib.Core.Bool.{false};
 ghost use lib.ListN.{length};
 ghost use Rattle.tables.specs.Tables.{programIn, Ready};
-ghost use Rattle.places.specs.Places.{placeAt};
+ghost use Rattle.places.specs.Places.{placeAt, furtherRow};
 ghost use Rattle.places.specs.Ahead.{ahead, firstOf, In, isOver, headRow, Onward};
 
 // A clause's group, item, row and number in its row, and how many clauses follow in the row, rows in the item and items in the group.
@@ -266,4 +266,24 @@ pub fn past_row<'a>(
         }
     }
     next(t, heads, starts, bodies, before, partners, owners, end)
+}
+
+// The place of the first clause of the next row of c's item, which has k clauses.
+pub fn further_row(c: Place, k: u16) -> Place
+    requires { ⌜ (c .number + c .spot .clauses ≤ 53690) × (c .spot .row + 1 ≤ 501) × (0 < c .spot .rows) × (0 < k) ⌝ }
+    ensures { λ r. ⌜ r ≡ furtherRow c k ⌝ }
+{
+    let s = c.spot;
+    Place {
+        number: c.number + s.clauses as usize + 1,
+        spot: Spot {
+            group: s.group,
+            item: s.item,
+            row: s.row + 1,
+            clause: 1,
+            clauses: k - 1,
+            rows: s.rows - 1,
+            items: s.items,
+        },
+    }
 }

@@ -1,5 +1,7 @@
 // The lines of the clause file from a place on, into a lent buffer (document 01, "Clauses, in order").
+use layout::size;
 use places::Place;
+use places::further_row;
 use places::next;
 use places::past_row;
 use printing::clause_length;
@@ -9,7 +11,7 @@ use printing::put_clause;
 use printing::put_header;
 use rows::put_row;
 use tables::Totals;
-ghost use Prim.Native.Nat.{suc, _≤_};
+ghost use Prim.Native.Nat.{suc, _+_, _≤_};
 ghost use mathlib.Core.Path.{_≡_};
 ghost use mathlib.Core.Bool.{true};
 ghost use mathlib.Core.List.{_++_};
@@ -117,6 +119,41 @@ fn fits<'a>(
     line_length(t, heads, starts, bodies, before, partners, owners, c) <= room
 }
 
+// The place of the clause after the last one of c's row, by `past_row` only where the item has no further row.
+fn behind<'a>(
+    t: Totals,
+    heads: &'a [u16],
+    starts: &'a [u16],
+    bodies: &'a [u16],
+    before: &'a [u16],
+    partners: &'a [u16],
+    owners: &'a [u16],
+    c: Place,
+) -> Place
+    requires { ⌜ (Ready t (now heads) (now starts) (now bodies) (now before) (now partners) (now owners)) × (c ≡ placeAt (programIn (t .sizes) (now heads) (now starts) (now bodies)) (t .sizes .w) (c .number)) × (c .number ≤ t .clauses) ⌝ }
+    ensures { λ r. ⌜ (r ≡ placeAt (programIn (t .sizes) (now (heads .entry)) (now (starts .entry)) (now (bodies .entry))) (t .sizes .w) (suc (c .number + c .spot .clauses))) × (c .number + c .spot .clauses ≤ t .clauses) ⌝ }
+{
+    let s = c.spot;
+    if 0 < s.rows {
+        let k = size(
+            t,
+            heads,
+            starts,
+            bodies,
+            before,
+            partners,
+            owners,
+            s.group,
+            s.item,
+            s.row + 1,
+        );
+        if 0 < k {
+            return further_row(c, k);
+        }
+    }
+    past_row(t, heads, starts, bodies, before, partners, owners, c)
+}
+
 // Writes the lines of the row of groups 4 and 5 that begins at place c.
 fn put_whole_row<'a>(
     t: Totals,
@@ -149,7 +186,7 @@ fn put_whole_row<'a>(
     Part {
         lines: s.clauses as usize + 1,
         bytes: bytes,
-        place: past_row(t, heads, starts, bodies, before, partners, owners, c),
+        place: behind(t, heads, starts, bodies, before, partners, owners, c),
     }
 }
 

@@ -39,9 +39,10 @@ use Rattle.places.proofs.Numbers.{number-is, own-number, placed-at, placed-clau
 use Rattle.places.proofs.RowPlaces.{along, row-size}
 use Rattle.truth.specs.Truth.{valueIn, falseAt, firstFalse}
 use Rattle.row_truth.specs.Rows.{rowTrue, isWhole, rowPasses}
-use Rattle.truth.specs.Standing.{TrueTo, Standing, furtherRow}
+use Rattle.truth.specs.Standing.{TrueTo, Standing}
+use Rattle.places.specs.Places.{furtherRow}
 use Rattle.truth.proofs.Values.{variable-in}
-use Rattle.truth.proofs.Behind.{behind-is, place-listed}
+use Rattle.places.proofs.Behind.{behind-is, place-listed}
 
 or-false : (a b : Bool) → a ≡ false → b ≡ false → (a || b) ≡ false
 or-false a b p q = ap₂ _||_ p q

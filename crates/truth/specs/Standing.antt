@@ -1,9 +1,8 @@
 -- Places on the way to the first false clause.
 --   TrueTo P vs n        the first n clauses are true
 --   Standing P t vs c    c is a place, or the one behind the last, with all clauses before it true
---   furtherRow c k       the place of the first clause of the next row of c's item, which has k clauses
 -- Assumes nothing.
-use Prim.Native.Nat.{ℕ, suc, pred, _+_, _-_, _≤_, _<_}
+use Prim.Native.Nat.{ℕ, suc, pred, _≤_, _<_}
 use mathlib.Core.Path.{_≡_}
 use mathlib.Core.Bool.{false}
 use mathlib.Core.List.{List}
@@ -21,19 +20,3 @@ pub record Standing (P : Program) (t : Totals) (vs : List ℕ) (c : Place) : Typ
   pub some : 0 < c .number
   pub within : c .number ≤ suc (t .clauses)
   pub true-before : TrueTo P vs (pred (c .number))
-
-abbrev pub furtherRow : Place → ℕ → Place
-furtherRow c k =
-    record {
-      number = c .number + c .spot .clauses + 1;
-      spot =
-          record {
-            group = c .spot .group;
-            item = c .spot .item;
-            row = c .spot .row + 1;
-            clause = 1;
-            clauses = k - 1;
-            rows = c .spot .rows - 1;
-            items = c .spot .items;
-          };
-    }

@@ -5,7 +5,7 @@ use layout::past_empty;
 use layout::size;
 use layout::slots;
 use places::Place;
-use places::Spot;
+use places::further_row;
 use places::next;
 use places::past_row;
 use places::start;
@@ -23,7 +23,7 @@ ghost use Rattle.walk.specs.Walk.{clauseAt, At};
 ghost use Rattle.tables.specs.Tables.{programIn, Ready};
 ghost use Rattle.printing.specs.Lines.{literalsIn};
 ghost use Rattle.truth.specs.Truth.{valueIn, firstFalse};
-ghost use Rattle.truth.specs.Standing.{Standing, furtherRow};
+ghost use Rattle.truth.specs.Standing.{Standing};
 
 // Whether a slot holds a true literal.
 fn slot_holds(x: Signed, assignment: &[u8]) -> bool
@@ -91,26 +91,6 @@ pub fn clause_holds<'a>(
         l = past_empty(t.sizes.m, heads, g, a, i, l + 1);
     }
     false
-}
-
-// The place of the first clause of the next row of c's item, which has k clauses.
-fn further_row(c: Place, k: u16) -> Place
-    requires { ⌜ (c .number + c .spot .clauses ≤ 53690) × (c .spot .row + 1 ≤ 501) × (0 < c .spot .rows) × (0 < k) ⌝ }
-    ensures { λ r. ⌜ r ≡ furtherRow c k ⌝ }
-{
-    let s = c.spot;
-    Place {
-        number: c.number + s.clauses as usize + 1,
-        spot: Spot {
-            group: s.group,
-            item: s.item,
-            row: s.row + 1,
-            clause: 1,
-            clauses: k - 1,
-            rows: s.rows - 1,
-            items: s.items,
-        },
-    }
 }
 
 // From a place with all clauses before it true to such a place further on in the item: past rows that are taken whole and are true.

@@ -5,7 +5,7 @@ use Rattle.runs.proofs.put_whole_row.Statement.{statement}
 use Rattle.runs.proofs.put_whole_row.Tie as tie
 use Rattle.runs.proofs.put_whole_row.Reads as reads
 use Rattle.runs.proofs.put_whole_row.Lts as lts
-use Rattle.places.proofs.past_row.Reads as past-row-reads
+use Rattle.runs.proofs.behind.Reads as behind-reads
 use Rattle.rows.proofs.put_row.Reads as put-row-reads
 
 -- src/lib.rt:165:9
@@ -21,8 +21,8 @@ add-t15 : tie.Need-add-t15
 add-t15 c = search needs
 
 -- src/lib.rt:181:16
-past-row-requires : tie.Need-past-row-requires
-past-row-requires c κs = search needs
+behind-requires : tie.Need-behind-requires
+behind-requires c κs = search needs
 
 -- src/lib.rt:150:1
 same-length : tie.Need-same-length
@@ -30,8 +30,8 @@ same-length c = search needs
 
 -- src/lib.rt:150:1
 returns : tie.Need-returns
-returns c = row-taken (c .before .before .before .before .before .before .before .before .before .before .before .before .before .before .pre .0) (c .before .before .before .before .before .before .before .before .before .before .before .before .before .before .pre .1) (c .before .before .before .before .before .before .before .before .before .before .before .before .before .before .pre .2) (c .before .before .before .before .before .before .before .before .before .before .before .before .before .before .pre .4) (c .past-row .ensures .1) (now (c .before .before .before .before .before .before .before .before .before .before .before .before .before .before .args .buf)) (c .before .before .before .before .before .before .before .before .before .before .before .before .before .before .pre .3) (c .before .before .before .before .before .before .before .before .before .before .before .before .before .before .pre .5) (c .before .before .before .before .put-row .ensures) (c .past-row .ensures .0)
+returns c = row-taken (c .before .before .before .before .before .before .before .before .before .before .before .before .before .before .pre .0) (c .before .before .before .before .before .before .before .before .before .before .before .before .before .before .pre .1) (c .before .before .before .before .before .before .before .before .before .before .before .before .before .before .pre .2) (c .before .before .before .before .before .before .before .before .before .before .before .before .before .before .pre .4) (c .behind .ensures .1) (now (c .before .before .before .before .before .before .before .before .before .before .before .before .before .before .args .buf)) (c .before .before .before .before .before .before .before .before .before .before .before .before .before .before .pre .3) (c .before .before .before .before .before .before .before .before .before .before .before .before .before .before .pre .5) (c .before .before .before .before .put-row .ensures) (c .behind .ensures .0)
 
 pub put-whole-row-spec : {M : Type 1} → statement M
 put-whole-row-spec =
-    tie.close (tie.spec put-row-requires cast-t14 add-t15 past-row-requires same-length returns)
+    tie.close (tie.spec put-row-requires cast-t14 add-t15 behind-requires same-length returns)

@@ -5,7 +5,7 @@ use native.Mathlib.Nat.{le-refl, pos-of-ne-zero}
 use borrow.Author.Tests.{not-true, not-false}
 use borrow.Author.Needs.{needs}
 use Rattle.tables.specs.Tables.{programIn}
-use Rattle.truth.proofs.Behind.{behind-sum, behind-adds, behind-at}
+use Rattle.places.proofs.Behind.{behind-sum, behind-adds, behind-at}
 use Rattle.truth.proofs.Clauses.{clause-asks, furthered}
 use Rattle.truth.specs.Standing.{Standing}
 use Rattle.truth.proofs.through_rows.Statement.{statement}
@@ -14,7 +14,7 @@ use Rattle.truth.proofs.through_rows.Reads as reads
 use Rattle.truth.proofs.through_rows.Lts as lts
 use Rattle.layout.proofs.size.Reads as size-reads
 use Rattle.row_truth.proofs.row_passes.Reads as row-passes-reads
-use Rattle.truth.proofs.further_row.Reads as further-row-reads
+use Rattle.places.proofs.further_row.Reads as further-row-reads
 
 abbrev Inv-loop : tie.InvT-loop
 Inv-loop t heads starts bodies before partners owners assignment at₀ at = (Standing (programIn (t .sizes) heads starts bodies) t assignment at) × (at₀ .number ≤ at .number) × (at .number ≤ t .clauses)
