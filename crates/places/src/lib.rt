@@ -220,7 +220,7 @@ fn last<'a>(
     }
 }
 
-// The place of the clause after the last one of c's row: the first of the next row of the item, where that has one.
+// The place of the clause after the last one of c's row.
 pub fn past_row<'a>(
     t: Totals,
     heads: &'a [u16],
@@ -235,36 +235,6 @@ pub fn past_row<'a>(
     ensures { λ r. ⌜ (r ≡ placeAt (programIn (t .sizes) (now (heads .entry)) (now (starts .entry)) (now (bodies .entry))) (t .sizes .w) (suc (c .number + c .spot .clauses))) × (c .number + c .spot .clauses ≤ t .clauses) ⌝ }
 {
     let end = last(t, heads, starts, bodies, before, partners, owners, c);
-    let s = end.spot;
-    if 0 < s.rows {
-        let i = s.row + 1;
-        let k = size(
-            t,
-            heads,
-            starts,
-            bodies,
-            before,
-            partners,
-            owners,
-            s.group,
-            s.item,
-            i,
-        );
-        if 0 < k {
-            return Place {
-                number: end.number + 1,
-                spot: Spot {
-                    group: s.group,
-                    item: s.item,
-                    row: i,
-                    clause: 1,
-                    clauses: k - 1,
-                    rows: s.rows - 1,
-                    items: s.items,
-                },
-            };
-        }
-    }
     next(t, heads, starts, bodies, before, partners, owners, end)
 }
 

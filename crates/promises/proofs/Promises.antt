@@ -348,6 +348,8 @@ use Rattle.runs.proofs.line_length.Statement.{statement as line-length·stateme
 use Rattle.runs.proofs.line_length.Met.{met as line-length·met}
 use Rattle.runs.proofs.put_line.Statement.{statement as put-line·statement}
 use Rattle.runs.proofs.put_line.Met.{met as put-line·met}
+use Rattle.places.proofs.further_row.Statement.{statement as further-row·statement}
+use Rattle.places.proofs.further_row.Met.{met as further-row·met}
 use Rattle.places.proofs.past_row.Statement.{statement as past-row·statement}
 use Rattle.places.proofs.past_row.Met.{met as past-row·met}
 use Rattle.files.proofs.rest_length.Statement.{statement as rest-length·statement}
@@ -1001,8 +1003,9 @@ pub record Walk (M : Type 1) : Type 2 where
   -- the place before the first clause, and from the place of clause j that of clause j + 1
   pub start : places-start·statement M
   pub next : places-next·statement M
-  -- and that of the clause behind the row
+  -- and that of the clause behind the row, also where the item has a further row
   pub past-row : past-row·statement M
+  pub further-row : further-row·statement M
   -- the place of clause j
   pub place-of : place-of·statement M
   -- truth of the clause at a place, and the first clause that is false, under the assignment of a buffer
@@ -1012,7 +1015,7 @@ pub record Walk (M : Type 1) : Type 2 where
   pub first-false : first-false·statement M
 
 pub walks : (M : Type 1) → Walk M
-walks M = record { items = layout-items·met; rows = layout-rows·met; size = layout-size·met; slots = layout-slots·met; slot = layout-slot·met; chain-at = chain-at·met; literal-in = literal-in·met; next-head = next-head·met; past-empty = past-empty·met; start = places-start·met; next = places-next·met; past-row = past-row·met; place-of = place-of·met; literal-holds = literal-holds·met; row-passes = row-passes·met; clause-holds = clause-holds·met; first-false = first-false·met }
+walks M = record { items = layout-items·met; rows = layout-rows·met; size = layout-size·met; slots = layout-slots·met; slot = layout-slot·met; chain-at = chain-at·met; literal-in = literal-in·met; next-head = next-head·met; past-empty = past-empty·met; start = places-start·met; next = places-next·met; past-row = past-row·met; further-row = further-row·met; place-of = place-of·met; literal-holds = literal-holds·met; row-passes = row-passes·met; clause-holds = clause-holds·met; first-false = first-false·met }
 
 -- printing, lines, input
 pub record Lines (M : Type 1) : Type 2 where
