@@ -1,4 +1,4 @@
--- What each function of src/quick.rt returns, from the tests that it makes; and one function after the other.
+-- What each function returns, from the tests that it makes; and one function after the other.
 --   word-in, few-rules, room-left, list-below, listing-below   bounds that the tests give
 --   begun-goes, between-goes, shut-goes, closed-goes, headed-goes, first-goes, space-goes, bracket-goes   the returns that go on
 -- Assumes nothing.
