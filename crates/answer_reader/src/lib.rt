@@ -1,11 +1,11 @@
 // A solver answer, read byte by byte: its status, its literals one after the other, and what follows literal 0
 // (document 01, "Solver answer"). The definitions are those of the crate answers; states are those of its automaton.
+use form::is_digit;
 use literals::negate;
 ghost use Prim.Native.Nat.{_+_, _*_, _-_, _^_, _≤_, _<_, min, max};
 ghost use mathlib.Core.Path.{_≡_};
 ghost use lib.ListN.{length, drop};
 ghost use Rattle.encoding.specs.Literal.{literalNumber, var, −_};
-ghost use Rattle.form.specs.Automaton.{digitTest};
 ghost use Rattle.answers.specs.Automaton.{seekStep, endStep};
 ghost use Rattle.answers.specs.Reading.{common, firstLine, statusOf, cappedValue, behindDigits, minusFrom, literalFrom, nextLiteral, closeOf};
 ghost use Rattle.answer_reader.specs.Results.{mostNumber, noComment, commentState, foundFor, spaceFrom, nextFor, closeFor, closedForm};
@@ -35,16 +35,6 @@ pub enum Formed {
     Model(usize),
     NoModel,
     Malformed(usize),
-}
-
-// Whether b is a decimal digit.
-fn is_digit(b: u8) -> bool
-    ensures { λ r. ⌜ r ≡ digitTest b ⌝ }
-{
-    if b < 48 {
-        return false;
-    }
-    b < 58
 }
 
 // ---- after literal 0

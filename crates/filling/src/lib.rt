@@ -1,17 +1,19 @@
 // The filled-out assignment of a set of atoms and their levels, family by family into a lent buffer (document 01, "Check and filling out").
+use layout::entry;
 use numbers::Rule;
+use numbers::wide;
 use program::head;
 use stages::byte_of;
 use stages::negatives_out;
 use stages::positives_below;
 use stages::positives_in;
 use tables::Totals;
-ghost use Prim.Native.Nat.{_+_, _-_, _≤_, _<_};
+ghost use Prim.Native.Nat.{_+_, _≤_, _<_};
 ghost use mathlib.Core.Path.{_≡_};
 ghost use mathlib.Core.Bool.{cond};
 ghost use mathlib.Core.List.{_++_};
 ghost use lib.Dec.{eqb};
-ghost use lib.ListN.{length, getD, drop};
+ghost use lib.ListN.{length, drop};
 ghost use Rattle.lists.specs.Lists.{tab};
 ghost use Rattle.meaning.specs.Program.{ruleAt, bodyTrue};
 ghost use Rattle.meaning.specs.Stage.{level};
@@ -21,12 +23,6 @@ ghost use Rattle.stages.specs.Levels.{setIn, levelAt};
 ghost use Rattle.offering.specs.Offered.{valueBytes};
 ghost use Rattle.filling.specs.Values.{byteOf, atomBytes, bodyBytes, foundsBytes, bitBytes, levelBytes, lessBytes, pairBytes, chainBytes, filledWith};
 
-fn wide(x: u16) -> usize
-    ensures { λ r. ⌜ r ≡ x ⌝ }
-{
-    x as usize
-}
-
 fn as_byte(x: bool) -> u8
     ensures { λ r. ⌜ r ≡ byteOf x ⌝ }
 {
@@ -34,15 +30,6 @@ fn as_byte(x: bool) -> u8
         return 1;
     }
     0
-}
-
-// Entry k, from 1.
-fn entry(xs: &[u16], k: u16) -> u16
-    requires { ⌜ (0 < k) × (k ≤ length (now xs)) ⌝ }
-    ensures { λ r. ⌜ r ≡ getD (now (xs .entry)) (k - 1) 0 ⌝ }
-{
-    let i = wide(k - 1);
-    xs[i]
 }
 
 // The level of atom a.

@@ -2,6 +2,7 @@
 use layout::items;
 use layout::rows;
 use layout::size;
+use numbers::wide;
 use places::Place;
 use places::Spot;
 use places::start;
@@ -20,12 +21,6 @@ ghost use Rattle.finding.specs.Sizes.{itemSize, groupSize, lowCount, isF
 pub struct Found {
     pub number: u16,
     pub left: usize,
-}
-
-fn wide(x: u16) -> usize
-    ensures { λ r. ⌜ r ≡ x ⌝ }
-{
-    x as usize
 }
 
 // Whether the items of group g have one size.

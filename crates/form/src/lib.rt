@@ -28,7 +28,8 @@ fn form_at(k: usize) -> u8
     at(b"(atoms #)\n(rule # (*) (*))\n", k)
 }
 
-fn is_digit(b: u8) -> bool
+// Whether b is a decimal digit.
+pub fn is_digit(b: u8) -> bool
     ensures { λ r. ⌜ r ≡ digitTest b ⌝ }
 {
     if b < 48 {

@@ -3,6 +3,7 @@ use literals::Sizes;
 use numbers::Atom;
 use numbers::Rule;
 use numbers::Var;
+use numbers::wide;
 use program::head;
 use slots::Chain;
 use slots::Signed;
@@ -33,12 +34,6 @@ ghost use Rattle.tables.specs.Tables.{programIn, Ready};
 ghost use Rattle.walk.specs.Walk.{RowAt, At};
 ghost use Rattle.layout.specs.RowChain.{chainAt};
 ghost use Rattle.layout.specs.Numbers.{itemsOf, rowsOf, impliedSize, isAt, amongEight, nextHead, pastEmpty};
-
-fn wide(x: u16) -> usize
-    ensures { λ r. ⌜ r ≡ x ⌝ }
-{
-    x as usize
-}
 
 // How many items group g has, and how many rows each of them has.
 pub fn items(t: Totals, g: u16) -> u16
@@ -81,7 +76,7 @@ fn element(xs: &[u16], j: usize) -> u16
 }
 
 // Entry k, from 1.
-fn entry(xs: &[u16], k: u16) -> u16
+pub fn entry(xs: &[u16], k: u16) -> u16
     requires { ⌜ (0 < k) × (k ≤ length (now xs)) ⌝ }
     ensures { λ r. ⌜ r ≡ getD (now (xs .entry)) (k - 1) 0 ⌝ }
 {

@@ -2,6 +2,7 @@
 //
 // Each function goes on from where the reading stands, or stays there: the rest of the text is read to the same end from the stand that it
 // returns. None of them refuses a text. What they do not take is left to the automaton.
+use form::is_digit;
 use numbers::Atom;
 use numbers::Rule;
 use numbers::wide;
@@ -9,7 +10,6 @@ use reading::put_body;
 use reading::put_head;
 ghost use Prim.Native.Nat.{_<_};
 ghost use mathlib.Core.Path.{_≡_};
-ghost use Rattle.form.specs.Automaton.{digitTest};
 ghost use Rattle.pieces.specs.Standing.{readOn, Goes, GoesHeads, GoesStarts, GoesBodies};
 ghost use Rattle.pieces.specs.Standing.{hasAt, numeralOf, numeralAt, readyAt, listAt, listingAt, fitsAt, addedTo};
 
@@ -51,15 +51,6 @@ fn has<'a>(text: &'a [u8], at: usize, word: &'a [u8]) -> bool
         k += 1;
     }
     true
-}
-
-fn is_digit(b: u8) -> bool
-    ensures { λ r. ⌜ r ≡ digitTest b ⌝ }
-{
-    if b < 48 {
-        return false;
-    }
-    b < 58
 }
 
 // The number of one to three digits, the first not 0, that begins with the bytes a, b and c.

@@ -251,6 +251,8 @@ use Rattle.program.proofs.body_atom.Statement.{statement as body-atom·statemen
 use Rattle.program.proofs.body_atom.Met.{met as body-atom·met}
 use Rattle.form.proofs.step.Statement.{statement as step·statement}
 use Rattle.form.proofs.step.Met.{met as step·met}
+use Rattle.form.proofs.is_digit.Statement.{statement as is-digit·statement}
+use Rattle.form.proofs.is_digit.Met.{met as is-digit·met}
 use Rattle.numbers.proofs.wide.Statement.{statement as wide·statement}
 use Rattle.numbers.proofs.wide.Met.{met as wide·met}
 use Rattle.reading.proofs.put_head.Statement.{statement as put-head·statement}
@@ -348,6 +350,8 @@ use Rattle.runs.proofs.line_length.Statement.{statement as line-length·stateme
 use Rattle.runs.proofs.line_length.Met.{met as line-length·met}
 use Rattle.runs.proofs.put_line.Statement.{statement as put-line·statement}
 use Rattle.runs.proofs.put_line.Met.{met as put-line·met}
+use Rattle.layout.proofs.entry.Statement.{statement as entry·statement}
+use Rattle.layout.proofs.entry.Met.{met as entry·met}
 use Rattle.places.proofs.further_row.Statement.{statement as further-row·statement}
 use Rattle.places.proofs.further_row.Met.{met as further-row·met}
 use Rattle.places.proofs.past_row.Statement.{statement as past-row·statement}
@@ -896,6 +900,7 @@ pub record Reader (M : Type 1) : Type 2 where
   pub body-atom : body-atom·statement M
   -- one byte of the form is `stepOf`
   pub step : step·statement M
+  pub is-digit : is-digit·statement M
   -- what a byte does to counts and arrays, the number at hand with its first byte, and a kept refusal are `workOf`, `valueOf`, `beginOf`, `refusedOf`
   pub work : work·statement M
   pub value-after : value-after·statement M
@@ -910,7 +915,7 @@ pub record Reader (M : Type 1) : Type 2 where
   pub wide : wide·statement M
 
 pub reader : (M : Type 1) → Reader M
-reader M = record { read = read·met; number-of = number-of·met; spot-of = spot-of·met; empty = empty·met; head = head·met; body-atom = body-atom·met; step = step·met; work = work·met; value-after = value-after·met; begin-after = begin-after·met; refused = reading-refused·met; put-head = put-head·met; put-body = put-body·met; lines = pieces-lines·met; atom-var = atom-var·met; wide = wide·met }
+reader M = record { read = read·met; number-of = number-of·met; spot-of = spot-of·met; empty = empty·met; head = head·met; body-atom = body-atom·met; step = step·met; is-digit = is-digit·met; work = work·met; value-after = value-after·met; begin-after = begin-after·met; refused = reading-refused·met; put-head = put-head·met; put-body = put-body·met; lines = pieces-lines·met; atom-var = atom-var·met; wide = wide·met }
 
 -- literals
 pub record Literals (M : Type 1) : Type 2 where
@@ -999,6 +1004,7 @@ pub record Walk (M : Type 1) : Type 2 where
   pub literal-in : literal-in·statement M
   -- the next rule of an atom, and how many slots are done once the empty ones are passed
   pub next-head : next-head·statement M
+  pub entry : entry·statement M
   pub past-empty : past-empty·statement M
   -- the place before the first clause, and from the place of clause j that of clause j + 1
   pub start : places-start·statement M
@@ -1015,7 +1021,7 @@ pub record Walk (M : Type 1) : Type 2 where
   pub first-false : first-false·statement M
 
 pub walks : (M : Type 1) → Walk M
-walks M = record { items = layout-items·met; rows = layout-rows·met; size = layout-size·met; slots = layout-slots·met; slot = layout-slot·met; chain-at = chain-at·met; literal-in = literal-in·met; next-head = next-head·met; past-empty = past-empty·met; start = places-start·met; next = places-next·met; past-row = past-row·met; further-row = further-row·met; place-of = place-of·met; literal-holds = literal-holds·met; row-passes = row-passes·met; clause-holds = clause-holds·met; first-false = first-false·met }
+walks M = record { items = layout-items·met; rows = layout-rows·met; size = layout-size·met; slots = layout-slots·met; slot = layout-slot·met; chain-at = chain-at·met; literal-in = literal-in·met; next-head = next-head·met; entry = entry·met; past-empty = past-empty·met; start = places-start·met; next = places-next·met; past-row = past-row·met; further-row = further-row·met; place-of = place-of·met; literal-holds = literal-holds·met; row-passes = row-passes·met; clause-holds = clause-holds·met; first-false = first-false·met }
 
 -- printing, lines, input
 pub record Lines (M : Type 1) : Type 2 where

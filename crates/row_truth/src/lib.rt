@@ -1,5 +1,6 @@
 // Truth of single literals, and of whole rows of clauses, under an assignment (document 01, "Check and filling out").
 use layout::chain_at;
+use layout::entry;
 use literals::Sizes;
 use literals::below_var;
 use literals::body_var;
@@ -239,15 +240,6 @@ fn rule_row_holds(s: Sizes, r: Rule, h: Atom, k: u16, b: u16, assignment: &[u8])
         return fact_holds(s, r, h, assignment);
     }
     bound_holds(s, r, k, b, assignment)
-}
-
-// Entry k of an array, from 1.
-fn entry(xs: &[u16], k: u16) -> u16
-    requires { ⌜ (0 < k) × (k ≤ length (now xs)) ⌝ }
-    ensures { λ r. ⌜ r ≡ getD (now (xs .entry)) (k - 1) 0 ⌝ }
-{
-    let i = (k - 1) as usize;
-    xs[i]
 }
 
 // How many pairs rule r has: its positive body atoms.

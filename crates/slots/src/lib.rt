@@ -10,6 +10,7 @@ use numbers::Atom;
 use numbers::Rule;
 use numbers::Var;
 use numbers::atom_var;
+use numbers::wide;
 use program::head;
 ghost use Prim.Native.Nat.{pred, _+_, _-_, _≤_, _<_};
 ghost use mathlib.Core.Path.{_≡_};
@@ -251,12 +252,6 @@ pub fn rule_slot(s: Sizes, r: Rule, h: Atom, k: u16, b: u16, y: u16, l: u16) -> 
         );
     }
     lowest_slot(s, r, k, l)
-}
-
-fn wide(x: u16) -> usize
-    ensures { λ r. ⌜ r ≡ x ⌝ }
-{
-    x as usize
 }
 
 // Body atom x of a rule, from 1, as a variable.

@@ -1,6 +1,7 @@
 // The level numbers of a set of atoms (document 01, "Meaning"): the stages of its reduct, in one round over the rules for each,
 // and the smallest atom where the set and the least model differ.
 use numbers::Rule;
+use numbers::wide;
 use program::head;
 use tables::Totals;
 ghost use Prim.Native.Nat.{pred, _+_, _-_, _*_, _≤_, _<_};
@@ -15,12 +16,6 @@ ghost use Rattle.meaning.specs.Stage.{level};
 ghost use Rattle.tables.specs.Tables.{programIn, Ready};
 ghost use Rattle.truth.specs.Truth.{valueIn};
 ghost use Rattle.stages.specs.Levels.{setIn, levelAt, enters, fires, firedBytes, levelAfter, firstUnlike};
-
-fn wide(x: u16) -> usize
-    ensures { λ r. ⌜ r ≡ x ⌝ }
-{
-    x as usize
-}
 
 // The byte of atom a.
 pub fn byte_of(bytes: &[u8], a: u16) -> u8

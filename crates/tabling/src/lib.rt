@@ -2,6 +2,7 @@
 use literals::Sizes;
 use literals::var_count;
 use literals::width_of;
+use numbers::wide;
 use program::Program;
 use tables::Pairs;
 use tables::Totals;
@@ -13,12 +14,6 @@ ghost use Rattle.encoding.specs.Clauses.{pairCount, emptyBodies};
 ghost use Rattle.reader_laws.specs.Decoded.{decoded};
 ghost use Rattle.tables.specs.Tables.{Stored, pairTable, totalsOf};
 ghost use Rattle.tabling.specs.Formula.{whenNone, clausesFor};
-
-fn wide(x: u16) -> usize
-    ensures { λ r. ⌜ r ≡ x ⌝ }
-{
-    x as usize
-}
 
 fn element(xs: &[u16], j: usize) -> u16
     requires { ⌜ j < length (now xs) ⌝ }

@@ -10,7 +10,7 @@ use Rattle.answer_reader.proofs.literal_at.Statement.{statement}
 use Rattle.answer_reader.proofs.literal_at.Tie as tie
 use Rattle.answer_reader.proofs.literal_at.Reads as reads
 use Rattle.answer_reader.proofs.literal_at.Lts as lts
-use Rattle.answer_reader.proofs.is_digit.Reads as is-digit-reads
+use Rattle.form.proofs.is_digit.Reads as is-digit-reads
 use Rattle.answer_reader.proofs.minus_at.Reads as minus-at-reads
 use Rattle.answer_reader.proofs.number_at.Reads as number-at-reads
 use Rattle.answer_reader.proofs.positive.Reads as positive-reads

@@ -13,7 +13,7 @@ use Rattle.filling.proofs.put_atoms.Tie as tie
 use Rattle.filling.proofs.put_atoms.Reads as reads
 use Rattle.filling.proofs.put_atoms.Lts as lts
 use Rattle.filling.proofs.as_byte.Reads as as-byte-reads
-use Rattle.filling.proofs.wide.Reads as wide-reads
+use Rattle.numbers.proofs.wide.Reads as wide-reads
 
 abbrev Inv-loop : tie.InvT-loop
 Inv-loop n set buf₀ a₀ buf a = (a ≤ n) × Begins buf₀ buf (truthBytes a (setIn n set)) a

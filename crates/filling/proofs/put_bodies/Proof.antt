@@ -15,7 +15,7 @@ use Rattle.filling.proofs.put_bodies.Reads as reads
 use Rattle.filling.proofs.put_bodies.Lts as lts
 use Rattle.filling.proofs.as_byte.Reads as as-byte-reads
 use Rattle.filling.proofs.body_true.Reads as body-true-reads
-use Rattle.filling.proofs.wide.Reads as wide-reads
+use Rattle.numbers.proofs.wide.Reads as wide-reads
 
 abbrev Inv-loop : tie.InvT-loop
 Inv-loop t heads starts bodies before partners owners set buf₀ r₀ buf r = (r ≤ t .sizes .m) × Begins buf₀ buf (truthBytes r (bodyAt (programIn (t .sizes) heads starts bodies) (setIn (t .sizes .n) set))) r

@@ -14,7 +14,7 @@ use Rattle.filling.proofs.put_chains.Statement.{statement}
 use Rattle.filling.proofs.put_chains.Tie as tie
 use Rattle.filling.proofs.put_chains.Reads as reads
 use Rattle.filling.proofs.put_chains.Lts as lts
-use Rattle.filling.proofs.entry.Reads as entry-reads
+use Rattle.layout.proofs.entry.Reads as entry-reads
 use Rattle.filling.proofs.level_of.Reads as level-of-reads
 use Rattle.filling.proofs.put_pair.Reads as put-pair-reads
 

@@ -15,7 +15,7 @@ use Rattle.filling.proofs.put_founds.Reads as reads
 use Rattle.filling.proofs.put_founds.Lts as lts
 use Rattle.filling.proofs.as_byte.Reads as as-byte-reads
 use Rattle.filling.proofs.rule_founds.Reads as rule-founds-reads
-use Rattle.filling.proofs.wide.Reads as wide-reads
+use Rattle.numbers.proofs.wide.Reads as wide-reads
 
 abbrev Inv-loop : tie.InvT-loop
 Inv-loop t heads starts bodies before partners owners set levels buf₀ r₀ buf r = (r ≤ t .sizes .m) × Begins buf₀ buf (truthBytes r (foundsAt (programIn (t .sizes) heads starts bodies) (setIn (t .sizes .n) set) (levelAt levels))) r

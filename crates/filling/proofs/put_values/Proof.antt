@@ -15,7 +15,7 @@ use Rattle.filling.proofs.put_bodies.Reads as put-bodies-reads
 use Rattle.filling.proofs.put_chains.Reads as put-chains-reads
 use Rattle.filling.proofs.put_founds.Reads as put-founds-reads
 use Rattle.filling.proofs.put_levels.Reads as put-levels-reads
-use Rattle.filling.proofs.wide.Reads as wide-reads
+use Rattle.numbers.proofs.wide.Reads as wide-reads
 
 -- src/lib.rt:342:9
 wide-requires : tie.Need-wide-requires

@@ -10,7 +10,7 @@ use Rattle.finding.proofs.atoms_size.Tie as tie
 use Rattle.finding.proofs.atoms_size.Reads as reads
 use Rattle.finding.proofs.atoms_size.Lts as lts
 use Rattle.finding.proofs.low_count.Reads as low-count-reads
-use Rattle.finding.proofs.wide.Reads as wide-reads
+use Rattle.numbers.proofs.wide.Reads as wide-reads
 
 -- src/lib.rt:82:20
 slice-aggregate-low-count : tie.Need-slice-aggregate-low-count

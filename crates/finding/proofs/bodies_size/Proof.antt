@@ -9,7 +9,7 @@ use Rattle.finding.proofs.bodies_size.Statement.{statement}
 use Rattle.finding.proofs.bodies_size.Tie as tie
 use Rattle.finding.proofs.bodies_size.Reads as reads
 use Rattle.finding.proofs.bodies_size.Lts as lts
-use Rattle.finding.proofs.wide.Reads as wide-reads
+use Rattle.numbers.proofs.wide.Reads as wide-reads
 
 -- src/lib.rt:90:19
 wide-requires : tie.Need-wide-requires

@@ -11,7 +11,7 @@ use Rattle.finding.proofs.find_group.Tie as tie
 use Rattle.finding.proofs.find_group.Reads as reads
 use Rattle.finding.proofs.find_group.Lts as lts
 use Rattle.finding.proofs.group_size.Reads as group-size-reads
-use Rattle.finding.proofs.wide.Reads as wide-reads
+use Rattle.numbers.proofs.wide.Reads as wide-reads
 
 abbrev Inv-loop : tie.InvT-loop
 Inv-loop t heads starts bodies before partners owners left last g₀ at₀ g at = Passed 6 (groupSize (programIn (t .sizes) heads starts bodies) (t .sizes .w)) left g at

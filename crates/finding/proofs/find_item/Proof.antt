@@ -10,7 +10,7 @@ use Rattle.finding.proofs.find_atom.Reads as find-atom-reads
 use Rattle.finding.proofs.find_rule.Reads as find-rule-reads
 use Rattle.finding.proofs.fixed_size.Reads as fixed-size-reads
 use Rattle.finding.proofs.is_fixed.Reads as is-fixed-reads
-use Rattle.finding.proofs.wide.Reads as wide-reads
+use Rattle.numbers.proofs.wide.Reads as wide-reads
 
 -- src/lib.rt:237:8
 is-fixed-requires : tie.Need-is-fixed-requires

@@ -10,7 +10,7 @@ use Rattle.finding.proofs.find_row.Statement.{statement}
 use Rattle.finding.proofs.find_row.Tie as tie
 use Rattle.finding.proofs.find_row.Reads as reads
 use Rattle.finding.proofs.find_row.Lts as lts
-use Rattle.finding.proofs.wide.Reads as wide-reads
+use Rattle.numbers.proofs.wide.Reads as wide-reads
 use Rattle.layout.proofs.rows.Reads as rows-reads
 use Rattle.layout.proofs.size.Reads as size-reads
 

@@ -10,7 +10,7 @@ use Rattle.finding.proofs.find_rule.Statement.{statement}
 use Rattle.finding.proofs.find_rule.Tie as tie
 use Rattle.finding.proofs.find_rule.Reads as reads
 use Rattle.finding.proofs.find_rule.Lts as lts
-use Rattle.finding.proofs.wide.Reads as wide-reads
+use Rattle.numbers.proofs.wide.Reads as wide-reads
 use Rattle.layout.proofs.items.Reads as items-reads
 use Rattle.layout.proofs.size.Reads as size-reads
 

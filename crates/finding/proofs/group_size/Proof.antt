@@ -7,7 +7,7 @@ use Rattle.finding.proofs.group_size.Reads as reads
 use Rattle.finding.proofs.group_size.Lts as lts
 use Rattle.finding.proofs.bodies_size.Reads as bodies-size-reads
 use Rattle.finding.proofs.fixed_size.Reads as fixed-size-reads
-use Rattle.finding.proofs.wide.Reads as wide-reads
+use Rattle.numbers.proofs.wide.Reads as wide-reads
 use Rattle.layout.proofs.items.Reads as items-reads
 
 -- src/lib.rt:130:9

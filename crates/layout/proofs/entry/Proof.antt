@@ -8,7 +8,7 @@ use Rattle.layout.proofs.entry.Tie as tie
 use Rattle.layout.proofs.entry.Reads as reads
 use Rattle.layout.proofs.entry.Lts as lts
 use Rattle.layout.proofs.element.Reads as element-reads
-use Rattle.layout.proofs.wide.Reads as wide-reads
+use Rattle.numbers.proofs.wide.Reads as wide-reads
 
 -- src/lib.rt:82:22
 sub-wide : tie.Need-sub-wide

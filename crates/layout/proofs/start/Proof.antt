@@ -8,7 +8,7 @@ use Rattle.layout.proofs.start.Tie as tie
 use Rattle.layout.proofs.start.Reads as reads
 use Rattle.layout.proofs.start.Lts as lts
 use Rattle.layout.proofs.element.Reads as element-reads
-use Rattle.layout.proofs.wide.Reads as wide-reads
+use Rattle.numbers.proofs.wide.Reads as wide-reads
 
 -- src/lib.rt:90:30
 sub-wide : tie.Need-sub-wide

@@ -6,7 +6,7 @@ use Rattle.pieces.proofs.numeral_of.Statement.{statement}
 use Rattle.pieces.proofs.numeral_of.Tie as tie
 use Rattle.pieces.proofs.numeral_of.Reads as reads
 use Rattle.pieces.proofs.numeral_of.Lts as lts
-use Rattle.pieces.proofs.is_digit.Reads as is-digit-reads
+use Rattle.form.proofs.is_digit.Reads as is-digit-reads
 
 returns : tie.Need-returns
 unfolding numeralOf

@@ -10,7 +10,7 @@ use Rattle.row_truth.proofs.row_passes.Reads as reads
 use Rattle.row_truth.proofs.row_passes.Lts as lts
 use Rattle.layout.proofs.chain_at.Reads as chain-at-reads
 use Rattle.row_truth.proofs.bit_holds.Reads as bit-holds-reads
-use Rattle.row_truth.proofs.entry.Reads as entry-reads
+use Rattle.layout.proofs.entry.Reads as entry-reads
 use Rattle.row_truth.proofs.next_row_holds.Reads as next-row-holds-reads
 use Rattle.row_truth.proofs.pair_count.Reads as pair-count-reads
 use Rattle.row_truth.proofs.rule_row_holds.Reads as rule-row-holds-reads

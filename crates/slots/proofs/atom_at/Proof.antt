@@ -9,7 +9,7 @@ use Rattle.slots.proofs.atom_at.Tie as tie
 use Rattle.slots.proofs.atom_at.Reads as reads
 use Rattle.slots.proofs.atom_at.Lts as lts
 use Rattle.numbers.proofs.atom_var.Reads as atom-var-reads
-use Rattle.slots.proofs.wide.Reads as wide-reads
+use Rattle.numbers.proofs.wide.Reads as wide-reads
 
 -- src/lib.rt:213:18
 sub-wide : tie.Need-sub-wide

@@ -15,7 +15,7 @@ use Rattle.slots.proofs.body_slot.Lts as lts
 use Rattle.literals.proofs.body_var.Reads as body-var-reads
 use Rattle.slots.proofs.atom_at.Reads as atom-at-reads
 use Rattle.slots.proofs.no.Reads as no-reads
-use Rattle.slots.proofs.wide.Reads as wide-reads
+use Rattle.numbers.proofs.wide.Reads as wide-reads
 use Rattle.slots.proofs.with_sign.Reads as with-sign-reads
 use Rattle.slots.proofs.yes.Reads as yes-reads
 

@@ -5,7 +5,7 @@ use Rattle.stages.proofs.byte_of.Statement.{statement}
 use Rattle.stages.proofs.byte_of.Tie as tie
 use Rattle.stages.proofs.byte_of.Reads as reads
 use Rattle.stages.proofs.byte_of.Lts as lts
-use Rattle.stages.proofs.wide.Reads as wide-reads
+use Rattle.numbers.proofs.wide.Reads as wide-reads
 
 -- src/lib.rt:30:11
 wide-requires : tie.Need-wide-requires

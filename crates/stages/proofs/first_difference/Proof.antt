@@ -8,7 +8,7 @@ use Rattle.stages.proofs.first_difference.Tie as tie
 use Rattle.stages.proofs.first_difference.Reads as reads
 use Rattle.stages.proofs.first_difference.Lts as lts
 use Rattle.stages.proofs.unlike.Reads as unlike-reads
-use Rattle.stages.proofs.wide.Reads as wide-reads
+use Rattle.numbers.proofs.wide.Reads as wide-reads
 
 abbrev Inv-loop : tie.InvT-loop
 Inv-loop n set levels a₀ a = (a ≤ n) × Alike set levels a

@@ -7,7 +7,7 @@ use Rattle.stages.proofs.list_start.Statement.{statement}
 use Rattle.stages.proofs.list_start.Tie as tie
 use Rattle.stages.proofs.list_start.Reads as reads
 use Rattle.stages.proofs.list_start.Lts as lts
-use Rattle.stages.proofs.wide.Reads as wide-reads
+use Rattle.numbers.proofs.wide.Reads as wide-reads
 
 -- src/lib.rt:89:22
 sub-wide : tie.Need-sub-wide

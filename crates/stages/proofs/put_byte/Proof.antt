@@ -5,7 +5,7 @@ use Rattle.stages.proofs.put_byte.Statement.{statement}
 use Rattle.stages.proofs.put_byte.Tie as tie
 use Rattle.stages.proofs.put_byte.Reads as reads
 use Rattle.stages.proofs.put_byte.Lts as lts
-use Rattle.stages.proofs.wide.Reads as wide-reads
+use Rattle.numbers.proofs.wide.Reads as wide-reads
 
 -- src/lib.rt:37:13
 wide-requires : tie.Need-wide-requires

@@ -10,7 +10,7 @@ use Rattle.stages.proofs.zero_bytes.Statement.{statement}
 use Rattle.stages.proofs.zero_bytes.Tie as tie
 use Rattle.stages.proofs.zero_bytes.Reads as reads
 use Rattle.stages.proofs.zero_bytes.Lts as lts
-use Rattle.stages.proofs.wide.Reads as wide-reads
+use Rattle.numbers.proofs.wide.Reads as wide-reads
 
 abbrev Inv-loop : tie.InvT-loop
 Inv-loop n bytes₀ j₀ bytes j = (j ≤ n) × (length bytes ≡ length bytes₀) × (bytes ≡ tab j (λ a. 0) ++ drop j bytes₀)

@@ -15,7 +15,7 @@ use Rattle.tabling.proofs.element.Reads as element-reads
 use Rattle.tabling.proofs.put_before.Reads as put-before-reads
 use Rattle.tabling.proofs.store.Reads as store-reads
 use Rattle.tabling.proofs.when_none.Reads as when-none-reads
-use Rattle.tabling.proofs.wide.Reads as wide-reads
+use Rattle.numbers.proofs.wide.Reads as wide-reads
 
 abbrev Inv-loop : tie.InvT-loop
 Inv-loop p m before₀ bodies₀ heads₀ count₀ empty₀ r₀ before bodies heads count empty r = (r ≤ m) × (m ≡ length (decoded p .rules)) × Filled (decoded p) r before bodies heads count empty
