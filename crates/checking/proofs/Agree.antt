@@ -30,6 +30,7 @@ use Rattle.reader_laws.specs.Row.{Limits}
 use Rattle.assigning.specs.Assign.{firstUnset}
 use Rattle.truth.specs.Truth.{valueIn, falseAt, firstFalse}
 use Rattle.results.specs.Results.{trueCount, counters}
+use Rattle.results.proofs.ValueBytes.{atoms-within}
 
 pub first-same : (n : ℕ) (p q : ℕ → Bool) → ((i : ℕ) → i < n → p (suc i) ≡ q (suc i)) → first n p ≡ first n q
 first-same zero p q e = refl
@@ -77,13 +78,9 @@ module _ (P : Program) (L : Limits P) (b : List ℕ) where
       (clause-same (valueIn (take V′ b)) (valueIn b) V′ (value-front b V′) (getD cs j [])
       (all-at (λ c. all (λ l. isAtom V′ (variable l)) c) cs [] (clauses-within P (width (P .atoms)) (L .all-atoms) (width-enough (P .atoms))) j h)))
 
-  atoms-within : P .atoms ≤ V′
-  unfolding variables
-  atoms-within = omega arith
-
   pub true-front : trueCount (P .atoms) (take V′ b) ≡ trueCount (P .atoms) b
   unfolding trueCount
-  true-front = sum-ext (P .atoms) _ _ (λ i h. ap (λ x. cond x 1 0) (value-front b V′ (suc i) (omega arith) (omega (arith, h, atoms-within))))
+  true-front = sum-ext (P .atoms) _ _ (λ i h. ap (λ x. cond x 1 0) (value-front b V′ (suc i) (omega arith) (omega (arith, h, atoms-within P))))
 
   level-within : (a i : ℕ) → a < P .atoms → i < S .w → levelVar S (suc a) (suc i) ≤ V′
   unfolding variables

@@ -11,7 +11,7 @@ use mathlib.Core.Path.{_≡_, refl, sym, _∙_, ap, ap₂, subst}
 use mathlib.Core.Bool.{Bool, true, false, cond}
 use mathlib.Core.List.{List, _++_}
 use lib.ListN.{length, drop}
-use Rattle.lists.specs.Lists.{tab}
+use Rattle.lists.specs.Lists.{tab, highest}
 use Rattle.meaning.specs.Program.{Program}
 use Rattle.program.specs.declared.TextRefusal.{TextRefusal}
 use Rattle.program.specs.declared.TextRefusal.the-variants as Refusal
@@ -21,7 +21,7 @@ use Rattle.reader_laws.proofs.Rows.{row-few}
 use Rattle.answers.specs.Reading.{Spotted}
 use Rattle.assigning.specs.Assign.{filledWith}
 use Rattle.offering.specs.Offered.{valueBytes, valuesOf}
-use Rattle.results.specs.Results.{Result, highest, assignmentAfter, levelsAfter, varTotal, programOf}
+use Rattle.results.specs.Results.{Result, assignmentAfter, levelsAfter, varTotal, programOf}
 use Rattle.checking.specs.declared.CheckRefusal.{CheckRefusal}
 use Rattle.checking.specs.declared.CheckRefusal.the-variants.{Text, ShortBuffer, OverlongAnswer, MalformedAnswer, NoModelOffered, StrayVariable, RepeatedVariable, MissingVariable, FalseClause}
 use Rattle.checking.specs.declared.CheckVerdict.{CheckVerdict}
@@ -64,6 +64,15 @@ keeps-below-13 (RepeatedVariable v) h = absurd (omega (arith, h))
 keeps-below-13 (MissingVariable v) h = absurd (omega (arith, h))
 keeps-below-13 (FalseClause v) h = absurd (omega (arith, h))
 
+-- the two numbers of an accepting verdict
+abbrev pub countIn : CheckVerdict → ℕ
+countIn (Model k h) = k
+countIn (Refused r) = 0
+
+abbrev pub highestIn : CheckVerdict → ℕ
+highestIn (Model k h) = h
+highestIn (Refused r) = 0
+
 module _ (t u b l : List ℕ) where
   -- ---- accepted
 
@@ -93,14 +102,6 @@ module _ (t u b l : List ℕ) where
           assignment-is = assignment;
           levels-are = levels;
         }
-      where
-        countIn : CheckVerdict → ℕ
-        countIn (Model k h) = k
-        countIn (Refused r) = 0
-
-        highestIn : CheckVerdict → ℕ
-        highestIn (Model k h) = h
-        highestIn (Refused r) = 0
 
     pub shows-writes : (k : ℕ) × (h : ℕ) × (checkAnswer t u (length b) (length l) ≡ Model k h) × ModelWritten t u b l P xs k h
     shows-writes = (trueNumber P xs, highest (P .atoms) (levelsOf P xs), answer, written (trueNumber P xs) (highest (P .atoms) (levelsOf P xs)) answer)

@@ -13,8 +13,9 @@ use lib.Dec.{ltb}
 use lib.ListN.{length, getD, take, drop, replicate, take-append-drop, length-replicate}
 use lib.Seq.{take-at, drop-at, length-take-le}
 use borrow.Author.Tests.{lt-ltb, le-ltb}
-use Rattle.lists.specs.Lists.{tab}
+use Rattle.lists.specs.Lists.{tab, highest}
 use Rattle.lists.proofs.Tables.{length-tab, getD-here}
+use Rattle.lists.proofs.Highest.{highest-same}
 use Rattle.meaning.specs.Program.{Program}
 use Rattle.encoding.specs.Width.{width}
 use Rattle.encoding.specs.Fill.{counter}
@@ -37,13 +38,12 @@ use Rattle.tables.specs.Tables.{countersOf, totalsOf, Tabled}
 use Rattle.table_laws.proofs.Elements.{vars-are, bounded}
 use Rattle.table_laws.proofs.Bounds.{variables-fit}
 use Rattle.truth.specs.Truth.{valueIn, firstFalse}
-use Rattle.results.specs.Results.{Result, trueCount, highest, levelIn, counters, assignmentAfter, varTotal}
+use Rattle.results.specs.Results.{Result, trueCount, levelIn, counters, assignmentAfter, varTotal}
 use Rattle.checking.specs.declared.CheckRefusal.{CheckRefusal}
 use Rattle.checking.specs.declared.CheckRefusal.the-variants.{ShortBuffer, OverlongAnswer, MalformedAnswer, NoModelOffered, StrayVariable, RepeatedVariable, MissingVariable, FalseClause}
 use Rattle.checking.specs.declared.CheckVerdict.{CheckVerdict}
 use Rattle.checking.specs.declared.CheckVerdict.the-variants.{Model, Refused}
 use Rattle.checking.specs.Check.{zeroes, refuse, judged, noValues, outcomeOf, afterAssigning, assignedResult, formResult, answerResult, checkResult, Gives}
-use Rattle.results.proofs.Counting.{highest-same}
 use Rattle.checking.proofs.Agree.{unset-front, false-front, true-front, counters-front}
 
 -- ---- refusals

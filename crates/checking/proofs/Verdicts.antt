@@ -17,7 +17,7 @@ use mathlib.Core.List.{List, []}
 use lib.Dec.{eqb}
 use lib.ListN.{length}
 use borrow.Author.Tests.{lt-ltb, le-ltb}
-use Rattle.lists.specs.Lists.{tab}
+use Rattle.lists.specs.Lists.{tab, highest}
 use Rattle.lists.proofs.Tests.{le-or-lt}
 use Rattle.meaning.specs.Program.{Program}
 use Rattle.encoding.specs.Width.{width}
@@ -45,7 +45,7 @@ use Rattle.assigning.proofs.Rows.{Meant, meant, unset-missing, unset-nothing}
 use Rattle.offering.specs.Offered.{valueBytes, valuesOf}
 use Rattle.offering.proofs.Values.{values-alone}
 use Rattle.truth.specs.Truth.{firstFalse}
-use Rattle.results.specs.Results.{Result, highest, varTotal, programOf}
+use Rattle.results.specs.Results.{Result, varTotal, programOf}
 use Rattle.checking.specs.declared.CheckRefusal.{CheckRefusal}
 use Rattle.checking.specs.declared.CheckRefusal.the-variants.{Text, ShortBuffer, OverlongAnswer, MalformedAnswer, NoModelOffered, StrayVariable, RepeatedVariable, MissingVariable, FalseClause}
 use Rattle.checking.specs.declared.CheckVerdict.{CheckVerdict}

@@ -18,6 +18,7 @@ use mathlib.Core.Bool.{Bool, true, false, cond}
 use mathlib.Core.List.{List}
 use lib.Dec.{ltb}
 use lib.ListN.{length, replicate}
+use Rattle.lists.specs.Lists.{highest}
 use Rattle.meaning.specs.Program.{Program}
 use Rattle.encoding.specs.Width.{width}
 use Rattle.encoding.specs.Clauses.{sizes, variables}
@@ -32,7 +33,7 @@ use Rattle.assigning.specs.declared.Assigned.{Assigned}
 use Rattle.assigning.specs.declared.Assigned.the-variants.{Done, Stray, Repeated}
 use Rattle.assigning.specs.Assign.{Outcome, literalsFrom, assignedOf, assignedBytes, firstUnset}
 use Rattle.truth.specs.Truth.{firstFalse}
-use Rattle.results.specs.Results.{Result, trueCount, highest, levelIn, counters, assignmentAfter, levelsAfter, varTotal, programOf}
+use Rattle.results.specs.Results.{Result, trueCount, levelIn, counters, assignmentAfter, levelsAfter, varTotal, programOf}
 use Rattle.checking.specs.declared.CheckRefusal.{CheckRefusal}
 use Rattle.checking.specs.declared.CheckRefusal.the-variants.{Text, ShortBuffer, OverlongAnswer, MalformedAnswer, NoModelOffered, StrayVariable, RepeatedVariable, MissingVariable, FalseClause}
 use Rattle.checking.specs.declared.CheckVerdict.{CheckVerdict}

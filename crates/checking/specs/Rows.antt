@@ -17,7 +17,7 @@ use mathlib.Core.Path.{_≡_}
 use mathlib.Core.Bool.{false, So, cond}
 use mathlib.Core.List.{List, [], _++_}
 use lib.ListN.{length, getD, drop}
-use Rattle.lists.specs.Lists.{tab, sum}
+use Rattle.lists.specs.Lists.{tab, sum, highest}
 use Rattle.meaning.specs.Program.{Program}
 use Rattle.encoding.specs.Width.{width}
 use Rattle.encoding.specs.Literal.{Literal, Clause, Assignment, valueOf, clauseTrue}
@@ -29,7 +29,7 @@ use Rattle.answers.specs.Reading.{Spotted, spotsOf}
 use Rattle.assigning.specs.Assign.{variableAt, spotAt, Unnamed}
 use Rattle.assigning.specs.Rows.{Once}
 use Rattle.offering.specs.Offered.{valueBytes, valuesOf}
-use Rattle.results.specs.Results.{highest, varTotal}
+use Rattle.results.specs.Results.{varTotal}
 use Rattle.results.specs.Order.{First}
 use Rattle.checking.specs.declared.CheckRefusal.{CheckRefusal}
 use Rattle.checking.specs.declared.CheckVerdict.the-variants.{Refused}

@@ -17,10 +17,11 @@ use mathlib.Core.Logic.{_⊎_, inl, inr}
 use mathlib.Core.Bool.{Bool, true, false, _&&_, So, cond}
 use mathlib.Core.List.{List, [], _++_}
 use lib.ListN.{length, getD, drop, length-map, List·getD-map}
-use Rattle.lists.specs.Lists.{all, tab, sum}
+use Rattle.lists.specs.Lists.{all, tab, sum, highest}
 use Rattle.lists.proofs.Bools.{not-So, So-or-not}
 use Rattle.lists.proofs.Tests.{all-in, all-at}
 use Rattle.lists.proofs.Tables.{sum-ext, tab-ext, length-tab, getD-tab}
+use Rattle.lists.proofs.Highest.{highest-same}
 use Rattle.meaning.specs.Program.{Program, Atoms, isAtom, wellFormed}
 use Rattle.meaning.specs.Stage.{Stable, level}
 use Rattle.encoding.specs.Width.{width}
@@ -41,8 +42,7 @@ use Rattle.offering.proofs.Offers.{offered-proper, offered-fits, offered-spots,
 use Rattle.table_laws.proofs.Bounds.{variables-fit}
 use Rattle.truth.specs.Truth.{valueIn}
 use Rattle.stages.specs.Levels.{setIn}
-use Rattle.results.specs.Results.{highest, varTotal}
-use Rattle.results.proofs.Counting.{highest-same}
+use Rattle.results.specs.Results.{varTotal}
 use Rattle.results.proofs.ValueBytes.{value-same}
 use Rattle.checking.specs.declared.CheckVerdict.the-variants.{Model}
 use Rattle.checking.specs.Check.{checkAnswer, checkAssignment, checkLevels}

@@ -12,15 +12,12 @@ use mathlib.Core.Logic.{_↔_}
 use mathlib.Core.Bool.{Bool, false, So}
 use mathlib.Core.List.{List, _++_}
 use lib.ListN.{length, getD, take, drop}
-use Rattle.lists.specs.Lists.{tab}
-use Rattle.lists.proofs.Tables.{length-tab, getD-tab, getD-here}
 use Rattle.meaning.specs.Program.{Program, isAtom}
 use Rattle.meaning.specs.Stage.{Stable, level}
 use Rattle.encoding.specs.Width.{width}
 use Rattle.encoding.specs.Literal.{valueOf, clauseTrue}
 use Rattle.encoding.specs.Clauses.{sizes}
 use Rattle.encoding.specs.Fill.{trueAtoms, counter}
-use Rattle.theory.proofs.Atoms.{by-place}
 use Rattle.theory.proofs.Base as Base
 use Rattle.digits.specs.Bytes.{lineText}
 use Rattle.program.specs.declared.Reading.{Reading}
@@ -41,6 +38,7 @@ use Rattle.lines.proofs.Calls.{line-writes}
 use Rattle.lines.proofs.File as File
 use Rattle.stages.specs.Levels.{setIn}
 use Rattle.results.specs.Results.{levelIn, varTotal}
+use Rattle.results.proofs.ValueBytes.{level-here}
 use Rattle.checking.specs.declared.CheckVerdict.the-variants.{Model}
 use Rattle.checking.specs.Check.{checkAnswer, checkLevels}
 use Rattle.checking.specs.Rows.{Offers, clauseOf, clauseNumber}
@@ -101,14 +99,10 @@ module _ (t : List ℕ) (P : Program) (A : Admitted t P) where
     pub level-bytes : (b l : List ℕ) → Room P b l → (a : ℕ) → So (isAtom n a)
         → (counter (sizes P (width n)) (valueOf bs) a ≡ level P (trueAtoms P bs) a)
         × (levelIn (checkLevels t (X .answer) (length b) l) a ≡ level P (trueAtoms P bs) a)
-    level-bytes b l r a i = (accepted-counter t P A bs X a i, byte a i)
-      where
-        byte : (a : ℕ) → So (isAtom n a) → levelIn (checkLevels t (X .answer) (length b) l) a ≡ level P (trueAtoms P bs) a
-        byte =
-            by-place n (λ a. levelIn (checkLevels t (X .answer) (length b) l) a ≡ level P (trueAtoms P bs) a)
-            (λ a h.
-            ap (λ (ls : List ℕ). getD ls a 0) (check-writes t P A bs X b l r .levels-are)
-            ∙ getD-here (tab n (level P (trueAtoms P bs))) (drop n l) 0 n a (length-tab n (level P (trueAtoms P bs))) h ∙ getD-tab n (level P (trueAtoms P bs)) 0 a h)
+    level-bytes b l r a i = (
+      accepted-counter t P A bs X a i,
+      ap (λ (ls : List ℕ). levelIn ls a) (check-writes t P A bs X b l r .levels-are) ∙ level-here n (level P (trueAtoms P bs)) (drop n l) a i,
+    )
 
     pub level-of-false : (a : ℕ) → trueAtoms P bs a ≡ false → level P (trueAtoms P bs) a ≡ 0
     level-of-false = Base.level-false P (A .limits .all-atoms) (trueAtoms P bs) (accepted-stable t P A bs X .0)

@@ -10,7 +10,7 @@ use mathlib.Core.Path.{_≡_}
 use mathlib.Core.Bool.{Bool, cond}
 use mathlib.Core.List.{List, _++_}
 use lib.ListN.{length, getD, drop}
-use Rattle.lists.specs.Lists.{tab, sum}
+use Rattle.lists.specs.Lists.{tab, sum, highest as highestOf}
 use Rattle.meaning.specs.Program.{Program, Atoms}
 use Rattle.meaning.specs.Stage.{level}
 use Rattle.encoding.specs.Fill.{trueAtoms}
@@ -18,7 +18,7 @@ use Rattle.answers.specs.Reading.{Spotted}
 use Rattle.offering.specs.Offered.{valueBytes, valuesOf}
 use Rattle.stages.specs.Levels.{setIn}
 use Rattle.checking.specs.declared.CheckVerdict.the-variants.{Model}
-use Rattle.results.specs.Results.{highest as highestOf, varTotal}
+use Rattle.results.specs.Results.{varTotal}
 use Rattle.checking.specs.Check.{checkAnswer, checkAssignment, checkLevels}
 use Rattle.checking.specs.Rows.{Offers}
 

@@ -14,7 +14,7 @@ use mathlib.Core.List.{List}
 use lib.Dec.{eqb, ltb}
 use lib.ListN.{length, getD}
 use borrow.Author.Tests.{lt-ltb, le-ltb, eq-eqb, ne-eqb, eqb-true, eqb-false, ltb-true}
-use Rattle.lists.specs.Lists.{tab, first}
+use Rattle.lists.specs.Lists.{tab, first, highest}
 use Rattle.lists.proofs.Bools.{and-left}
 use Rattle.lists.proofs.Tests.{le-or-lt}
 use Rattle.lists.proofs.First.{first-is, first-pos, first-le, first-none}
@@ -37,7 +37,7 @@ use Rattle.lines.proofs.Rows.{admitted-program}
 use Rattle.offering.specs.Offered.{valueBytes}
 use Rattle.truth.specs.Truth.{valueIn}
 use Rattle.stages.specs.Levels.{setIn}
-use Rattle.results.specs.Results.{Result, highest, varTotal, programOf}
+use Rattle.results.specs.Results.{Result, varTotal, programOf}
 use Rattle.results.specs.Order.{NotAfter}
 use Rattle.results.proofs.Order.{Told, at-row, met-none}
 use Rattle.results.proofs.Order as Order

@@ -15,14 +15,14 @@ use lib.Dec.{eqb, ltb}
 use lib.ListN.{length, getD, take, drop, length-map, length-append}
 use lib.Seq.{take-at, drop-at, length-take-le}
 use borrow.Author.Tests.{lt-ltb, le-ltb, eq-eqb, ne-eqb, ltb-true}
-use Rattle.lists.specs.Lists.{tab, first}
+use Rattle.lists.specs.Lists.{tab, first, highest}
 use Rattle.lists.proofs.Tests.{le-or-lt}
 use Rattle.lists.proofs.First.{first-is, first-le, first-none}
 use Rattle.lists.proofs.Tables.{length-tab, getD-here, sum-ext}
+use Rattle.lists.proofs.Highest.{highest-same}
 use Rattle.meaning.specs.Program.{Program, Atoms}
 use Rattle.meaning.specs.Stage.{level, differ}
 use Rattle.encoding.specs.Width.{width}
-use Rattle.encoding.specs.Clauses.{variables}
 use Rattle.encoding.specs.Fill.{fill}
 use Rattle.theory.proofs.Base.{fill-length}
 use Rattle.theory.proofs.Widths.{width-enough}
@@ -36,11 +36,10 @@ use Rattle.offering.specs.Offered.{valueBytes}
 use Rattle.tables.specs.declared.Totals.{Totals}
 use Rattle.tables.specs.Tables.{countersOf, totalsOf, Tabled}
 use Rattle.table_laws.proofs.Elements.{vars-are}
-use Rattle.truth.specs.Truth.{valueIn}
 use Rattle.stages.specs.Levels.{setIn, firstUnlike}
 use Rattle.stages.proofs.Levels.{unlike-differ}
-use Rattle.results.specs.Results.{Result, trueCount, highest, levelIn, varTotal, programOf}
-use Rattle.results.proofs.Counting.{highest-same}
+use Rattle.results.specs.Results.{Result, trueCount, levelIn, varTotal, programOf}
+use Rattle.results.proofs.ValueBytes.{atoms-within, value-here}
 use Rattle.filling_out.specs.declared.FillRefusal.{FillRefusal}
 use Rattle.filling_out.specs.declared.FillRefusal.the-variants.{Text, ShortBuffer, BadSet, Unfounded}
 use Rattle.filling_out.specs.declared.FillVerdict.{FillVerdict}
@@ -91,10 +90,7 @@ levels-again n ℓ rest e = e ∙ ap (λ (y : List ℕ). tab n ℓ ++ y) (sym (a
 gives-refused : (P : Program) {x : Result FillRefusal} {q : FillRefusal} → x ≡ refuse q → (b l : List ℕ) → Gives P x (Refused q) b b l l
 gives-refused P {x} {q} e b l = subst (λ (y : Result FillRefusal). Gives P y (Refused q) b b l l) (sym e) (refl, refl, refl)
 
--- the values at the front of a list
-value-here : (xs ys : List ℕ) (i : ℕ) → i < length xs → valueIn (xs ++ ys) (suc i) ≡ valueIn xs (suc i)
-value-here xs ys i h = ap (λ (x : ℕ). not (eqb x 0)) (getD-here xs ys 0 (length xs) i refl h)
-
+-- how many values at the front of a list are true
 true-here : (n : ℕ) (xs ys : List ℕ) → n ≤ length xs → trueCount n (xs ++ ys) ≡ trueCount n xs
 unfolding trueCount
 true-here n xs ys h = sum-ext n _ _ (λ i g. ap (λ x. cond x 1 0) (value-here xs ys i (omega (arith, g, h))))
@@ -116,12 +112,8 @@ module _ {P : Program} {t : Totals} {hs ss bs ks xs ys : List ℕ} (T : Tabled P
   pub atoms-few : t .sizes .n ≤ 126
   atoms-few = omega (arith, atoms-is, T .limits .few-atoms)
 
-  atoms-within : P .atoms ≤ varTotal P
-  unfolding variables
-  atoms-within = omega arith
-
   pub atoms-room : {b : ℕ} → t .vars ≤ b → t .sizes .n ≤ b
-  atoms-room {b} h = omega (arith, atoms-is, vars-is, atoms-within, h)
+  atoms-room {b} h = omega (arith, atoms-is, vars-is, atoms-within P, h)
 
   -- ---- row 18
 
@@ -151,7 +143,7 @@ module _ {P : Program} {t : Totals} {hs ss bs ks xs ys : List ℕ} (T : Tabled P
         let k = length-map {B = ℕ} vs (λ b. cond b 1 0) in
         let v = ap (λ (i : ℕ). length (fill P i (setIn (t .sizes .n) s))) width-is ∙ fill-length P (width (P .atoms)) (T .limits .all-atoms) (width-enough (P .atoms)) (setIn (t .sizes .n) s) in
         let w = ap length e ∙ length-append (valueBytes vs) rest in
-        omega (arith, k, v, w, atoms-is, atoms-within)
+        omega (arith, k, v, w, atoms-is, atoms-within P)
 
     -- f holds the levels found
     module _ {f : List ℕ} (rest : List ℕ) (e : f ≡ tab (t .sizes .n) (level P (setIn (t .sizes .n) s)) ++ rest) {d : ℕ} (g : d ≡ firstUnlike (t .sizes .n) s f) where
@@ -197,7 +189,7 @@ module _ {P : Program} {t : Totals} {hs ss bs ks xs ys : List ℕ} (T : Tabled P
 
           count-is : k ≡ trueCount (P .atoms) vs
           count-is =
-              y ∙ ap₂ trueCount atoms-is values-are ∙ true-here (P .atoms) vs (drop (varTotal P) b) (omega (arith, atoms-within, values-length))
+              y ∙ ap₂ trueCount atoms-is values-are ∙ true-here (P .atoms) vs (drop (varTotal P) b) (omega (arith, atoms-within P, values-length))
 
           highest-is : h ≡ highest (P .atoms) (levelIn ls)
           highest-is =

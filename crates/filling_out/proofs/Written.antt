@@ -12,7 +12,7 @@ use mathlib.Core.Bool.{Bool, true, false, true≢false, _&&_, So, cond}
 use mathlib.Core.List.{List}
 use lib.Dec.{eqb}
 use lib.ListN.{length, getD}
-use Rattle.lists.specs.Lists.{tab, sum}
+use Rattle.lists.specs.Lists.{tab, sum, highest}
 use borrow.Author.Tests.{eqb-true, eqb-false}
 use Rattle.lists.proofs.Bools.{and-left}
 use Rattle.lists.proofs.Tests.{le-or-lt}
@@ -39,7 +39,7 @@ use Rattle.lines.proofs.Rows.{admitted-program}
 use Rattle.offering.specs.Offered.{valueBytes}
 use Rattle.truth.specs.Truth.{valueIn}
 use Rattle.stages.specs.Levels.{setIn}
-use Rattle.results.specs.Results.{Result, trueCount, highest, assignmentAfter, levelsAfter, varTotal, programOf}
+use Rattle.results.specs.Results.{Result, trueCount, assignmentAfter, levelsAfter, varTotal, programOf}
 use Rattle.results.proofs.ValueBytes.{value-same, levels-same}
 use Rattle.filling_out.specs.declared.FillRefusal.{FillRefusal}
 use Rattle.filling_out.specs.declared.FillRefusal.the-variants.{Text}

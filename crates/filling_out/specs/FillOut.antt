@@ -14,7 +14,7 @@ use mathlib.Core.Bool.{Bool, false, not, cond}
 use mathlib.Core.List.{List}
 use lib.Dec.{eqb, ltb}
 use lib.ListN.{length, getD}
-use Rattle.lists.specs.Lists.{tab, first}
+use Rattle.lists.specs.Lists.{tab, first, highest}
 use Rattle.meaning.specs.Program.{Program, Atoms}
 use Rattle.meaning.specs.Stage.{level, differ}
 use Rattle.encoding.specs.Width.{width}
@@ -24,7 +24,7 @@ use Rattle.program.specs.declared.ReadVerdict.the-variants.{Accepted, Refused a
 use Rattle.program.specs.Verdict.{readOf, textNumber, textSpot}
 use Rattle.offering.specs.Offered.{valueBytes}
 use Rattle.stages.specs.Levels.{setIn}
-use Rattle.results.specs.Results.{Result, trueCount, highest, levelIn, assignmentAfter, levelsAfter, varTotal, programOf}
+use Rattle.results.specs.Results.{Result, trueCount, levelIn, assignmentAfter, levelsAfter, varTotal, programOf}
 use Rattle.filling_out.specs.declared.FillRefusal.{FillRefusal}
 use Rattle.filling_out.specs.declared.FillRefusal.the-variants.{Text, ShortBuffer, BadSet, Unfounded}
 use Rattle.filling_out.specs.declared.FillVerdict.{FillVerdict}

@@ -10,7 +10,7 @@ use mathlib.Core.Path.{_≡_}
 use mathlib.Core.Bool.{So, cond}
 use mathlib.Core.List.{List, _++_}
 use lib.ListN.{length, getD, drop}
-use Rattle.lists.specs.Lists.{tab, sum}
+use Rattle.lists.specs.Lists.{tab, sum, highest as highestOf}
 use Rattle.meaning.specs.Program.{Program, isAtom}
 use Rattle.meaning.specs.Stage.{Stable, leastModel, level}
 use Rattle.encoding.specs.Width.{width}
@@ -18,7 +18,7 @@ use Rattle.encoding.specs.Fill.{fill}
 use Rattle.reader_laws.specs.Row.{Row, rank, Admitted}
 use Rattle.offering.specs.Offered.{valueBytes}
 use Rattle.stages.specs.Levels.{setIn}
-use Rattle.results.specs.Results.{highest as highestOf, varTotal}
+use Rattle.results.specs.Results.{varTotal}
 use Rattle.results.specs.Order.{First}
 use Rattle.filling_out.specs.declared.FillRefusal.{FillRefusal}
 use Rattle.filling_out.specs.declared.FillVerdict.the-variants.{Filled, Refused}

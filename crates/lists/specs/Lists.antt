@@ -7,9 +7,10 @@
 --   keep p xs              the elements that pass, in their order
 --   select n p             the numbers from 1 to n that pass
 --   sum n f                f 1 + f 2 + .. + f n
+--   highest n f            the highest of f 1, f 2, .., f n, 0 if n is 0
 --   first n p              the first of the numbers 1 to n that passes, 0 if none does
 -- Assumes nothing.
-use Prim.Native.Nat.{ℕ, zero, suc, _+_}
+use Prim.Native.Nat.{ℕ, zero, suc, _+_, max}
 use mathlib.Core.Bool.{Bool, true, false, _&&_, _||_, cond}
 use mathlib.Core.List.{List, [], _∷_, _++_}
 
@@ -49,6 +50,10 @@ anyTo (suc n) g = anyTo n g || g (suc n)
 abbrev pub sum : ℕ → (ℕ → ℕ) → ℕ
 sum zero f = 0
 sum (suc n) f = sum n f + f (suc n)
+
+abbrev pub highest : ℕ → (ℕ → ℕ) → ℕ
+highest zero f = 0
+highest (suc n) f = max (highest n f) (f (suc n))
 
 abbrev pub select : ℕ → (ℕ → Bool) → List ℕ
 select n p = each n (λ i. cond (p i) (i ∷ []) [])

@@ -22,7 +22,7 @@ use mathlib.Core.List.{List, [], _∷_, _++_, map}
 use lib.Count.{leadingZeros}
 use lib.Dec.{eqb, ltb}
 use lib.ListN.{length, getD, take, drop, replicate}
-use Rattle.lists.specs.Lists.{all, joined, sum}
+use Rattle.lists.specs.Lists.{all, joined, sum, highest}
 use Rattle.meaning.specs.Program.{Program, Atoms, isAtom, wellFormed}
 use Rattle.meaning.specs.Stage.{Definite, reduct, InUnion, Stable, FirstStage, leastModel, level, differ}
 use Rattle.meaning.specs.Numbering.{IsModel, LevelNumbering}
@@ -318,7 +318,7 @@ use Rattle.answers.specs.Reading.{Spotted}
 use Rattle.encoding.specs.Literal.{clauseTrue}
 use Rattle.lines.specs.Lines.{lineBytes}
 use Rattle.stages.specs.Levels.{setIn}
-use Rattle.results.specs.Results.{highest, levelIn, varTotal}
+use Rattle.results.specs.Results.{levelIn, varTotal}
 use Rattle.offering.specs.Offered.{valuesOf, offeredText}
 use Rattle.checking.specs.declared.CheckVerdict.the-variants.{Model as ShownModel}
 use Rattle.checking.specs.Check.{readResult, checkAnswer, checkAssignment, checkLevels}

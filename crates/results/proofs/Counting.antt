@@ -4,25 +4,24 @@
 --   counted, Counted, counted-more the counter of the first i bits, with the next power of 2; of one bit more
 --   tabled-more                    a table written into a buffer, one entry more
 --   true-more, highest-more        the number of true atoms, and the highest level, with one atom more
---   highest-same                   the highest level, of levels that agree on 1 to n
 -- Assumes nothing.
 use Prim.Native.Nat.{ℕ, zero, suc, _+_, _*_, _^_, _≤_, _<_, max}
 use native.Mathlib.Nat.{le-antisymm, mul-le-mul-right, pow-succ'}
 use native.Mathlib.Numerals.{add-one}
 use native.Mathlib.Omega.{arith}
-use mathlib.Core.Path.{_≡_, refl, sym, _∙_, ap, ap₂, subst}
+use mathlib.Core.Path.{_≡_, refl, sym, _∙_, ap, subst}
 use mathlib.Core.Bool.{Bool, true, false, cond}
 use mathlib.Core.List.{List, [], _∷_, _++_, append-assoc}
 use lib.ListN.{length, getD, set, drop}
 use lib.Pow.{pow-mono}
 use lib.Seq.{drop-cons, set-at}
-use Rattle.lists.specs.Lists.{tab}
+use Rattle.lists.specs.Lists.{tab, highest}
 use Rattle.lists.proofs.Tables.{length-tab}
 use Rattle.encoding.specs.Variables.{Sizes, levelVar}
 use Rattle.encoding.specs.Counter.{value}
 use Rattle.theory.proofs.Bits.{value-lt}
 use Rattle.truth.specs.Truth.{valueIn}
-use Rattle.results.specs.Results.{trueCount, highest, levelIn}
+use Rattle.results.specs.Results.{trueCount, levelIn}
 
 -- ---- a variable
 
@@ -106,10 +105,6 @@ one-at-most x e = subst (λ (y : ℕ). y ≤ 1) (sym e) (part-small x 1)
 
 pub highest-more : (ls : List ℕ) (a : ℕ) {x y : ℕ} → x ≡ highest a (levelIn ls) → y ≡ max x (getD ls a 0) → y ≡ highest (a + 1) (levelIn ls)
 highest-more ls a e q = q ∙ ap (λ (x : ℕ). max x (getD ls a 0)) e ∙ ap (λ (i : ℕ). highest i (levelIn ls)) (sym (add-one a))
-
-pub highest-same : (n : ℕ) (f g : ℕ → ℕ) → ((i : ℕ) → i < n → f (suc i) ≡ g (suc i)) → highest n f ≡ highest n g
-highest-same zero f g e = refl
-highest-same (suc n) f g e = ap₂ max (highest-same n f g (λ i h. e i (omega (arith, h)))) (e n (omega arith))
 
 pub highest-all : (ls : List ℕ) (a n : ℕ) {x : ℕ} → x ≡ highest a (levelIn ls) → a ≤ n → n ≤ a → x ≡ highest n (levelIn ls)
 highest-all ls a n e h g = e ∙ ap (λ (i : ℕ). highest i (levelIn ls)) (le-antisymm h g)

@@ -3,13 +3,12 @@
 --   programOf r            the program that a reading accepted
 --   Result R               accepted, with the values of the variables and the levels of the atoms as bytes; or refused
 --   trueCount n bs         how many of the atoms 1 to n are true under the values bs
---   highest n ℓ            the highest of the levels of the atoms 1 to n, 0 if there is none
 --   levelIn ls a           the level of atom a in the bytes ls
 --   counters S bs          the counter of each atom under the values bs
 --   assignmentAfter z v x b   the buffer b of the assignment of v variables, once the result x is given: a refusal that z names leaves zeros
 --   levelsAfter n x b      the buffer b of the levels of n atoms
 -- Assumes nothing.
-use Prim.Native.Nat.{ℕ, zero, suc, pred, max}
+use Prim.Native.Nat.{ℕ, pred}
 use mathlib.Core.Bool.{Bool, cond}
 use mathlib.Core.List.{List, _++_}
 use lib.ListN.{getD, drop}
@@ -40,10 +39,6 @@ pub data Result (R : Type 0) : Type 0 where
 
 unfoldable pub trueCount : ℕ → List ℕ → ℕ
 trueCount n bs = sum n (λ a. cond (valueIn bs a) 1 0)
-
-abbrev pub highest : ℕ → (ℕ → ℕ) → ℕ
-highest zero ℓ = 0
-highest (suc n) ℓ = max (highest n ℓ) (ℓ (suc n))
 
 abbrev pub levelIn : List ℕ → ℕ → ℕ
 levelIn ls a = getD ls (pred a) 0

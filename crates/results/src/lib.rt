@@ -8,11 +8,11 @@ ghost use mathlib.Core.Path.{_≡_};
 ghost use mathlib.Core.Bool.{cond};
 ghost use mathlib.Core.List.{_++_};
 ghost use lib.ListN.{length, drop};
-ghost use Rattle.lists.specs.Lists.{tab};
+ghost use Rattle.lists.specs.Lists.{tab, highest};
 ghost use Rattle.encoding.specs.Fill.{counter};
 ghost use Rattle.literals.specs.Sizes.{sizesOf, Bounded};
 ghost use Rattle.truth.specs.Truth.{valueIn};
-ghost use Rattle.results.specs.Results.{trueCount, highest, levelIn};
+ghost use Rattle.results.specs.Results.{trueCount, levelIn};
 
 // What variable v adds where it stands for `power`.
 fn part(assignment: &[u8], v: usize, power: u8) -> u8

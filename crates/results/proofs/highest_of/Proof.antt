@@ -3,7 +3,8 @@ use borrow.Author.Needs.{needs}
 use Prim.Native.Nat.{_-_, _≤_, ℕ}
 use mathlib.Core.Path.{_≡_, refl, _∙_, ap}
 use native.Mathlib.Omega.{arith}
-use Rattle.results.specs.Results.{highest, levelIn}
+use Rattle.lists.specs.Lists.{highest}
+use Rattle.results.specs.Results.{levelIn}
 use Rattle.results.proofs.Counting.{highest-more, highest-all}
 use Rattle.results.proofs.highest_of.Statement.{statement}
 use Rattle.results.proofs.highest_of.Tie as tie
