@@ -1,4 +1,5 @@
 pub mod Program
 pub mod Stage
 pub mod Numbering
+pub mod Gaps
 pub mod Samples

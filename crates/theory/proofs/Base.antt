@@ -1,22 +1,25 @@
 -- The theorem for document 01's own definitions: every well-formed program and every w with 2^w at least n + 2.
 -- Assumes nothing.
 use Prim.Native.Nat.{ℕ, zero, _+_, _^_, _≤_, _<_}
-use mathlib.Core.Path.{_≡_, sym, _∙_, ap, subst}
+use mathlib.Core.Path.{_≡_, sym, _∙_, ap, subst, fun-ext}
 use mathlib.Core.Logic.{_↔_}
-use mathlib.Core.Bool.{Bool, false, So}
+use mathlib.Core.Bool.{Bool, false, So, cond}
 use mathlib.Core.List.{List}
 use lib.ListN.{length}
+use Rattle.lists.specs.Lists.{sum, highest}
 use Rattle.lists.proofs.Bools.{not-So}
 use Rattle.meaning.specs.Program.{Program, Atoms, isAtom, wellFormed}
 use Rattle.meaning.specs.Stage.{Stable, FirstStage, reduct, level}
+use Rattle.meaning.specs.Gaps.{WithoutGaps}
 use Rattle.theory.proofs.LeastModel.{level-first, level-none, level-le}
 use Rattle.theory.proofs.Decided.{reduct-heads}
 use Rattle.encoding.specs.Literal.{Clause, valueOf, allTrue, within, occurs}
 use Rattle.encoding.specs.Clauses.{sizes, clauses, variables}
 use Rattle.encoding.specs.Fill.{fill, trueAtoms, counter}
 use Rattle.theory.specs.Code.{Code, whole, clausesOf, variablesOf}
+use Rattle.theory.proofs.Gaps.{without-gaps}
 use Rattle.theory.proofs.Theorem.{Fit, fill-vars, true-exactly, counters, filled-true, fill-atoms, one-each}
-use Rattle.theory.proofs.Whole.{variables-whole, clauses-whole, level-whole, fill-whole, stable-whole, whole-fit}
+use Rattle.theory.proofs.Whole.{variables-whole, clauses-whole, level-whole, fill-whole, stable-whole, whole-ranges, whole-fit}
 use Rattle.theory.proofs.Occurs.{clauses-fit, all-occur}
 
 -- ---- levels
@@ -30,6 +33,11 @@ module _ (P : Program) (form : So (wellFormed P)) (M : Atoms) (s : Stable P M) w
 
   pub level-at-most : (a : ℕ) → level P M a ≤ P .atoms
   level-at-most a = level-le (reduct P M) (P .atoms) a
+
+  pub level-gaps : WithoutGaps M (level P M) (sum (P .atoms) (λ a. cond (M a) 1 0)) (highest (P .atoms) (level P M))
+  level-gaps =
+      subst (λ (ℓ : ℕ → ℕ). WithoutGaps M ℓ (sum (P .atoms) (λ a. cond (M a) 1 0)) (highest (P .atoms) ℓ)) (fun-ext (level-whole P 0 M))
+      (without-gaps (whole P 0) M (whole-ranges P 0 form) (stable-whole P 0 M .1 s))
 
 -- ---- assignments
 
