@@ -1,4 +1,5 @@
 -- Stable models, accepted assignments and filled-out sets correspond, for every admitted program text.
+--   shows-accepted     the values of an answer that shows a model are an accepted assignment
 --   accepted-true      an accepted assignment has V values and makes every clause true
 --   accepted-stable    its true atoms are a stable model, and it is the filled-out list of that model
 --   accepted-counter   the counter of each atom is its level number
@@ -105,6 +106,15 @@ module _ (t : List ℕ) (P : Program) (A : Admitted t P) where
           not-overlong = S .not-overlong;
         }
 
+    -- literals that name each variable once and make each clause true have an accepted assignment
+    abbrev true-assignment : length u ≤ 65536 → Once (varTotal P) xs → EachTrue P xs → {bs : List Bool} → valuesOf (varTotal P) xs ≡ bs → AcceptedAssignment t P bs
+    true-assignment f once e v =
+        let q = true-accepted t u (varTotal P) n P xs A o f once (le-refl (varTotal P)) (le-refl n) e in
+        record { answer = u; literals = xs; offers = o; its-values = v; count = q .0; highest = q .1; accepted = q .2 }
+
+    abbrev pub shows-accepted : {a l : ℕ} → Shows t u a l P xs → AcceptedAssignment t P (valuesOf (varTotal P) xs)
+    shows-accepted S = true-assignment (S .not-overlong) (S .once) (S .each-true) refl
+
   -- ---- accepted assignments
 
   module _ (bs : List Bool) (X : AcceptedAssignment t P bs) where
@@ -191,9 +201,7 @@ module _ (t : List ℕ) (P : Program) (A : Admitted t P) where
     fits = offered-fits bs (subst (λ (k : ℕ). k ≤ 9890) (sym size) (variables-fit P (A .limits)))
 
     pub stable-accepted : AcceptedAssignment t P bs
-    stable-accepted =
-        let e = true-accepted t (offeredText bs) (varTotal P) n P (spotsOf (offered bs)) A offers fits once (le-refl (varTotal P)) (le-refl n) true-each in
-        record { answer = offeredText bs; literals = spotsOf (offered bs); offers = offers; its-values = values; count = e .0; highest = e .1; accepted = e .2 }
+    stable-accepted = true-assignment (offeredText bs) (spotsOf (offered bs)) offers fits once true-each values
       where
         true-each : EachTrue P (spotsOf (offered bs))
         true-each j p h = subst (λ (cs : List Bool). So (clauseTrue (valueOf cs) (clauseOf P j))) (sym values) (each-true P bs (Base.fill-true P w form wide M σ) j p h)

@@ -1,2 +1,3 @@
 pub mod Correspond
+pub mod Gaps
 pub mod Texts

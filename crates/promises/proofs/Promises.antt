@@ -9,11 +9,12 @@
 --   7  The check: what it answers and writes, for any bytes (rows 8 and 10 to 16)
 --   8  Filling out: what it answers and writes, for any bytes (rows 8, 17 and 18)
 --   9  Demand 3, over texts, answers and bytes: stable models, accepted assignments and filled-out sets correspond
---   10 Document 01's examples and wrong turns
---   11 Contracts: each public function meets its own
+--   10 The requests of document 02 (Q-6: levels without gaps)
+--   11 Document 01's examples and wrong turns
+--   12 Contracts: each public function meets its own
 -- Nothing is assumed: a hypothesis of sections 1 to 3 is met by every well-formed program, that of `clause-file` and of section 9 by the program of every
--- accepted text, and the other statements of sections 4 to 8 hold for any bytes. A function of section 11 may ask for a bound or for tables; its contract
--- in src/ says so.
+-- accepted text, and the other statements of sections 4 to 8 hold for any bytes. Section 10 is about every stable model of every well-formed program, and
+-- about any bytes. A function of section 12 may ask for a bound or for tables; its contract in src/ says so.
 use Prim.Native.Nat.{ℕ, zero, suc, pred, _+_, _-_, _*_, _^_, _%_, _≤_, _<_}
 use mathlib.Core.Path.{_≡_, sym, _∙_, ap}
 use mathlib.Core.Logic.{_↔_, _⊎_}
@@ -26,6 +27,7 @@ use Rattle.lists.specs.Lists.{all, joined, sum, highest}
 use Rattle.meaning.specs.Program.{Program, Atoms, isAtom, wellFormed}
 use Rattle.meaning.specs.Stage.{Definite, reduct, InUnion, Stable, FirstStage, leastModel, level, differ}
 use Rattle.meaning.specs.Numbering.{IsModel, LevelNumbering}
+use Rattle.meaning.specs.Gaps.{WithoutGaps}
 use Rattle.meaning.specs.Samples.{setOf, program, fact, ring, loop}
 use Rattle.theory.proofs.LeastModel.{union-model, union-least, first-stage-unique}
 use Rattle.theory.proofs.Decided.{least-model-iff, stable-atom, headless-false}
@@ -335,6 +337,7 @@ use Rattle.filling_out.proofs.Written.{fill-accepted, fill-kept}
 use Rattle.correspondence.specs.Accepted.{AcceptedAssignment, Room, CheckWrites, setBytes, SetOf}
 use Rattle.correspondence.proofs.Correspond.{accepted-stable, check-writes, fill-agrees, one-accepted, stable-accepted, stable-atoms, exhibited-fits, bytes-set}
 use Rattle.correspondence.proofs.Correspond as Correspond
+use Rattle.correspondence.proofs.Gaps.{check-gaps, fill-gaps}
 use Rattle.correspondence.proofs.Texts.{checked-exactly, line-prints, level-bytes, level-of-false, fills-exactly}
 use Rattle.digits.proofs.numeral_of.Statement.{statement as numeral-of·statement}
 use Rattle.digits.proofs.numeral_of.Met.{met as numeral-of·met}
@@ -836,7 +839,25 @@ text-demand3 t P A =
 pub accepted-demand3 : (t : List ℕ) → readOf t .verdict ≡ Accepted → (P : Program) × Admitted t P × TextDemand3 t P
 accepted-demand3 t e = let a = accepted-admitted t e in (a .0, a .1, text-demand3 t (a .0) (a .1))
 
--- ---- 10 Examples and wrong turns
+-- ---- 10 The requests of document 02
+
+-- Q-6, levels without gaps. `WithoutGaps M ℓ k h` says that each number from 1 to h is the level ℓ a of some atom a of M, and that h is at most k.
+pub record LevelsWithoutGaps : Type 0 where
+  -- in every stable model M: its level numbers up to the highest of them, which is at most the number of atoms of M
+  pub of-model : (P : Program) → So (wellFormed P) → (M : Atoms) → Stable P M
+      → WithoutGaps M (level P M) (sum (P .atoms) (λ a. cond (M a) 1 0)) (highest (P .atoms) (level P M))
+  -- in the bytes that every accepting check writes, with the number k of true atoms and the highest level h that it returns: the true atoms are those of 1 to
+  -- n whose byte of the assignment is not 0, and their levels are their level bytes
+  pub of-check : (t u b l : List ℕ) (k h : ℕ) → checkAnswer t u (length b) (length l) ≡ ShownModel k h
+      → (P : Program) × Admitted t P × WithoutGaps (setIn (P .atoms) (checkAssignment t u b (length l))) (levelIn (checkLevels t u (length b) l)) k h
+  -- in the bytes that every accepting filling out writes
+  pub of-fill : (t s b l : List ℕ) (k h : ℕ) → fillAnswer t s (length b) (length l) ≡ Filled k h
+      → (P : Program) × Admitted t P × WithoutGaps (setIn (P .atoms) (fillAssignment t s b (length l))) (levelIn (fillLevels t s (length b) l)) k h
+
+pub levels-without-gaps : LevelsWithoutGaps
+levels-without-gaps = record { of-model = Base.level-gaps; of-check = check-gaps; of-fill = fill-gaps }
+
+-- ---- 11 Examples and wrong turns
 
 -- document 01's starred examples, with every V, C, level, set and spot that it gives, computed from the definitions
 pub starred : map computed examples ≡ examples
@@ -884,7 +905,7 @@ wrong-turns =
 pub texts : map computedRow cases ≡ cases
 texts = cases-hold
 
--- ---- 11 Contracts: each public function meets the one that stands at it in src/
+-- ---- 12 Contracts: each public function meets the one that stands at it in src/
 
 -- form, numbers, program
 pub record Reader (M : Type 1) : Type 2 where
