@@ -5,7 +5,6 @@
 --   accepted-counter   the counter of each atom is its level number
 --   stable-accepted, exhibited, exhibited-fits   the filled-out list of a stable model is an accepted assignment: the answer that prints it is accepted
 --   one-accepted       two accepted assignments with the same true atoms are equal
---   Agrees             what the check of an answer and filling out a set answer and write is the same
 --   check-writes       what the check answers and writes for an answer with an accepted assignment
 --   fill-agrees        filling out the set of its true atoms answers and writes the same
 --   bytes-set          the bytes of a stable model

@@ -53,7 +53,7 @@ module _ (P : Program) (form : So (wellFormed P)) (M : Atoms) (σ : Stable P M) 
     level-in : (a : ℕ) → So (isAtom n a) → levelIn m a ≡ level P M a
     level-in a i = ap (λ (ls : List ℕ). levelIn ls a) levels-are ∙ level-here n (level P M) y a i
 
-    pub gaps-written : {k h : ℕ} → k ≡ sum n (λ a. cond (M a) 1 0) → h ≡ highest n (level P M) → WithoutGaps (setIn n c) (levelIn m) k h
+    gaps-written : {k h : ℕ} → k ≡ sum n (λ a. cond (M a) 1 0) → h ≡ highest n (level P M) → WithoutGaps (setIn n c) (levelIn m) k h
     gaps-written {k} {h} count-is highest-is =
         record { each-level = λ i p l. at i (g .each-level i p (omega (arith, l, highest-is))); at-most = omega (arith, count-is, highest-is, g .at-most) }
       where

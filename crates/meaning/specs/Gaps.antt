@@ -1,5 +1,6 @@
 -- Levels without gaps (document 02, Q-6).
---   WithoutGaps M ℓ k h   ℓ gives the atoms of M levels without a gap from 1 to the highest, h, which is at most k, the number of atoms of M
+--   WithoutGaps M ℓ k h   each number from 1 to h is the level of some atom of M, and h is at most k; where it is used, h is the highest level and k the
+--                         number of atoms of M
 -- Assumes nothing.
 use Prim.Native.Nat.{ℕ, zero, _≤_, _<_}
 use mathlib.Core.Path.{_≡_}

@@ -32,6 +32,7 @@ use Rattle.meaning.specs.Samples.{setOf, program, fact, ring, loop}
 use Rattle.theory.proofs.LeastModel.{union-model, union-least, first-stage-unique}
 use Rattle.theory.proofs.Decided.{least-model-iff, stable-atom, headless-false}
 use Rattle.theory.proofs.Decided as Decided
+use Rattle.theory.proofs.Gaps as Gaps
 use Rattle.encoding.specs.Width.{IsWidth, bitsFor, width, tableWidth}
 use Rattle.encoding.specs.Literal.{var, −_, Assignment, valueOf, allTrue, within, occurs}
 use Rattle.encoding.specs.Counter.{value, chain, successor}
@@ -437,6 +438,16 @@ level-numbers P form M s =
       numbering = stable-level-numbering P form M s;
       only = level-numbering-unique P form M;
     }
+
+-- `highest`, of the levels of the atoms 1 to n, as the check and filling out return it
+pub record HighestLevel (n : ℕ) (ℓ : ℕ → ℕ) : Type 0 where
+  -- no atom has a higher level
+  pub no-higher : (a : ℕ) → So (isAtom n a) → ℓ a ≤ highest n ℓ
+  -- and if it is not 0, it is the level of some atom
+  pub reached : zero < highest n ℓ → (a : ℕ) × So (isAtom n a) × (ℓ a ≡ highest n ℓ)
+
+pub highest-level : (n : ℕ) (ℓ : ℕ → ℕ) → HighestLevel n ℓ
+highest-level n ℓ = record { no-higher = Gaps.no-higher n ℓ; reached = Gaps.highest-reached n ℓ }
 
 -- a set with a level numbering in document 001's sense is a stable model
 pub numbered : (P : Program) → So (wellFormed P) → (M : Atoms) (ℓ : ℕ → ℕ) → LevelNumbering P M ℓ → Stable P M

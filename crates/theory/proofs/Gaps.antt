@@ -1,4 +1,5 @@
--- Levels without gaps (document 02, Q-6), over any code.
+-- The highest level, and levels without gaps (document 02, Q-6), over any code.
+--   no-higher, highest-reached   no atom has a level above the highest, and above 0 it is the level of some atom
 --   one-below       a true atom of level i + 1, i from 1, has a true body atom of level i
 --   level-below     so each number from 1 to the level of a true atom is the level of some true atom
 --   numbered-gaps   and the highest level is at most the number of true atoms
@@ -15,13 +16,19 @@ use borrow.Author.Tests.{ltb-true}
 use Rattle.lists.specs.Lists.{all, sum, highest}
 use Rattle.lists.proofs.Bools.{So-or-not}
 use Rattle.lists.proofs.Tests.{all-at}
-use Rattle.lists.proofs.Highest.{highest-at, reached-count}
-use Rattle.meaning.specs.Program.{Atoms, bodyTrue}
+use Rattle.lists.proofs.Highest.{highest-le, highest-at, reached-count}
+use Rattle.meaning.specs.Program.{Atoms, isAtom, bodyTrue}
 use Rattle.meaning.specs.Gaps.{WithoutGaps}
-use Rattle.theory.proofs.Atoms.{by-place}
+use Rattle.theory.proofs.Atoms.{is-atom, by-place}
 use Rattle.theory.specs.Code.{Code, m, rl, inner, levelOf, StableIn}
 use Rattle.theory.proofs.Reducts.{inner-of-body}
 use Rattle.theory.proofs.Numbered.{Ranges, Numbering, stable-numbered}
+
+pub no-higher : (n : ℕ) (ℓ : ℕ → ℕ) (a : ℕ) → So (isAtom n a) → ℓ a ≤ highest n ℓ
+no-higher n ℓ = by-place n (λ a. ℓ a ≤ highest n ℓ) (highest-le n ℓ)
+
+pub highest-reached : (n : ℕ) (ℓ : ℕ → ℕ) → zero < highest n ℓ → (a : ℕ) × So (isAtom n a) × (ℓ a ≡ highest n ℓ)
+highest-reached n ℓ p = let q = highest-at n ℓ p in (suc (q .0), is-atom n (suc (q .0)) (omega arith) (q .1), q .2)
 
 module _ (G : Code) (M : Atoms) (ℓ : ℕ → ℕ) (s : Numbering G M ℓ) where
   -- a true atom of the level i
@@ -60,8 +67,8 @@ module _ (G : Code) (M : Atoms) (ℓ : ℕ → ℕ) (s : Numbering G M ℓ) wher
 
   level-at : (i : ℕ) → zero < i → i ≤ highest (G .n) ℓ → At i
   level-at i p h =
-      let q = highest-at (G .n) ℓ (omega (arith, p, h)) in
-      level-below (suc (q .0)) (true-at (suc (q .0)) (omega (arith, p, h, q .2))) i p (omega (arith, h, q .2))
+      let q = highest-reached (G .n) ℓ (omega (arith, p, h)) in
+      level-below (q .0) (true-at (q .0) (omega (arith, p, h, q .2))) i p (omega (arith, h, q .2))
 
   pub numbered-gaps : WithoutGaps M ℓ (sum (G .n) (λ a. cond (M a) 1 0)) (highest (G .n) ℓ)
   numbered-gaps =

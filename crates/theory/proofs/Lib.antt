@@ -11,7 +11,7 @@
 -- From clauses to models, over any code
 --   Reducts: how an atom enters a stage of a code's reduct
 --   Numbered: level numberings and stable models
---   Gaps: levels without gaps, and no more levels than true atoms
+--   Gaps: the highest level; levels without gaps, and no more levels than true atoms
 --   Groups: the clauses of one rule or atom, as one truth value each
 --   Meaning: what the clause list says, group by group
 --   Pairs: which rule and body atom a pair is of
