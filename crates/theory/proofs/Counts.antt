@@ -1,18 +1,17 @@
 -- The number of clauses, group by group, and document 01's formula.
 -- Assumes nothing.
-use Prim.Native.Nat.{ℕ, zero, suc, pred, _+_, _-_, _*_, _^_, _≤_, _<_}
-use native.Mathlib.Nat.{not-suc-le-zero, eq-or-lt-of-le, le-of-suc-le-suc, le-refl, zero-mul, suc-pred-eq-of-pos}
+use Prim.Native.Nat.{ℕ, zero, suc, pred, _+_, _-_, _*_, _^_, _≤_}
+use native.Mathlib.Nat.{zero-mul, suc-pred-eq-of-pos}
 use native.Mathlib.Omega.{arith}
 use mathlib.Core.Path.{_≡_, refl, sym, _∙_, ap, ap₂, subst}
-use mathlib.Core.Logic.{⊎-elim}
 use mathlib.Core.Bool.{Bool, true, false, So, cond}
 use mathlib.Core.List.{List, [], _∷_, _++_, map}
 use lib.Dec.{eqb, eqb·suc-zero}
 use lib.ListN.{length, length-append, length-map}
-use borrow.Author.Tests.{eq-eqb, ne-eqb}
 use Rattle.lists.specs.Lists.{sum, each, select}
 use Rattle.lists.proofs.Tables.{sum-ext, sum-add, sum-mul, sum-const, sum-zero, sum-swap, length-tab, length-each}
 use Rattle.lists.proofs.Growing.{one, count-le}
+use Rattle.lists.proofs.Counting.{sum-with, one-of}
 use Rattle.meaning.specs.Program.{Rule, Program, ruleAt, wellFormed}
 use Rattle.theory.proofs.Atoms.{by-place}
 use Rattle.encoding.specs.Literal.{−_, Clause}
@@ -28,10 +27,6 @@ use Rattle.theory.proofs.Pairs.{pair-count}
 sum-more : (n : ℕ) (f : ℕ → ℕ) (a : ℕ) → sum n (λ i. f i + a) ≡ sum n f + n * a
 sum-more n f a = sum-add n f (λ i. a) ∙ ap (λ (x : ℕ). sum n f + x) (sum-const n a)
 
--- two sums whose terms agree after adding others
-sum-with : (n : ℕ) (f g h : ℕ → ℕ) → ((i : ℕ) → i < n → f (suc i) + g (suc i) ≡ h (suc i)) → sum n f + sum n g ≡ sum n h
-sum-with n f g h e = sym (sum-add n f g) ∙ sum-ext n (λ i. f i + g i) h e
-
 -- the numbers that pass, counted
 length-select : (n : ℕ) (p : ℕ → Bool) → length (select n p) ≡ sum n (λ i. one (p i))
 length-select n p = length-each n (λ i. cond (p i) (i ∷ []) []) ∙ sum-ext n _ _ (λ i h. go (suc i) (p (suc i)))
@@ -39,18 +34,6 @@ length-select n p = length-each n (λ i. cond (p i) (i ∷ []) []) ∙ sum-ext n
     go : (i : ℕ) (b : Bool) → length (cond b (i ∷ []) []) ≡ one b
     go i true = refl
     go i false = refl
-
--- one number of 1 to n is h
-one-of : (n h : ℕ) → h < n → sum n (λ a. one (eqb (suc h) a)) ≡ 1
-one-of zero h l = absurd (not-suc-le-zero l)
-one-of (suc n) h l =
-    ⊎-elim
-    (λ (e : h ≡ n). ap₂ _+_ (none n h (subst (λ (k : ℕ). n ≤ k) (sym e) (le-refl n))) (ap one (eq-eqb (suc h) (suc n) (ap suc e))))
-    (λ (k : h < n). ap₂ _+_ (one-of n h k) (ap one (ne-eqb (suc h) (suc n) (λ e. omega arith)))) (eq-or-lt-of-le (le-of-suc-le-suc l))
-  where
-    none : (n h : ℕ) → n ≤ h → sum n (λ a. one (eqb (suc h) a)) ≡ 0
-    none zero h l = refl
-    none (suc n) h l = ap₂ _+_ (none n h (omega arith)) (ap one (ne-eqb (suc h) (suc n) (λ e. omega arith)))
 
 -- ---- one successor, one chain
 
