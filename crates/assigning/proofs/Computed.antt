@@ -1,7 +1,9 @@
 -- Literals of answers as they are written, assigned to three bytes of a buffer of five.
 --   outcomes-read   done, repeated by the other sign, stray, repeated before stray, stray before repeated in a later line, no literals
 --   bytes-read      the buffers at that moment
---   unset-read      the first variable without a value
+--   counts-read     how many of the variables 1 to 3 no literal names
+--   unset-read      how many have no value in a buffer
+--   completed-read  values, a variable that has none read as false
 -- Assumes nothing.
 use Prim.Native.Nat.{ℕ}
 use mathlib.Core.Path.{_≡_, refl}
@@ -10,7 +12,7 @@ use Rattle.lists.specs.Ascii.{ascii}
 use Rattle.form.specs.Automaton.{digitTest}
 use Rattle.answers.specs.Automaton.{seekStep}
 use Rattle.answers.specs.Reading.{digitsValue, behindDigits, minusFrom, literalFrom, seekFrom, nextLiteral}
-use Rattle.assigning.specs.Assign.{literalsWithin, literalsFrom, Outcome, putOutcome, putBytes, assignedOf, assignedBytes, firstUnset, filledWith}
+use Rattle.assigning.specs.Assign.{literalsWithin, literalsFrom, Outcome, unnamedCount, putOutcome, putBytes, assignedOf, assignedBytes, unsetCount, completed, filledWith}
 
 -- "s SATISFIABLE" has 13 bytes
 abbrev samples : List (List ℕ)
@@ -32,6 +34,14 @@ pub bytes-read : map (λ t. assignedBytes 3 (literalsFrom t 13) start) samples
 unfolding ascii digitTest seekStep digitsValue behindDigits minusFrom literalFrom seekFrom nextLiteral literalsWithin literalsFrom putOutcome putBytes filledWith
 bytes-read = refl
 
-pub unset-read : map (firstUnset 3) ((1 ∷ 0 ∷ 1 ∷ 2 ∷ []) ∷ (2 ∷ 0 ∷ 2 ∷ []) ∷ (1 ∷ 0 ∷ 2 ∷ 2 ∷ []) ∷ []) ≡ 0 ∷ 1 ∷ 3 ∷ []
-unfolding firstUnset
+pub counts-read : map (λ t. unnamedCount 3 (literalsFrom t 13)) samples ≡ 0 ∷ 2 ∷ 2 ∷ 2 ∷ 1 ∷ 2 ∷ 3 ∷ []
+unfolding ascii digitTest seekStep digitsValue behindDigits minusFrom literalFrom seekFrom nextLiteral literalsWithin literalsFrom unnamedCount
+counts-read = refl
+
+pub unset-read : map (unsetCount 3) ((1 ∷ 0 ∷ 1 ∷ 2 ∷ []) ∷ (2 ∷ 0 ∷ 2 ∷ 8 ∷ []) ∷ (2 ∷ 2 ∷ 2 ∷ 2 ∷ []) ∷ []) ≡ 0 ∷ 2 ∷ 3 ∷ []
+unfolding unsetCount
 unset-read = refl
+
+pub completed-read : map completed ((1 ∷ 0 ∷ 1 ∷ []) ∷ (2 ∷ 0 ∷ 2 ∷ []) ∷ (2 ∷ 1 ∷ 2 ∷ []) ∷ (2 ∷ 2 ∷ 2 ∷ []) ∷ [])
+    ≡ (1 ∷ 0 ∷ 1 ∷ []) ∷ (0 ∷ 0 ∷ 0 ∷ []) ∷ (0 ∷ 1 ∷ 0 ∷ []) ∷ (0 ∷ 0 ∷ 0 ∷ []) ∷ []
+completed-read = refl

@@ -3,7 +3,7 @@
 -- Taking: the literals of an answer one after the other
 -- Reading: the form and the literals in one pass
 -- Steps: the outcome and the buffer of a list of literals, by its places
--- Rows: what the outcome, the buffer and the first variable without a value say of the literals
+-- Rows: what the outcome, the buffer and the number of variables without a value say of the literals
 -- Computed: answers as they are written
 pub mod Turns
 pub mod Putting

@@ -1,12 +1,13 @@
 -- One pass over an answer: after each literal the answer so far, and the buffer.
 --   next-stays, next-put         what `put_next` answers where an earlier literal was not assigned, and where each was
 --   pass-goes, pass-ends         one literal more; no more literals
+--   assumed-model                how many variables are read as false, where a model is offered and each literal is assigned
 --   read-model, read-other, read-left   the outcome and the buffer by the status
 --   read-formed                  the same of an answer of the form, whose literals begin at e
 -- Assumes nothing.
 use Prim.Native.Nat.{ℕ, _≤_}
 use native.Mathlib.Omega.{arith}
-use mathlib.Core.Path.{_≡_, refl, sym, _∙_, ap}
+use mathlib.Core.Path.{_≡_, refl, sym, _∙_, ap, ap₂}
 use mathlib.Core.Bool.{Bool, true, false, cond}
 use mathlib.Core.List.{List, []}
 use lib.IntN.{ℤ, natAbs}
@@ -20,7 +21,7 @@ use Rattle.answer_reader.specs.Results.{foundFor, formFor, formOf}
 use Rattle.answer_reader.proofs.Given.{found-satisfiable, found-other, found-left}
 use Rattle.assigning.specs.declared.Assigned.{Assigned}
 use Rattle.assigning.specs.declared.Assigned.the-variants.{Done, Stray, Repeated}
-use Rattle.assigning.specs.Assign.{literalsFrom, Outcome, putOutcome, putBytes, assignedOf, assignedBytes, numberValue, assignedFor, nextAnswer, nextBytes, outcomeBy, readOutcome, bytesBy, readBytes}
+use Rattle.assigning.specs.Assign.{literalsFrom, Outcome, putOutcome, putBytes, assignedOf, assignedBytes, numberValue, assignedFor, nextAnswer, nextBytes, outcomeBy, readOutcome, bytesBy, readBytes, assumedBy}
 use Rattle.assigning.proofs.Taking.{Took, assign-goes, assign-stops}
 
 -- ---- one literal
@@ -88,6 +89,11 @@ module _ (t : List ℕ) (p : ℕ) where
   pass-ends n b e Done = (sym (ap (λ (u : List Spotted). assignedFor (assignedOf n u b)) e), sym (ap (λ (u : List Spotted). assignedBytes n u b) e))
   pass-ends n b e (Stray s) = (refl, refl)
   pass-ends n b e (Repeated s) = (refl, refl)
+
+-- ---- how many are read as false
+
+pub assumed-model : {f : Formed} {o : Assigned} {e k r : ℕ} → f ≡ Model e → o ≡ Done → r ≡ k → r ≡ assumedBy f o k
+assumed-model {k = k} p q u = u ∙ sym (ap₂ (λ (g : Formed) (a : Assigned). assumedBy g a k) p q)
 
 -- ---- by the status
 

@@ -1,5 +1,5 @@
--- What the outcome, the buffer and the first variable without a value say of the literals (document 01, rows 13, 14 and 15), where the first n bytes
--- are 2 at the start.
+-- What the outcome, the buffer and the number of variables without a value say of the literals (document 01, rows 13 and 14; document 02, Q-3), where the
+-- first n bytes are 2 at the start.
 --   literals-named               the literals of an answer are of variables from 1 on
 --   Fit n xs j, AllFit n xs      the literal at place j is of a variable up to n that no literal before it names; each literal is
 --   StrayAt n xs s               the first literal that is not fit is of a variable above n, and its first byte is at s
@@ -11,28 +11,29 @@
 --   named-value, unnamed-value   then the byte of a variable is the value of the literal that names it, or 2
 --   refilled, assigned-length    filling anew leaves nothing of what was assigned; the length stays
 --   named-or-not                 a variable is named or not
---   Missing n xs v               v is the smallest variable up to n that no literal names
---   unset-missing, missing-unset           then it is the first variable without a value
---   unset-nothing, nothing-unset           and 0 is given just where each variable is named
+--   unset-unnamed                where each literal is fit, as many variables have no value as no literal names
+--   unnamed-rest                 and with the literals these make up n
 -- Assumes nothing.
-use Prim.Native.Nat.{ℕ, zero, suc, _-_, _≤_, _<_}
+use Prim.Native.Nat.{ℕ, zero, suc, _+_, _-_, _≤_, _<_}
 use native.Mathlib.Nat.{le-of-suc-le-suc}
 use native.Mathlib.Omega.{arith}
 use mathlib.Core.Path.{_≡_, refl, sym, _∙_, ap, subst}
 use mathlib.Core.Logic.{_⊎_, inl, inr, ⊎-elim}
-use mathlib.Core.Bool.{Bool, true, false, So, false≢true}
-use mathlib.Core.List.{List, [], _∷_, _++_}
+use mathlib.Core.Bool.{Bool, true, false, So, cond, false≢true}
+use mathlib.Core.List.{List, _++_}
 use lib.Dec.{eqb}
 use lib.ListN.{length, getD, drop, replicate, length-append, length-drop, length-replicate, getD-replicate, List·getD-append}
 use lib.Seq.{drop-at}
-use borrow.Author.Tests.{eqb-true, eqb-false}
-use Rattle.lists.proofs.Tests.{le-or-lt}
+use borrow.Author.Tests.{eq-eqb, ne-eqb, eqb-true}
+use Rattle.lists.proofs.Bools.{false-of}
+use Rattle.lists.proofs.Tests.{le-or-lt, any-at, any-in}
+use Rattle.lists.proofs.Tables.{sum-ext}
+use Rattle.lists.proofs.Counting.{others}
 use Rattle.encoding.specs.Literal.{variable}
 use Rattle.answers.specs.Reading.{Next, nextLiteral, Spotted}
-use Rattle.assigning.specs.Assign.{literalThen, literalsWithin, literalsFrom, valueOf, literalAt, variableAt, spotAt, Unnamed, Named, Outcome, assignedOf, assignedBytes, firstUnset, filledWith}
-use Rattle.assigning.proofs.Turns.{unset-first}
+use Rattle.assigning.specs.Assign.{literalThen, literalsWithin, literalsFrom, valueOf, nobody, literalAt, variableAt, spotAt, Unnamed, Named, isNamed, unnamedCount, Outcome, assignedOf, assignedBytes, unsetCount, filledWith}
 use Rattle.assigning.proofs.Taking.{ahead}
-use Rattle.assigning.specs.Rows.{Old, Fit, AllFit, StrayAt, RepeatedAt, Missing}
+use Rattle.assigning.specs.Rows.{Old, Fit, AllFit, StrayAt, RepeatedAt}
 use Rattle.assigning.proofs.Steps.{AllNamed, State, Says, says, value-not-two, byte-kept, byte-given, rest-kept}
 
 -- ---- the literals of an answer
@@ -179,68 +180,48 @@ module _ (n : ℕ) (xs : List Spotted) (b : List ℕ) (named : AllNamed xs) wher
       rest-kept n xs (replicate n 2 ++ drop n b) named .1
       ∙ omega (arith, h, length-append (replicate n 2) (drop n b), length-replicate {A = ℕ} n 2, length-drop n b)
 
--- ---- the smallest variable that is missing
+-- ---- the variables that no literal names
 
 pub named-or-not : (xs : List Spotted) (v : ℕ) → Named xs v ⊎ Unnamed xs v
-named-or-not [] v = inr (λ k h e. absurd (omega (arith, h)))
-named-or-not (x ∷ xs) v = go (eqb (variable (x .literal)) v) refl (named-or-not xs v)
+named-or-not xs v = go (isNamed xs v) refl
   where
-    later : (variable (x .literal) ≡ v → ⊥) → Unnamed xs v → Unnamed (x ∷ xs) v
-    later d u zero h e = d e
-    later d u (suc k) h e = u k (le-of-suc-le-suc h) e
+    at : (k : ℕ) → So (eqb (variableAt xs k) v) → variableAt xs k ≡ v
+    at k e = eqb-true (variableAt xs k) v e
 
-    go : (d : Bool) → eqb (variable (x .literal)) v ≡ d → Named xs v ⊎ Unnamed xs v → Named (x ∷ xs) v ⊎ Unnamed (x ∷ xs) v
-    go true e r = inl (0, omega arith, eqb-true (variable (x .literal)) v e)
-    go false e (inl m) = inl (suc (m .0), omega (arith, m .1), m .2)
-    go false e (inr u) = inr (later (eqb-false (variable (x .literal)) v e) u)
+    go : (d : Bool) → isNamed xs v ≡ d → Named xs v ⊎ Unnamed xs v
+    go true e = let w = any-at (λ (x : Spotted). eqb (variable (x .literal)) v) xs nobody e in inl (w .0, w .1, at (w .0) (w .2))
+    go false e =
+        inr (λ k h q. false≢true (sym e ∙ any-in (λ (x : Spotted). eqb (variable (x .literal)) v) xs nobody k h (eq-eqb (variableAt xs k) v q)))
 
-module _ (n : ℕ) (xs : List Spotted) (b : List ℕ) (named : AllNamed xs) (fit : AllFit n xs) where
-  abbrev after : List ℕ
-  after = assignedBytes n xs (filledWith n 2 b)
+is-named : (xs : List Spotted) (v : ℕ) → Named xs v → isNamed xs v ≡ true
+is-named xs v m = any-in (λ (x : Spotted). eqb (variable (x .literal)) v) xs nobody (m .0) (m .1) (eq-eqb (variableAt xs (m .0)) v (m .2))
 
-  no-value : (v : ℕ) → So (eqb (getD after (v - 1) 0) 2) → Unnamed xs v
-  no-value v e k h q =
-      value-not-two (literalAt xs k) (sym (named-value n xs b named fit k h) ∙ ap (λ (u : ℕ). getD after (u - 1) 0) q ∙ eqb-true (getD after (v - 1) 0) 2 e)
+not-named : (xs : List Spotted) (v : ℕ) → Unnamed xs v → isNamed xs v ≡ false
+not-named xs v u =
+    false-of (isNamed xs v)
+    (λ e. let w = any-at (λ (x : Spotted). eqb (variable (x .literal)) v) xs nobody e in u (w .0) (w .1) (eqb-true (variableAt xs (w .0)) v (w .2)))
 
-  a-value : (v : ℕ) → 0 < v → v ≤ n → eqb (getD after (v - 1) 0) 2 ≡ false → Named xs v
-  a-value v p h e =
-      ⊎-elim (λ (m : Named xs v). m) (λ (u : Unnamed xs v). absurd (eqb-false (getD after (v - 1) 0) 2 e (unnamed-value n xs b named v p h u))) (named-or-not xs v)
-
-  pub unset-missing : 0 < firstUnset n after → Missing n xs (firstUnset n after)
-  unset-missing p =
-      let f = unset-first n after in
-      record { positive = p; within = f .within; unnamed = no-value (firstUnset n after) (f .passes p); before = λ u. earlier u }
+module _ (n : ℕ) (xs : List Spotted) (named : AllNamed xs) (fit : AllFit n xs) where
+  pub unset-unnamed : (b : List ℕ) → unsetCount n (assignedBytes n xs (filledWith n 2 b)) ≡ unnamedCount n xs
+  unfolding unsetCount unnamedCount
+  unset-unnamed b = sum-ext n _ _ (λ i h. one (suc i) (omega arith) h)
     where
-      earlier : (u : ℕ) → 0 < u → u < firstUnset n after → Named xs u
-      earlier zero q h = absurd (omega (arith, q))
-      earlier (suc u) q h = let f = unset-first n after in a-value (suc u) q (omega (arith, h, f .within)) (f .none-before u h)
+      after : List ℕ
+      after = assignedBytes n xs (filledWith n 2 b)
 
-  pub unset-nothing : firstUnset n after ≡ 0 → (v : ℕ) → 0 < v → v ≤ n → Named xs v
-  unset-nothing e zero p h = absurd (omega (arith, p))
-  unset-nothing e (suc v) p h = a-value (suc v) p h (unset-first n after .none-at-all e v h)
+      one : (v : ℕ) → 0 < v → v ≤ n → _≡_ {A = ℕ} (cond (eqb (getD after (v - 1) 0) 2) 1 0) (cond (isNamed xs v) 0 1)
+      one v p h =
+          ⊎-elim (λ (m : Named xs v).
+          ap (λ (d : Bool). cond d 1 0) (ne-eqb (getD after (v - 1) 0) 2 (λ e. value-not-two (literalAt xs (m .0)) (given m ∙ e)))
+          ∙ sym (ap (λ (d : Bool). cond d 0 1) (is-named xs v m)))
+          (λ (u : Unnamed xs v).
+          ap (λ (d : Bool). cond d 1 0) (eq-eqb (getD after (v - 1) 0) 2 (unnamed-value n xs b named v p h u))
+          ∙ sym (ap (λ (d : Bool). cond d 0 1) (not-named xs v u))) (named-or-not xs v)
+        where
+          given : (m : Named xs v) → valueOf (literalAt xs (m .0)) ≡ getD after (v - 1) 0
+          given m = sym (named-value n xs b named fit (m .0) (m .1)) ∙ ap (λ (u : ℕ). getD after (u - 1) 0) (m .2)
 
-  unset-or : (firstUnset n after ≡ 0) ⊎ (0 < firstUnset n after)
-  unset-or = ⊎-elim (λ (h : firstUnset n after ≤ 0). inl (omega (arith, h))) (λ (h : 0 < firstUnset n after). inr h) (le-or-lt (firstUnset n after) 0)
-
-  pub missing-unset : (v : ℕ) → Missing n xs v → firstUnset n after ≡ v
-  missing-unset v m = go unset-or
-    where
-      clash : (u : ℕ) → Named xs u → Unnamed xs u → ⊥
-      clash u g h = h (g .0) (g .1) (g .2)
-
-      go : (firstUnset n after ≡ 0) ⊎ (0 < firstUnset n after) → firstUnset n after ≡ v
-      go (inl e) = absurd (clash v (unset-nothing e v (m .positive) (m .within)) (m .unnamed))
-      go (inr p) =
-          let w = unset-missing p in
-          ⊎-elim (λ (h : firstUnset n after ≤ v).
-          ⊎-elim (λ (k : v ≤ firstUnset n after). omega (arith, h, k))
-          (λ (k : firstUnset n after < v). absurd (clash (firstUnset n after) (m .before (firstUnset n after) p k) (w .unnamed))) (le-or-lt v (firstUnset n after)))
-          (λ (h : v < firstUnset n after). absurd (clash v (w .before v (m .positive) h) (m .unnamed))) (le-or-lt (firstUnset n after) v)
-
-  pub nothing-unset : ((v : ℕ) → 0 < v → v ≤ n → Named xs v) → firstUnset n after ≡ 0
-  nothing-unset f =
-      ⊎-elim (λ (e : firstUnset n after ≡ 0). e)
-      (λ (p : 0 < firstUnset n after).
-      let w = unset-missing p in
-      let g = f (firstUnset n after) p (w .within) in
-      absurd (w .unnamed (g .0) (g .1) (g .2))) unset-or
+  pub unnamed-rest : unnamedCount n xs + length xs ≡ n
+  unfolding unnamedCount
+  unnamed-rest =
+      others (λ (x : Spotted). variable (x .literal)) nobody n xs (record { positive = named; within = λ j h. fit j h .0; apart = λ j h. fit j h .1 })

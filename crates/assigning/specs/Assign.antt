@@ -1,5 +1,6 @@
--- An answer's literals, assigned one after the other to a buffer of bytes (document 01, "Check and filling out"; rows 13, 14 and 15). The byte of
--- variable v stands at v - 1: 1 or 0 is its value, 2 says that it has none yet. n is the number of variables.
+-- An answer's literals, assigned one after the other to a buffer of bytes (document 01, "Check and filling out", rows 13 and 14), and the variables that no
+-- literal names, which are read as false (document 02, Q-3). The byte of variable v stands at v - 1: 1 or 0 is its value, 2 says that it has none yet. n is
+-- the number of variables.
 --   literalsFrom t p      the literals of t from position p on, with the indices of their first bytes
 --   valueOf l             the value that l gives its variable
 --   literalAt, variableAt, spotAt   the literal at a place of a list, its variable, the index of its first byte
@@ -8,27 +9,33 @@
 --   putBytes n v x b      the buffer after it, where the value is x
 --   assignedOf n xs b     the first outcome of the literals xs that is not done
 --   assignedBytes n xs b  the buffer at that moment
---   unsetCount n b        how many variables have no value
---   firstUnset n b        the smallest variable that has no value, 0 if each has one
+--   isNamed xs v          some literal of xs is of variable v
+--   unnamedCount n xs     how many of the variables 1 to n no literal of xs names
+--   unsetCount n b        how many variables have no value in b
+--   completed bs          the values bs, a variable that has none read as false
 --   filledWith n x b      b with x in its first n places
 --   numberValue x         the value that the literal with number x gives
 --   assignedFor o         the code's answer for an outcome
 --   nextAnswer, nextBytes the code's answer a, then an outcome; the buffer later on if a is Done, else the buffer now
 --   readOutcome n t b     the outcome of the literals of the whole answer t, done if its status is not SATISFIABLE
 --   readBytes n t b       the buffer at that moment
+--   assumedBy f o k       how many variables are read as false, where k have no value: k if the form f is that of a model and o says that each literal is
+--                         assigned, and 0 of an answer that is refused
 -- Assumes nothing.
 use Prim.Native.Nat.{ℕ, zero, suc, _-_, _<_}
 use mathlib.Core.Path.{_≡_}
-use mathlib.Core.Bool.{cond}
-use mathlib.Core.List.{List, [], _∷_, _++_}
+use mathlib.Core.Bool.{Bool, cond}
+use mathlib.Core.List.{List, [], _∷_, _++_, map}
 use lib.Dec.{eqb, ltb}
 use lib.IntN.{ℤ}
 use lib.ListN.{length, getD, set, drop, replicate}
-use Rattle.lists.specs.Lists.{sum, first}
+use Rattle.lists.specs.Lists.{any, sum}
 use Rattle.encoding.specs.Literal.{Literal, variable}
 use Literal.{var, −_}
 use Rattle.literals.specs.Signed.{isNegative}
 use Rattle.answers.specs.Reading.{Found, statusOf, Next, nextLiteral, Spotted}
+use Rattle.answer_reader.specs.declared.Formed.{Formed}
+use Rattle.answer_reader.specs.declared.Formed.the-variants.{Model, NoModel, Malformed}
 use Rattle.assigning.specs.declared.Assigned.{Assigned}
 use Rattle.assigning.specs.declared.Assigned.the-variants.{Done, Stray, Repeated}
 
@@ -74,6 +81,12 @@ Named xs v = (k : ℕ) × (k < length xs) × (variableAt xs k ≡ v)
 abbrev pub Unnamed : List Spotted → ℕ → Type 0
 Unnamed xs v = (k : ℕ) → k < length xs → variableAt xs k ≡ v → ⊥
 
+abbrev pub isNamed : List Spotted → ℕ → Bool
+isNamed xs v = any (λ (x : Spotted). eqb (variable (x .literal)) v) xs
+
+unfoldable pub unnamedCount : ℕ → List Spotted → ℕ
+unnamedCount n xs = sum n (λ v. cond (isNamed xs v) 0 1)
+
 -- ---- one literal
 
 pub data Outcome : Type 0 where
@@ -116,8 +129,12 @@ assignedBytes n (x ∷ xs) b =
 unfoldable pub unsetCount : ℕ → List ℕ → ℕ
 unsetCount n b = sum n (λ v. cond (eqb (getD b (v - 1) 0) 2) 1 0)
 
-unfoldable pub firstUnset : ℕ → List ℕ → ℕ
-firstUnset n b = first n (λ v. eqb (getD b (v - 1) 0) 2)
+-- a variable that has no value is read as false
+abbrev pub completedByte : ℕ → ℕ
+completedByte x = cond (eqb x 2) 0 x
+
+abbrev pub completed : List ℕ → List ℕ
+completed bs = map completedByte bs
 
 unfoldable pub filledWith : ℕ → ℕ → List ℕ → List ℕ
 filledWith n x b = replicate n x ++ drop n b
@@ -159,3 +176,10 @@ bytesBy n t b (Found.left s) = b
 
 unfoldable pub readBytes : ℕ → List ℕ → List ℕ → List ℕ
 readBytes n t b = bytesBy n t b (statusOf t)
+
+abbrev pub assumedBy : Formed → Assigned → ℕ → ℕ
+assumedBy (Model e) Done k = k
+assumedBy (Model e) (Stray s) k = 0
+assumedBy (Model e) (Repeated s) k = 0
+assumedBy NoModel o k = 0
+assumedBy (Malformed s) o k = 0

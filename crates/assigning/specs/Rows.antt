@@ -1,17 +1,15 @@
--- Rows 13, 14 and 15 of document 01's table ("Verdicts"), for the literals xs of an answer with the indices of their first bytes, and n variables.
+-- Rows 13 and 14 of document 01's table ("Verdicts"), for the literals xs of an answer with the indices of their first bytes, and n variables.
 --   New xs j, Old xs j           no literal before place j names its variable; some one does
 --   Fit n xs j, AllFit n xs      the literal at place j is of a variable up to n that no literal before it names; each literal is
 --   StrayAt n xs s               the first literal that is not fit is of a variable above n, and its first byte is at s
 --   RepeatedAt n xs s            it is of a variable up to n that a literal before it names, and its first byte is at s
---   Missing n xs v               v is the smallest variable up to n that no literal names
---   Once n xs                    the literals name each variable from 1 to n once and nothing else
 -- Assumes nothing.
 use Prim.Native.Nat.{ℕ, _≤_, _<_}
 use mathlib.Core.Path.{_≡_}
 use mathlib.Core.List.{List}
 use lib.ListN.{length}
 use Rattle.answers.specs.Reading.{Spotted}
-use Rattle.assigning.specs.Assign.{variableAt, spotAt, Named, Unnamed}
+use Rattle.assigning.specs.Assign.{variableAt, spotAt}
 
 -- no literal before place j names the variable at j
 abbrev pub New : List Spotted → ℕ → Type 0
@@ -41,13 +39,3 @@ pub record RepeatedAt (n : ℕ) (xs : List Spotted) (s : ℕ) : Type 0 where
   pub within : variableAt xs place ≤ n
   pub again : Old xs place
   pub before : (j : ℕ) → j < place → Fit n xs j
-
-pub record Missing (n : ℕ) (xs : List Spotted) (v : ℕ) : Type 0 where
-  pub positive : 0 < v
-  pub within : v ≤ n
-  pub unnamed : Unnamed xs v
-  pub before : (u : ℕ) → 0 < u → u < v → Named xs u
-
-pub record Once (n : ℕ) (xs : List Spotted) : Type 0 where
-  pub fit : AllFit n xs
-  pub named : (v : ℕ) → 0 < v → v ≤ n → Named xs v

@@ -1,5 +1,6 @@
 // Assigns the literals of a solver answer to a lent buffer, one byte for each variable, and decides the answer's form in the same pass
-// (document 01, "Check and filling out"; rows 11 to 15): 1 or 0 is a value, 2 says that the variable has none yet.
+// (document 01, "Check and filling out"; rows 11 to 14): 1 or 0 is a value, 2 says that the variable has none yet. A variable that no literal names is
+// read as false (document 02, Q-3).
 use answer_reader::Formed;
 use answer_reader::Found;
 use answer_reader::Next;
@@ -17,7 +18,7 @@ ghost use mathlib.Core.List.{_++_};
 ghost use lib.Dec.{eqb};
 ghost use lib.ListN.{length, take, drop};
 ghost use Rattle.answer_reader.specs.Results.{modelFrom, formOf};
-ghost use Rattle.assigning.specs.Assign.{literalsFrom, putOutcome, putBytes, assignedOf, assignedBytes, unsetCount, firstUnset, filledWith, numberValue, assignedFor, nextAnswer, nextBytes, readOutcome, readBytes};
+ghost use Rattle.assigning.specs.Assign.{literalsFrom, putOutcome, putBytes, assignedOf, assignedBytes, unsetCount, completedByte, completed, filledWith, numberValue, assignedFor, nextAnswer, nextBytes, readOutcome, readBytes, assumedBy};
 
 // Each literal is assigned; the first that is not is of a variable above V, or of one that has a value: the index of its first byte.
 pub enum Assigned {
@@ -26,10 +27,11 @@ pub enum Assigned {
     Repeated(usize),
 }
 
-// The form of an answer, and how its literals were assigned.
+// The form of an answer, how its literals were assigned, and how many variables no literal names, 0 if the answer is refused.
 pub struct Read {
     pub form: Formed,
     pub outcome: Assigned,
+    pub assumed: usize,
 }
 
 // Puts `value` into the first n bytes.
@@ -44,23 +46,33 @@ pub fn fill(buf: &mut [u8], n: usize, value: u8)
     }
 }
 
-// Copies the first n bytes of `from`.
-pub fn copy_first(from: &[u8], n: usize, buf: &mut [u8])
+// The value of a variable whose byte is b: one that has none is read as false.
+fn completed_value(b: u8) -> u8
+    ensures { λ r. ⌜ r ≡ completedByte b ⌝ }
+{
+    if b == 2 {
+        return 0;
+    }
+    b
+}
+
+// Copies the first n bytes of `from`, each completed.
+pub fn copy_completed(from: &[u8], n: usize, buf: &mut [u8])
     requires { ⌜ (n ≤ length (now from)) × (n ≤ length (now buf)) ⌝ }
-    ensures { λ r. ⌜ now (buf .exit) ≡ take n (now (from .entry)) ++ drop n (now (buf .entry)) ⌝ }
+    ensures { λ r. ⌜ now (buf .exit) ≡ completed (take n (now (from .entry))) ++ drop n (now (buf .entry)) ⌝ }
 {
     let mut i: usize = 0;
     while i < n {
-        buf[i] = from[i];
+        buf[i] = completed_value(from[i]);
         i += 1;
     }
 }
 
 // 1 for a byte that says that its variable has no value, else 0.
-fn one_unset(b: u8) -> usize
-    ensures { λ r. ⌜ r ≡ cond (eqb b 2) 1 0 ⌝ }
+fn one_unset(value: u8) -> usize
+    ensures { λ r. ⌜ r ≡ cond (eqb value 2) 1 0 ⌝ }
 {
-    if b == 2 {
+    if value == 2 {
         return 1;
     }
     0
@@ -80,33 +92,30 @@ fn unset_count(assignment: &[u8], v: usize) -> usize
     k
 }
 
-// The smallest variable that has no value, 0 if each has one. They are counted first: a loop that runs to its end is the quicker one.
-pub fn first_unset(assignment: &[u8], v: usize) -> usize
+// How many variables are read as false: those that have no value, if the answer offers a model and each literal is assigned.
+fn assumed_of(f: Formed, o: Assigned, assignment: &[u8], v: usize) -> usize
     requires { ⌜ v ≤ length (now assignment) ⌝ }
-    ensures { λ r. ⌜ r ≡ firstUnset v (now (assignment .entry)) ⌝ }
+    ensures { λ r. ⌜ r ≡ assumedBy f o (unsetCount v (now (assignment .entry))) ⌝ }
 {
-    let k = unset_count(assignment, v);
-    if k == 0 {
-        return k;
+    match f {
+        Formed::Model(e) => match o {
+            Assigned::Done => unset_count(assignment, v),
+            Assigned::Stray(s) => 0,
+            Assigned::Repeated(s) => 0,
+        },
+        Formed::NoModel => 0,
+        Formed::Malformed(s) => 0,
     }
-    let mut i: usize = 0;
-    while i < v {
-        if assignment[i] == 2 {
-            return i + 1;
-        }
-        i += 1;
-    }
-    0
 }
 
 // The value that a literal gives its variable.
 fn value_of(x: i32) -> u8
     ensures { λ r. ⌜ r ≡ numberValue x ⌝ }
 {
-    if is_negative(x) {
-        return 0;
+    if !is_negative(x) {
+        return 1;
     }
-    1
+    0
 }
 
 // Assigns one literal, whose first byte has the index `first`.
@@ -139,7 +148,7 @@ fn put_next(o: Assigned, x: i32, first: usize, v: usize, assignment: &mut [u8]) 
 // Reads the answer from position `from` on to its end: its form, and its literals, assigned up to literal 0 or the first that is stray or repeated.
 fn read_from(answer: &[u8], from: usize, v: usize, assignment: &mut [u8]) -> Read
     requires { ⌜ (from ≤ length (now answer)) × (v ≤ length (now assignment)) × (v ≤ 9890) ⌝ }
-    ensures { λ r. ⌜ (r .form ≡ modelFrom from from (now (answer .entry))) × (r .outcome ≡ assignedFor (assignedOf v (literalsFrom (now (answer .entry)) from) (now (assignment .entry)))) × (now (assignment .exit) ≡ assignedBytes v (literalsFrom (now (answer .entry)) from) (now (assignment .entry))) ⌝ }
+    ensures { λ r. ⌜ (r .form ≡ modelFrom from from (now (answer .entry))) × (r .outcome ≡ assignedFor (assignedOf v (literalsFrom (now (answer .entry)) from) (now (assignment .entry)))) × (now (assignment .exit) ≡ assignedBytes v (literalsFrom (now (answer .entry)) from) (now (assignment .entry))) × (r .assumed ≡ assumedBy (r .form) (r .outcome) (unsetCount v (now (assignment .exit)))) ⌝ }
 {
     let mut p = from;
     let mut o = Assigned::Done;
@@ -153,25 +162,29 @@ fn read_from(answer: &[u8], from: usize, v: usize, assignment: &mut [u8]) -> Rea
             Next::Last(behind) => {
                 let c = close(answer, behind);
                 let f = closed_form(from, c);
+                let k = assumed_of(f, o, &*assignment, v);
                 return Read {
                     form: f,
                     outcome: o,
+                    assumed: k,
                 };
             }
             Next::Left(s) => {
                 return Read {
                     form: Formed::Malformed(s),
                     outcome: o,
+                    assumed: 0,
                 };
             }
         }
     }
 }
 
-// The form of the whole answer. If its status is SATISFIABLE, its literals are assigned on the way; else the assignment stays.
+// The form of the whole answer. If its status is SATISFIABLE, its literals are assigned on the way; else the assignment stays. The variables that no literal
+// names keep their 2; how many they are is said too.
 pub fn read_form(answer: &[u8], v: usize, assignment: &mut [u8]) -> Read
     requires { ⌜ (v ≤ length (now assignment)) × (v ≤ 9890) ⌝ }
-    ensures { λ r. ⌜ (r .form ≡ formOf (now (answer .entry))) × (r .outcome ≡ assignedFor (readOutcome v (now (answer .entry)) (now (assignment .entry)))) × (now (assignment .exit) ≡ readBytes v (now (answer .entry)) (now (assignment .entry))) ⌝ }
+    ensures { λ r. ⌜ (r .form ≡ formOf (now (answer .entry))) × (r .outcome ≡ assignedFor (readOutcome v (now (answer .entry)) (now (assignment .entry)))) × (now (assignment .exit) ≡ readBytes v (now (answer .entry)) (now (assignment .entry))) × (r .assumed ≡ assumedBy (r .form) (r .outcome) (unsetCount v (now (assignment .exit)))) ⌝ }
 {
     let s = status(answer);
     match s {
@@ -179,10 +192,12 @@ pub fn read_form(answer: &[u8], v: usize, assignment: &mut [u8]) -> Read
         Found::Other => Read {
             form: Formed::NoModel,
             outcome: Assigned::Done,
+            assumed: 0,
         },
         Found::Left(spot) => Read {
             form: Formed::Malformed(spot),
             outcome: Assigned::Done,
+            assumed: 0,
         },
     }
 }

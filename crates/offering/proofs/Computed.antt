@@ -1,7 +1,7 @@
 -- Document 01's answer, and no values.
 --   text-offered    the text of the values 1 1 1 1 0 0 1, and of none
 --   bytes-offered   these values as bytes
---   values-given    the values that literals in another order give
+--   values-given    the values that literals in another order give, and those that they give where 5 and 6 are left out
 -- Assumes nothing.
 use mathlib.Core.Path.{_≡_, refl}
 use mathlib.Core.Bool.{Bool, true, false}
@@ -26,6 +26,6 @@ text-offered = refl
 pub bytes-offered : valueBytes values ≡ 1 ∷ 1 ∷ 1 ∷ 1 ∷ 0 ∷ 0 ∷ 1 ∷ []
 bytes-offered = refl
 
-pub values-given : valuesOf 7 (literalsFrom (ascii "s SATISFIABLE\nv 7 -6 -5\nc\nv 1 2 3 4 0\n") 13) ≡ values
+pub values-given : map (λ t. valuesOf 7 (literalsFrom (ascii t) 13)) ("s SATISFIABLE\nv 7 -6 -5\nc\nv 1 2 3 4 0\n" ∷ "s SATISFIABLE\nv 1 2 3 4 7 0\n" ∷ []) ≡ values ∷ values ∷ []
 unfolding ascii digitTest seekStep digitsValue behindDigits minusFrom literalFrom seekFrom nextLiteral literalsWithin literalsFrom valuesOf
 values-given = refl

@@ -3,10 +3,10 @@
 --   offered-length, offered-fits   at most 6 bytes for each of at most 9,890 variables, and 18: within 65,536
 --   offered-is, offered-model      it is a model, whose status line ends at 13
 --   offered-spots, offered-literals   its literals are read where they stand, and they are `literalsFor bs`
---   offered-once, offered-true     they name each variable once, and each is true where the variables have the values bs
---   offered-fit, offered-done, offered-set   none is stray or repeated, and no variable is without a value
---   offered-bytes                  the first bytes of a buffer to which they are assigned are the values bs
+--   offered-fit                    none is stray or repeated
+--   offered-named                  each variable is named
 --   offered-values                 the values that they give are bs
+--   offered-none                   no variable is left out
 -- Assumes nothing.
 use Prim.Native.Nat.{ℕ, zero, suc, _+_, _*_, _≤_, _<_}
 use native.Mathlib.Omega.{arith}
@@ -14,7 +14,7 @@ use mathlib.Core.Path.{_≡_, refl, sym, _∙_, ap, subst}
 use mathlib.Core.Bool.{Bool, true, false, not, So}
 use mathlib.Core.List.{List, [], _∷_, _++_, append-nil}
 use lib.IntN.{natAbs}
-use lib.ListN.{length, getD, drop, length-append, length-map}
+use lib.ListN.{length, getD, length-append, length-map}
 use borrow.Author.Tests.{lt-ltb}
 use Rattle.lists.specs.Ascii.{ascii}
 use Rattle.lists.proofs.Bools.{and-in}
@@ -31,12 +31,12 @@ use Rattle.answer_reader.specs.declared.Formed.the-variants.{Model}
 use Rattle.answer_reader.specs.Results.{formOf}
 use Rattle.answers.specs.Reading.{IsModel}
 use Rattle.answer_reader.proofs.Promised.{model-form}
-use Rattle.assigning.specs.Assign.{literalsFrom, nobody, literalAt, variableAt, Outcome, assignedOf, assignedBytes, firstUnset, filledWith}
+use Rattle.assigning.specs.Assign.{literalsFrom, nobody, literalAt, variableAt, Named, unnamedCount}
 use Rattle.assigning.proofs.Taking.{literals-read}
-use Rattle.assigning.specs.Rows.{AllFit, Once}
-use Rattle.assigning.proofs.Rows.{literals-named}
-use Rattle.offering.specs.Offered.{valueBytes, valueLiteral, literalsFor, offered, offeredText, valuesOf}
-use Rattle.offering.proofs.Values.{EachTrue, once-done, once-set, bytes-are, values-unique}
+use Rattle.assigning.specs.Rows.{AllFit}
+use Rattle.assigning.proofs.Rows.{literals-named, unnamed-rest}
+use Rattle.offering.specs.Offered.{valueLiteral, literalsFor, offered, offeredText, valuesOf, Completes}
+use Rattle.offering.proofs.Values.{values-unique}
 
 -- ---- one literal
 
@@ -154,36 +154,26 @@ module _ (bs : List Bool) where
   spot-variable : (k : ℕ) → k < length spots → variableAt spots k ≡ suc k
   spot-variable k h = ap variable (spot-at k h) ∙ variable-is (valueOf bs (suc k)) (suc k)
 
-  pub offered-once : Once (length bs) (literalsFrom (offeredText bs) 13)
-  offered-once =
-      record {
-        fit = λ j h. (
-          omega (arith, spot-variable j h, spots-length, h),
-          λ i l e. omega (arith, l, e, spot-variable i (omega (arith, l, h)), spot-variable j h),
-        );
-        named = λ v. name v;
-      }
-    where
-      name : (v : ℕ) → 0 < v → v ≤ length bs → (k : ℕ) × (k < length spots) × (variableAt spots k ≡ v)
-      name zero p h = absurd (omega (arith, p))
-      name (suc v) p h = let inside : v < length spots = omega (arith, spots-length, h) in (v, inside, spot-variable v inside)
-
-  pub offered-true : EachTrue (literalsFrom (offeredText bs) 13) bs
-  offered-true k h = ap (literalTrue (valueOf bs)) (spot-at k h) ∙ literal-true (valueOf bs) (suc k)
-
-  -- ---- its assignment
-
   pub offered-fit : AllFit (length bs) (literalsFrom (offeredText bs) 13)
-  offered-fit = offered-once .fit
+  offered-fit j h = (
+    omega (arith, spot-variable j h, spots-length, h),
+    λ i l e. omega (arith, l, e, spot-variable i (omega (arith, l, h)), spot-variable j h),
+  )
 
-  pub offered-done : (b : List ℕ) → assignedOf (length bs) (literalsFrom (offeredText bs) 13) (filledWith (length bs) 2 b) ≡ Outcome.done
-  offered-done b = once-done (length bs) spots (literals-named (offeredText bs) 13) offered-once b
+  pub offered-named : (v : ℕ) → 0 < v → v ≤ length bs → Named (literalsFrom (offeredText bs) 13) v
+  offered-named zero p h = absurd (omega (arith, p))
+  offered-named (suc v) p h = let inside : v < length spots = omega (arith, spots-length, h) in (v, inside, spot-variable v inside)
 
-  pub offered-set : (b : List ℕ) → firstUnset (length bs) (assignedBytes (length bs) (literalsFrom (offeredText bs) 13) (filledWith (length bs) 2 b)) ≡ 0
-  offered-set b = once-set (length bs) spots (literals-named (offeredText bs) 13) offered-once b
-
-  pub offered-bytes : (b : List ℕ) → assignedBytes (length bs) (literalsFrom (offeredText bs) 13) (filledWith (length bs) 2 b) ≡ valueBytes bs ++ drop (length bs) b
-  offered-bytes b = bytes-are (length bs) spots (literals-named (offeredText bs) 13) offered-once bs refl offered-true b
+  completes : Completes (length bs) spots bs
+  completes =
+      record {
+        sized = refl;
+        each-true = λ k h. ap (literalTrue (valueOf bs)) (spot-at k h) ∙ literal-true (valueOf bs) (suc k);
+        unnamed-false = λ v p h u. let w = offered-named v p h in absurd (u (w .0) (w .1) (w .2));
+      }
 
   pub offered-values : valuesOf (length bs) (literalsFrom (offeredText bs) 13) ≡ bs
-  offered-values = sym (values-unique (length bs) spots (literals-named (offeredText bs) 13) offered-once bs refl offered-true)
+  offered-values = sym (values-unique (length bs) spots (literals-named (offeredText bs) 13) offered-fit bs completes)
+
+  pub offered-none : unnamedCount (length bs) (literalsFrom (offeredText bs) 13) ≡ 0
+  offered-none = omega (arith, unnamed-rest (length bs) spots (literals-named (offeredText bs) 13) offered-fit, spots-length)

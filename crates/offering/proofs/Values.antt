@@ -1,23 +1,19 @@
--- The values that an answer's literals xs give the variables 1 to n (document 01, "Check and filling out").
+-- The values that an answer's literals xs give the variables 1 to n (document 01, "Check and filling out"; document 02, Q-3).
 --   any-outcome, any-bytes        the outcome and the first n bytes do not depend on the buffer; the bytes behind them stay
---   Once n xs                     each literal is fit, and each variable from 1 to n is named
---   assigned-once                 it is so where the outcome is done and no variable is without a value
---   once-done, once-set           and only there
---   EachTrue xs bs                each literal is true where the variables have the values bs
 --   bytes-unique                  values are told apart by their bytes
---   bytes-are                     where each variable is named once, the first n bytes are the n values that make each literal true
---   values-length, values-true    `valuesOf n xs` are n values that do
---   values-alone, values-bytes    so the first n bytes are these
---   values-unique                 and no other n values do
+--   values-length, values-complete    where each literal is fit, `valuesOf n xs` is the completed assignment
+--   values-alone                  the first n bytes, completed, are these values
+--   values-unique                 and no other n values complete the literals
 -- Assumes nothing.
 use Prim.Native.Nat.{ℕ, zero, suc, _-_, _≤_, _<_}
 use native.Mathlib.Nat.{le-of-eq}
 use native.Mathlib.Omega.{arith}
 use mathlib.Core.Path.{_≡_, refl, sym, _∙_, ap, ap₂, subst}
+use mathlib.Core.Logic.{_⊎_, inl, inr}
 use mathlib.Core.Bool.{Bool, true, false, not, So, cond, false≢true}
 use mathlib.Core.List.{List, [], _∷_, _++_, map}
 use lib.Dec.{eqb, ltb}
-use lib.ListN.{length, getD, set, drop, replicate, length-map, length-set, length-replicate, List·getD-append}
+use lib.ListN.{length, getD, set, drop, replicate, length-map, length-set, length-replicate, getD-replicate, List·getD-append}
 use lib.Seq.{ext-getD, set-append-left}
 use borrow.Author.Tests.{eqb-true, eq-eqb, ltb-false, not-true}
 use Rattle.lists.specs.Lists.{any}
@@ -27,11 +23,11 @@ use Rattle.lists.proofs.Tables.{length-tab, getD-tab, getD-map}
 use Rattle.encoding.specs.Literal.{Literal, variable, Assignment, valueOf, literalTrue}
 use Literal.{var, −_}
 use Rattle.answers.specs.Reading.{Spotted}
-use Rattle.assigning.specs.Assign.{valueOf as byteOf, nobody, literalAt, variableAt, Outcome, putOutcome, putBytes, thenOutcome, thenBytes, assignedOf, assignedBytes, firstUnset, filledWith}
-use Rattle.assigning.proofs.Steps.{AllNamed, byte-given, rest-kept}
-use Rattle.assigning.specs.Rows.{Once}
-use Rattle.assigning.proofs.Rows.{assigned-done, done-assigned, unset-nothing, nothing-unset}
-use Rattle.offering.specs.Offered.{valueBytes, isPositive, valuesOf}
+use Rattle.assigning.specs.Assign.{valueOf as byteOf, nobody, literalAt, variableAt, Named, Unnamed, Outcome, putOutcome, putBytes, thenOutcome, thenBytes, assignedOf, assignedBytes, completedByte, completed, filledWith}
+use Rattle.assigning.proofs.Steps.{AllNamed, byte-kept, byte-given, rest-kept}
+use Rattle.assigning.specs.Rows.{AllFit}
+use Rattle.assigning.proofs.Rows.{done-assigned, named-or-not}
+use Rattle.offering.specs.Offered.{valueBytes, isPositive, valuesOf, EachTrue, Completes}
 
 -- ---- the bytes behind the first n
 
@@ -85,17 +81,17 @@ module _ (n : ℕ) (d : List ℕ) where
             ∙ ap (λ (u : List ℕ). thenBytes o u (c ++ d)) (r .1) ∙ then-front o (assignedBytes n xs (putBytes n v w c)) c,
       )
 
--- ---- each variable named once, and values that make each literal true
-
-abbrev pub EachTrue : List Spotted → List Bool → Type 0
-EachTrue xs bs = (k : ℕ) → k < length xs → So (literalTrue (valueOf bs) (literalAt xs k))
-
 -- ---- values and bytes
 
 -- the byte that a true literal gives is its variable's value
 true-byte : (A : Assignment) (l : Literal) → So (literalTrue A l) → byteOf l ≡ cond (A (variable l)) 1 0
 true-byte A (var v) t = sym (ap (λ (x : Bool). cond x 1 0) t)
 true-byte A (− v) t = sym (ap (λ (x : Bool). cond x 1 0) (not-true (A v) t))
+
+-- it is not 2
+same-byte : (l : Literal) → completedByte (byteOf l) ≡ byteOf l
+same-byte (var v) = refl
+same-byte (− v) = refl
 
 positive-is : (v : ℕ) (l : Literal) → So (isPositive v l) → (variable l ≡ v) × (byteOf l ≡ 1)
 positive-is v (var u) t = (eqb-true u v t, refl)
@@ -133,42 +129,44 @@ module _ (n : ℕ) (xs : List Spotted) (named : AllNamed xs) where
   unfolding filledWith
   any-bytes b = front n (drop n b) xs (replicate n 2) named (length-replicate n 2) .1
 
-  pub assigned-once : (b : List ℕ) → assignedOf n xs (filledWith n 2 b) ≡ Outcome.done → firstUnset n (assignedBytes n xs (filledWith n 2 b)) ≡ 0 → Once n xs
-  assigned-once b d u = let f = assigned-done n xs b named d in record { fit = f; named = unset-nothing n xs b named f u }
-
-  module _ (once : Once n xs) where
-    pub once-done : (b : List ℕ) → assignedOf n xs (filledWith n 2 b) ≡ Outcome.done
-    once-done b = done-assigned n xs b named (once .fit)
-
-    pub once-set : (b : List ℕ) → firstUnset n (assignedBytes n xs (filledWith n 2 b)) ≡ 0
-    once-set b = nothing-unset n xs b named (once .fit) (once .named)
-
+  module _ (fit : AllFit n xs) where
     alone-length : length alone ≡ n
     alone-length = rest-kept n xs (replicate n 2) named .1 ∙ length-replicate n 2
 
     alone-byte : (k : ℕ) → k < length xs → getD alone (variableAt xs k - 1) 0 ≡ byteOf (literalAt xs k)
     alone-byte =
-        byte-given n xs (replicate n 2) (le-of-eq (sym (length-replicate n 2))) named (sym (any-outcome []) ∙ once-done []) (λ j h. once .fit j h .1)
+        byte-given n xs (replicate n 2) (le-of-eq (sym (length-replicate n 2))) named (sym (any-outcome []) ∙ done-assigned n xs [] named fit) (λ j h. fit j h .1)
 
-    alone-are : (bs : List Bool) → length bs ≡ n → EachTrue xs bs → alone ≡ valueBytes bs
+    -- the byte of a variable that no literal names
+    alone-none : (v : ℕ) → 0 < v → v ≤ n → Unnamed xs v → getD alone (v - 1) 0 ≡ 2
+    alone-none v p h u = byte-kept n xs (replicate n 2) v named p u ∙ getD-replicate n (v - 1) 2 0 (omega (arith, p, h))
+
+    completed-are : (bs : List Bool) → Completes n xs bs → completed alone ≡ valueBytes bs
     unfolding valueOf
-    alone-are bs e t =
-        ext-getD 0 alone (valueBytes bs) (alone-length ∙ sym (length-map bs (λ b. cond b 1 0) ∙ e))
-        (λ i h.
-        let below : i < n = subst (λ (m : ℕ). i < m) alone-length h in
-        let w = once .named (suc i) (omega arith) below in
-        let place : i ≡ variableAt xs (w .0) - 1 = omega (arith, w .2) in
-        ap (λ (j : ℕ). getD alone j 0) place ∙ alone-byte (w .0) (w .1) ∙ true-byte (valueOf bs) (literalAt xs (w .0)) (t (w .0) (w .1))
-        ∙ ap (λ (v : ℕ). cond (valueOf bs v) 1 0) (w .2) ∙ sym (getD-map (λ b. cond b 1 0) bs false 0 i (subst (λ (m : ℕ). i < m) (sym e) below)))
+    completed-are bs C =
+        ext-getD 0 (completed alone) (valueBytes bs) (length-map alone completedByte ∙ alone-length ∙ sym (length-map bs (λ b. cond b 1 0) ∙ C .sized))
+        (λ i h. at i (subst (λ (m : ℕ). i < m) (length-map alone completedByte ∙ alone-length) h))
+      where
+        -- by the byte of variable i + 1
+        value : (i : ℕ) → i < n → Named xs (suc i) ⊎ Unnamed xs (suc i) → completedByte (getD alone i 0) ≡ cond (valueOf bs (suc i)) 1 0
+        value i h (inl w) =
+            let place : i ≡ variableAt xs (w .0) - 1 = omega (arith, w .2) in
+            ap completedByte (ap (λ (j : ℕ). getD alone j 0) place ∙ alone-byte (w .0) (w .1)) ∙ same-byte (literalAt xs (w .0))
+            ∙ true-byte (valueOf bs) (literalAt xs (w .0)) (C .each-true (w .0) (w .1)) ∙ ap (λ (v : ℕ). cond (valueOf bs v) 1 0) (w .2)
+        value i h (inr u) =
+            let place : i ≡ suc i - 1 = omega arith in
+            ap completedByte (ap (λ (j : ℕ). getD alone j 0) place ∙ alone-none (suc i) (omega arith) h u) ∙ sym (ap (λ (x : Bool). cond x 1 0) (C .unnamed-false (suc i) (omega arith) h u))
 
-    pub bytes-are : (bs : List Bool) → length bs ≡ n → EachTrue xs bs → (b : List ℕ) → assignedBytes n xs (filledWith n 2 b) ≡ valueBytes bs ++ drop n b
-    bytes-are bs e t b = any-bytes b ∙ ap (λ (u : List ℕ). u ++ drop n b) (alone-are bs e t)
+        at : (i : ℕ) → i < n → getD (completed alone) i 0 ≡ getD (valueBytes bs) i 0
+        at i h =
+            getD-map completedByte alone 0 0 i (subst (λ (m : ℕ). i < m) (sym alone-length) h) ∙ value i h (named-or-not xs (suc i))
+            ∙ sym (getD-map (λ b. cond b 1 0) bs false 0 i (subst (λ (m : ℕ). i < m) (sym (C .sized)) h))
 
-    pub values-true : EachTrue xs (valuesOf n xs)
+    values-true : EachTrue xs (valuesOf n xs)
     values-true k h = go (literalAt xs k) refl
       where
         is : (v : ℕ) → variableAt xs k ≡ v → valueOf (valuesOf n xs) v ≡ any (λ (x : Spotted). isPositive v (x .literal)) xs
-        is v e = value-at n xs v (omega (arith, e, named k h)) (omega (arith, e, once .fit k h .0))
+        is v e = value-at n xs v (omega (arith, e, named k h)) (omega (arith, e, fit k h .0))
 
         -- its positive literal would give another byte
         not-both : (v : ℕ) → literalAt xs k ≡ − v → So (any (λ (x : Spotted). isPositive v (x .literal)) xs) → ⊥
@@ -187,12 +185,20 @@ module _ (n : ℕ) (xs : List Spotted) (named : AllNamed xs) where
             ap (literalTrue (valueOf (valuesOf n xs))) e
             ∙ ap not (is v (ap variable e) ∙ false-of (any (λ (x : Spotted). isPositive v (x .literal)) xs) (not-both v e))
 
+    pub values-complete : Completes n xs (valuesOf n xs)
+    values-complete = record { sized = values-length n xs; each-true = values-true; unnamed-false = unnamed }
+      where
+        unnamed : (v : ℕ) → 0 < v → v ≤ n → Unnamed xs v → valueOf (valuesOf n xs) v ≡ false
+        unnamed v p h u =
+            value-at n xs v p h
+            ∙ false-of (any (λ (x : Spotted). isPositive v (x .literal)) xs)
+            (λ s.
+            let w = any-at (λ (x : Spotted). isPositive v (x .literal)) xs nobody s in
+            u (w .0) (w .1) (positive-is v (literalAt xs (w .0)) (w .2) .0))
+
     -- from no values on
-    pub values-alone : assignedBytes n xs (replicate n 2) ≡ valueBytes (valuesOf n xs)
-    values-alone = alone-are (valuesOf n xs) (values-length n xs) values-true
+    pub values-alone : completed (assignedBytes n xs (replicate n 2)) ≡ valueBytes (valuesOf n xs)
+    values-alone = completed-are (valuesOf n xs) values-complete
 
-    pub values-bytes : (b : List ℕ) → assignedBytes n xs (filledWith n 2 b) ≡ valueBytes (valuesOf n xs) ++ drop n b
-    values-bytes b = bytes-are (valuesOf n xs) (values-length n xs) values-true b
-
-    pub values-unique : (bs : List Bool) → length bs ≡ n → EachTrue xs bs → bs ≡ valuesOf n xs
-    values-unique bs e t = bytes-unique bs (valuesOf n xs) (sym (alone-are bs e t) ∙ alone-are (valuesOf n xs) (values-length n xs) values-true)
+    pub values-unique : (bs : List Bool) → Completes n xs bs → bs ≡ valuesOf n xs
+    values-unique bs C = bytes-unique bs (valuesOf n xs) (sym (completed-are bs C) ∙ values-alone)

@@ -1,5 +1,5 @@
--- Answer texts and lists of values (document 01, "Solver answer", "Check and filling out"): an answer that gives each variable its value, in order, and
--- the values that an answer's literals give.
+-- Answer texts and lists of values (document 01, "Solver answer", "Check and filling out"; document 02, Q-3): an answer that gives each variable its value,
+-- in order, and the values that an answer's literals give, a variable that none names read as false.
 --   valueBytes bs       the values bs as bytes, 1 or 0
 --   valueLiteral x v    the literal of variable v that is true where v has the value x
 --   literalsFor bs      the literals of variables 1, 2, .. that are true where these have the values bs
@@ -7,17 +7,21 @@
 --   offeredText bs      its text
 --   isPositive v l      l is the positive literal of variable v
 --   valuesOf n xs       the values of variables 1 to n by the literals xs: v has the value true if its positive literal is one of them
+--   EachTrue xs bs      each literal of xs is true where the variables have the values bs
+--   Completes n xs bs   bs are n values that make each literal of xs true, and a variable that no literal of xs names is false: the completed assignment
 -- Assumes nothing.
-use Prim.Native.Nat.{ℕ}
-use mathlib.Core.Bool.{Bool, true, false, cond}
+use Prim.Native.Nat.{ℕ, _≤_, _<_}
+use mathlib.Core.Path.{_≡_}
+use mathlib.Core.Bool.{Bool, true, false, So, cond}
 use mathlib.Core.List.{List, [], map}
 use lib.Dec.{eqb}
 use lib.ListN.{length}
 use Rattle.lists.specs.Lists.{any, tab}
-use Rattle.encoding.specs.Literal.{Literal, valueOf}
+use Rattle.encoding.specs.Literal.{Literal, valueOf, literalTrue}
 use Literal.{var, −_}
 use Rattle.answers.specs.Answer.{Answer, answerText}
 use Rattle.answers.specs.Reading.{Spotted}
+use Rattle.assigning.specs.Assign.{literalAt, Unnamed}
 
 abbrev pub valueBytes : List Bool → List ℕ
 valueBytes bs = map (λ b. cond b 1 0) bs
@@ -45,3 +49,11 @@ isPositive v (− u) = false
 
 unfoldable pub valuesOf : ℕ → List Spotted → List Bool
 valuesOf n xs = tab n (λ v. any (λ (x : Spotted). isPositive v (x .literal)) xs)
+
+abbrev pub EachTrue : List Spotted → List Bool → Type 0
+EachTrue xs bs = (k : ℕ) → k < length xs → So (literalTrue (valueOf bs) (literalAt xs k))
+
+pub record Completes (n : ℕ) (xs : List Spotted) (bs : List Bool) : Type 0 where
+  pub sized : length bs ≡ n
+  pub each-true : EachTrue xs bs
+  pub unnamed-false : (v : ℕ) → 0 < v → v ≤ n → Unnamed xs v → valueOf bs v ≡ false

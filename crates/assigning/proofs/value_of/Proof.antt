@@ -1,3 +1,4 @@
+use borrow.Author.Tests.{not-true, not-false}
 use Rattle.assigning.proofs.Putting.{value-negative, value-positive}
 use mir.Facts.{toZ-ofZ}
 use borrow.Author.Needs.{needs}
@@ -13,11 +14,11 @@ is-negative-requires c κs = search needs
 
 -- src/lib.rt:53:9
 returns : tie.Need-returns
-returns c = value-negative _ _ _ (toZ-ofZ (c .before .before .fits .x)) (c .before .is-negative .ensures) (c .if1 .taken)
+returns c = value-positive _ _ _ (toZ-ofZ (c .before .before .fits .x)) (c .before .is-negative .ensures) (not-true _ (c .if1 .taken))
 
 -- src/lib.rt:49:1
 returns-2 : tie.Need-returns-2
-returns-2 c = value-positive _ _ _ (toZ-ofZ (c .before .before .fits .x)) (c .before .is-negative .ensures) (c .if1 .left)
+returns-2 c = value-negative _ _ _ (toZ-ofZ (c .before .before .fits .x)) (c .before .is-negative .ensures) (not-false _ (c .if1 .left))
 
 pub value-of-spec : {M : Type 1} → statement M
 value-of-spec = tie.close (tie.spec is-negative-requires returns returns-2)
