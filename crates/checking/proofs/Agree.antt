@@ -1,7 +1,7 @@
 -- What is computed of the values of the variables 1 to V depends on these alone.
 --   first-same                    the first number that passes, of tests that agree on 1 to n
 --   value-front                   the values in the first n bytes of a buffer
---   unset-front, false-front, true-front, counters-front   so the first variable without a value, the first false clause, the number of true atoms and
+--   unset-front, false-front, true-front, counters-front   so the number of variables without a value, the first false clause, the number of true atoms and
 --                                 the counters are those of the first V bytes
 -- Assumes nothing.
 use Prim.Native.Nat.{ℕ, zero, suc, _-_, _≤_, _<_}
@@ -27,7 +27,7 @@ use Rattle.theory.proofs.Bits.{value-ext}
 use Rattle.theory.proofs.Base.{clauses-within}
 use Rattle.theory.proofs.Widths.{width-enough}
 use Rattle.reader_laws.specs.Row.{Limits}
-use Rattle.assigning.specs.Assign.{firstUnset}
+use Rattle.assigning.specs.Assign.{unsetCount}
 use Rattle.truth.specs.Truth.{valueIn, falseAt, firstFalse}
 use Rattle.results.specs.Results.{trueCount, counters}
 use Rattle.results.proofs.ValueBytes.{atoms-within}
@@ -56,9 +56,9 @@ pub value-front : (b : List ℕ) (n v : ℕ) → 0 < v → v ≤ n → valueIn (
 value-front b n zero p h = absurd (omega (arith, p))
 value-front b n (suc v) p h = ap (λ (x : ℕ). not (eqb x 0)) (getD-take n b v 0 h)
 
-pub unset-front : (b : List ℕ) (n : ℕ) → firstUnset n (take n b) ≡ firstUnset n b
-unfolding firstUnset
-unset-front b n = first-same n _ _ (λ i h. ap (λ (x : ℕ). eqb x 2) (getD-take n b (suc i - 1) 0 (omega (arith, h))))
+pub unset-front : (b : List ℕ) (n : ℕ) → unsetCount n (take n b) ≡ unsetCount n b
+unfolding unsetCount
+unset-front b n = sum-ext n _ _ (λ i h. ap (λ (x : ℕ). cond (eqb x 2) 1 0) (getD-take n b (suc i - 1) 0 (omega (arith, h))))
 
 module _ (P : Program) (L : Limits P) (b : List ℕ) where
   abbrev V′ : ℕ

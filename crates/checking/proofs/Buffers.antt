@@ -1,11 +1,13 @@
 -- What the check leaves in the two lent buffers b and l.
 --   shows-writes         an answer that shows a model is accepted, and this is written
 --   model-writes         whatever is accepted, this is written
---   refused-zeroes       refused with row 13, 14, 15 or 16: the values are zeros
+--   assumed-rest         the number of variables that were assumed and that of the literals make up V
+--   refused-zeroes       refused with row 13, 14 or 16: the values are zeros
 --   refused-keeps        refused with another row: the assignment stays
 --   refused-levels       refused: the levels stay
+--   never-15             no check refuses with row 15
 -- Assumes nothing.
-use Prim.Native.Nat.{ℕ, _≤_, _<_}
+use Prim.Native.Nat.{ℕ, _+_, _≤_, _<_}
 use native.Mathlib.Omega.{arith}
 use mathlib.Core.Path.{_≡_, refl, sym, _∙_, ap, ap₂, subst}
 use mathlib.Core.Bool.{Bool, true, false, cond}
@@ -20,14 +22,16 @@ use Rattle.reader_laws.specs.Row.{Admitted}
 use Rattle.reader_laws.proofs.Rows.{row-few}
 use Rattle.answers.specs.Reading.{Spotted}
 use Rattle.assigning.specs.Assign.{filledWith}
+use Rattle.assigning.proofs.Rows.{unnamed-rest}
 use Rattle.offering.specs.Offered.{valueBytes, valuesOf}
 use Rattle.results.specs.Results.{Result, assignmentAfter, levelsAfter, varTotal, programOf}
 use Rattle.checking.specs.declared.CheckRefusal.{CheckRefusal}
-use Rattle.checking.specs.declared.CheckRefusal.the-variants.{Text, ShortBuffer, OverlongAnswer, MalformedAnswer, NoModelOffered, StrayVariable, RepeatedVariable, MissingVariable, FalseClause}
+use Rattle.checking.specs.declared.CheckRefusal.the-variants.{Text, ShortBuffer, OverlongAnswer, MalformedAnswer, NoModelOffered, StrayVariable, RepeatedVariable, FalseClause}
 use Rattle.checking.specs.declared.CheckVerdict.{CheckVerdict}
 use Rattle.checking.specs.declared.CheckVerdict.the-variants.{Model, Refused}
 use Rattle.checking.specs.Check.{checkNumber, zeroes, refuse, checkOf, checkAnswer, checkAssignment, checkLevels}
-use Rattle.checking.specs.Rows.{trueNumber, levelsOf, CheckRow, of-text, short-assignment, short-levels, overlong-answer, malformed-answer, no-model-offered, stray-variable, repeated-variable, missing-variable, false-clause, CheckAnswers, Shows, ModelWritten}
+use Rattle.checking.specs.Rows.{Offers, assumedNumber, trueNumber, levelsOf, CheckRow, of-text, short-assignment, short-levels, overlong-answer, malformed-answer, no-model-offered, stray-variable, repeated-variable, false-clause, CheckAnswers, Shows, ModelWritten}
+use Rattle.checking.proofs.Spots.{offers-named}
 use Rattle.checking.proofs.Verdicts.{shownResult, program-is, shown-answer, shows-result, model-offers, answers-refusal, answers-check-first}
 
 -- ---- which refusals leave zeros
@@ -50,7 +54,6 @@ zeroes-from-13 (MalformedAnswer v) h = absurd (omega (arith, h))
 zeroes-from-13 NoModelOffered h = absurd (omega (arith, h))
 zeroes-from-13 (StrayVariable v) h = refl
 zeroes-from-13 (RepeatedVariable v) h = refl
-zeroes-from-13 (MissingVariable v) h = refl
 zeroes-from-13 (FalseClause v) h = refl
 
 keeps-below-13 : (q : CheckRefusal) → checkNumber q < 13 → zeroes q ≡ false
@@ -61,17 +64,33 @@ keeps-below-13 (MalformedAnswer v) h = refl
 keeps-below-13 NoModelOffered h = refl
 keeps-below-13 (StrayVariable v) h = absurd (omega (arith, h))
 keeps-below-13 (RepeatedVariable v) h = absurd (omega (arith, h))
-keeps-below-13 (MissingVariable v) h = absurd (omega (arith, h))
 keeps-below-13 (FalseClause v) h = absurd (omega (arith, h))
 
--- the two numbers of an accepting verdict
+not-15 : (q : CheckRefusal) → checkNumber q ≡ 15 → ⊥
+not-15 (Text x) e = omega (arith, e, text-few x)
+not-15 (ShortBuffer v) e = omega (arith, e)
+not-15 (OverlongAnswer v) e = omega (arith, e)
+not-15 (MalformedAnswer v) e = omega (arith, e)
+not-15 NoModelOffered e = omega (arith, e)
+not-15 (StrayVariable v) e = omega (arith, e)
+not-15 (RepeatedVariable v) e = omega (arith, e)
+not-15 (FalseClause v) e = omega (arith, e)
+
+pub never-15 : (t u : List ℕ) (a l s : ℕ) → CheckAnswers t u a l 15 s → ⊥
+never-15 t u a l s w = not-15 (w .refusal) (w .row-is)
+
+-- the three numbers of an accepting verdict
 abbrev pub countIn : CheckVerdict → ℕ
-countIn (Model k h) = k
+countIn (Model k h c) = k
 countIn (Refused r) = 0
 
 abbrev pub highestIn : CheckVerdict → ℕ
-highestIn (Model k h) = h
+highestIn (Model k h c) = h
 highestIn (Refused r) = 0
+
+abbrev pub assumedIn : CheckVerdict → ℕ
+assumedIn (Model k h c) = c
+assumedIn (Refused r) = 0
 
 module _ (t u b l : List ℕ) where
   -- ---- accepted
@@ -83,7 +102,7 @@ module _ (t u b l : List ℕ) where
     its-program : programOf (readOf t) ≡ P
     its-program = program-is t u (length b) (length l) P (S .admitted)
 
-    answer : checkAnswer t u (length b) (length l) ≡ Model (trueNumber P xs) (highest (P .atoms) (levelsOf P xs))
+    answer : checkAnswer t u (length b) (length l) ≡ Model (trueNumber P xs) (highest (P .atoms) (levelsOf P xs)) (assumedNumber P xs)
     answer = shown-answer t u (length b) (length l) P xs (S .admitted) result
 
     assignment : checkAssignment t u b (length l) ≡ valueBytes (valuesOf (varTotal P) xs) ++ drop (varTotal P) b
@@ -94,25 +113,35 @@ module _ (t u b l : List ℕ) where
     unfolding checkLevels
     levels = ap₂ (λ (X : Program) (x : Result CheckRefusal). levelsAfter (X .atoms) x l) its-program result
 
-    written : (k h : ℕ) → checkAnswer t u (length b) (length l) ≡ Model k h → ModelWritten t u b l P xs k h
-    written k h w =
+    written : (k h c : ℕ) → checkAnswer t u (length b) (length l) ≡ Model k h c → ModelWritten t u b l P xs k h c
+    written k h c w =
         record {
           count-is = ap countIn (sym w ∙ answer);
           highest-is = ap highestIn (sym w ∙ answer);
+          assumed-is = ap assumedIn (sym w ∙ answer);
           assignment-is = assignment;
           levels-are = levels;
         }
 
-    pub shows-writes : (k : ℕ) × (h : ℕ) × (checkAnswer t u (length b) (length l) ≡ Model k h) × ModelWritten t u b l P xs k h
-    shows-writes = (trueNumber P xs, highest (P .atoms) (levelsOf P xs), answer, written (trueNumber P xs) (highest (P .atoms) (levelsOf P xs)) answer)
+    pub shows-writes : (k : ℕ) × (h : ℕ) × (c : ℕ) × (checkAnswer t u (length b) (length l) ≡ Model k h c) × ModelWritten t u b l P xs k h c
+    shows-writes = (_, _, _, answer, written _ _ _ answer)
 
-  pub model-writes : (k h : ℕ) → checkAnswer t u (length b) (length l) ≡ Model k h
-      → (P : Program) × (xs : List Spotted) × Shows t u (length b) (length l) P xs × ModelWritten t u b l P xs k h
-  model-writes k h w = go (model-offers t u (length b) (length l) k h w)
+  pub model-writes : (k h c : ℕ) → checkAnswer t u (length b) (length l) ≡ Model k h c
+      → (P : Program) × (xs : List Spotted) × Shows t u (length b) (length l) P xs × ModelWritten t u b l P xs k h c
+  model-writes k h c w = go (model-offers t u (length b) (length l) k h c w)
     where
       go : ((P : Program) × (xs : List Spotted) × Shows t u (length b) (length l) P xs)
-          → (P : Program) × (xs : List Spotted) × Shows t u (length b) (length l) P xs × ModelWritten t u b l P xs k h
-      go (P, xs, S) = (P, xs, S, written P xs S k h w)
+          → (P : Program) × (xs : List Spotted) × Shows t u (length b) (length l) P xs × ModelWritten t u b l P xs k h c
+      go (P, xs, S) = (P, xs, S, written P xs S k h c w)
+
+  pub assumed-rest : (k h c : ℕ) → checkAnswer t u (length b) (length l) ≡ Model k h c
+      → (P : Program) × (xs : List Spotted) × Admitted t P × Offers u xs × (c + length xs ≡ varTotal P)
+  assumed-rest k h c w = go (model-writes k h c w)
+    where
+      go : ((P : Program) × (xs : List Spotted) × Shows t u (length b) (length l) P xs × ModelWritten t u b l P xs k h c)
+          → (P : Program) × (xs : List Spotted) × Admitted t P × Offers u xs × (c + length xs ≡ varTotal P)
+      go (P, xs, S, W) =
+          (P, xs, S .admitted, S .offers, ap (λ (x : ℕ). x + length xs) (W .assumed-is) ∙ unnamed-rest (varTotal P) xs (offers-named (S .offers)) (S .fit))
 
   -- ---- refused
 
@@ -138,7 +167,6 @@ module _ (t u b l : List ℕ) where
     admitted-from-13 p k v (no-model-offered o) h = absurd (omega (arith, h))
     admitted-from-13 p k v (stray-variable P A xs o i g f) h = (P, A)
     admitted-from-13 p k v (repeated-variable P A xs o i j g f e) h = (P, A)
-    admitted-from-13 p k v (missing-variable P A xs o y g f n) h = (P, A)
     admitted-from-13 p k v (false-clause P A xs o j g f e) h = (P, A)
 
     pub refused-keeps : r < 13 → checkAssignment t u b (length l) ≡ b

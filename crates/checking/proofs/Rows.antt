@@ -1,6 +1,6 @@
 -- The result of the check, by the tests that the code makes.
 --   gives-refused, gives-zeroed    what a refusal answers and leaves
---   judged-missing, judged-false, judged-accepted   rows 15 and 16, and acceptance
+--   judged-false, judged-accepted   row 16, and acceptance
 --   assigned-judged, assigned-stray, assigned-repeated   rows 13 and 14, then these
 --   short-assignment, short-levels, overlong, form-malformed, form-none, form-model   rows 8, 10, 11 and 12, then these
 -- Assumes nothing.
@@ -10,7 +10,7 @@ use mathlib.Core.Path.{_≡_, refl, sym, _∙_, ap, ap₂, subst}
 use mathlib.Core.Bool.{Bool, true, false, cond}
 use mathlib.Core.List.{List, _∷_, _++_}
 use lib.Dec.{ltb}
-use lib.ListN.{length, getD, take, drop, replicate, take-append-drop, length-replicate}
+use lib.ListN.{length, getD, take, drop, replicate, take-append-drop, length-replicate, length-map}
 use lib.Seq.{take-at, drop-at, length-take-le}
 use borrow.Author.Tests.{lt-ltb, le-ltb}
 use Rattle.lists.specs.Lists.{tab, highest}
@@ -27,7 +27,7 @@ use Rattle.answer_reader.specs.declared.Formed.the-variants.{Model as FormModel
 use Rattle.answer_reader.specs.Results.{formOf}
 use Rattle.assigning.specs.declared.Assigned.{Assigned}
 use Rattle.assigning.specs.declared.Assigned.the-variants.{Done, Stray, Repeated}
-use Rattle.assigning.specs.Assign.{Outcome, literalsFrom, assignedOf, assignedBytes, firstUnset, filledWith, assignedFor, readOutcome, readBytes}
+use Rattle.assigning.specs.Assign.{Outcome, literalsFrom, assignedOf, assignedBytes, unsetCount, completedByte, completed, filledWith, assignedFor, readOutcome, readBytes, assumedBy}
 use Rattle.answers.specs.Reading.{Spotted}
 use Rattle.assigning.proofs.Steps.{rest-kept}
 use Rattle.assigning.proofs.Rows.{literals-named}
@@ -40,7 +40,7 @@ use Rattle.table_laws.proofs.Bounds.{variables-fit}
 use Rattle.truth.specs.Truth.{valueIn, firstFalse}
 use Rattle.results.specs.Results.{Result, trueCount, levelIn, counters, assignmentAfter, varTotal}
 use Rattle.checking.specs.declared.CheckRefusal.{CheckRefusal}
-use Rattle.checking.specs.declared.CheckRefusal.the-variants.{ShortBuffer, OverlongAnswer, MalformedAnswer, NoModelOffered, StrayVariable, RepeatedVariable, MissingVariable, FalseClause}
+use Rattle.checking.specs.declared.CheckRefusal.the-variants.{ShortBuffer, OverlongAnswer, MalformedAnswer, NoModelOffered, StrayVariable, RepeatedVariable, FalseClause}
 use Rattle.checking.specs.declared.CheckVerdict.{CheckVerdict}
 use Rattle.checking.specs.declared.CheckVerdict.the-variants.{Model, Refused}
 use Rattle.checking.specs.Check.{zeroes, refuse, judged, noValues, outcomeOf, afterAssigning, assignedResult, formResult, answerResult, checkResult, Gives}
@@ -59,38 +59,32 @@ module _ (P : Program) {x : Result CheckRefusal} {q : CheckRefusal} (e : x ≡ r
   gives-zeroed z {r} {c} u =
       subst (λ (y : Result CheckRefusal). Gives P y r b c l l) (sym e) (u .0, u .1 ∙ sym (ap (λ d. cond d (filledWith (varTotal P) 0 b) b) z), refl)
 
--- ---- rows 15 and 16
+-- ---- row 16
 
-module _ (P : Program) (bs : List ℕ) where
-  -- by the two tests
-  abbrev judgedBy : Bool → Bool → Result CheckRefusal
-  judgedBy d f =
-      cond d (refuse (MissingVariable (firstUnset (varTotal P) bs)))
-      (cond f (refuse (FalseClause (firstFalse P bs))) (Result.accepted bs (counters (sizes P (width (P .atoms))) bs)))
+-- u of the values bs are assumed
+module _ (P : Program) (u : ℕ) (bs : List ℕ) where
+  abbrev judgedBy : Bool → Result CheckRefusal
+  judgedBy f = cond f (refuse (FalseClause (firstFalse P bs))) (Result.accepted u bs (counters (sizes P (width (P .atoms))) bs))
 
-  judged-by : {d f : Bool} → ltb 0 (firstUnset (varTotal P) bs) ≡ d → ltb 0 (firstFalse P bs) ≡ f → judged P bs ≡ judgedBy d f
+  judged-by : {f : Bool} → ltb 0 (firstFalse P bs) ≡ f → judged P u bs ≡ judgedBy f
   unfolding judged
-  judged-by p q = ap₂ judgedBy p q
+  judged-by q = ap judgedBy q
 
-  pub judged-15 : 0 < firstUnset (varTotal P) bs → judged P bs ≡ refuse (MissingVariable (firstUnset (varTotal P) bs))
-  judged-15 h = judged-by (lt-ltb 0 (firstUnset (varTotal P) bs) h) refl
+  pub judged-16 : 0 < firstFalse P bs → judged P u bs ≡ refuse (FalseClause (firstFalse P bs))
+  judged-16 g = judged-by (lt-ltb 0 (firstFalse P bs) g)
 
-  pub judged-16 : firstUnset (varTotal P) bs ≤ 0 → 0 < firstFalse P bs → judged P bs ≡ refuse (FalseClause (firstFalse P bs))
-  judged-16 h g = judged-by (le-ltb 0 (firstUnset (varTotal P) bs) h) (lt-ltb 0 (firstFalse P bs) g)
-
-  pub judged-none : firstUnset (varTotal P) bs ≤ 0 → firstFalse P bs ≤ 0 → judged P bs ≡ Result.accepted bs (counters (sizes P (width (P .atoms))) bs)
-  judged-none h g = judged-by (le-ltb 0 (firstUnset (varTotal P) bs) h) (le-ltb 0 (firstFalse P bs) g)
+  pub judged-none : firstFalse P bs ≤ 0 → judged P u bs ≡ Result.accepted u bs (counters (sizes P (width (P .atoms))) bs)
+  judged-none g = judged-by (le-ltb 0 (firstFalse P bs) g)
 
   -- whatever it is, it leaves nothing of the first V bytes of the buffer
   judged-rest : (b c : List ℕ) → drop (varTotal P) b ≡ drop (varTotal P) c
-      → assignmentAfter zeroes (varTotal P) (judged P bs) b ≡ assignmentAfter zeroes (varTotal P) (judged P bs) c
+      → assignmentAfter zeroes (varTotal P) (judged P u bs) b ≡ assignmentAfter zeroes (varTotal P) (judged P u bs) c
   unfolding judged filledWith
-  judged-rest b c e = go (ltb 0 (firstUnset (varTotal P) bs)) (ltb 0 (firstFalse P bs))
+  judged-rest b c e = go (ltb 0 (firstFalse P bs))
     where
-      go : (d f : Bool) → assignmentAfter zeroes (varTotal P) (judgedBy d f) b ≡ assignmentAfter zeroes (varTotal P) (judgedBy d f) c
-      go true f = ap (λ (y : List ℕ). replicate (varTotal P) 0 ++ y) e
-      go false true = ap (λ (y : List ℕ). replicate (varTotal P) 0 ++ y) e
-      go false false = ap (λ (y : List ℕ). bs ++ y) e
+      go : (f : Bool) → assignmentAfter zeroes (varTotal P) (judgedBy f) b ≡ assignmentAfter zeroes (varTotal P) (judgedBy f) c
+      go true = ap (λ (y : List ℕ). replicate (varTotal P) 0 ++ y) e
+      go false = ap (λ (y : List ℕ). bs ++ y) e
 
 -- ---- the outcome of assigning, from the code's answer
 
@@ -137,94 +131,82 @@ module _ {P : Program} {t : Totals} {hs ss bs ks xs ys : List ℕ} (T : Tabled P
   pub atoms-room : {b : ℕ} → t .vars ≤ b → t .sizes .n ≤ b
   atoms-room {b} h = omega (arith, counters-asks {b = b} {l = t .sizes .n} h (omega arith) .1)
 
-  -- ---- rows 15 and 16, and acceptance
+  -- ---- row 16, and acceptance
 
-  module _ (b l : List ℕ) {u : ℕ} (e : u ≡ firstUnset (t .vars) b) where
-    unset-is : firstUnset (varTotal P) (take (varTotal P) b) ≡ u
-    unset-is = unset-front b (varTotal P) ∙ ap (λ (k : ℕ). firstUnset k b) (sym vars-is) ∙ sym e
+  module _ (b l : List ℕ) (u : ℕ) {j : ℕ} (f : j ≡ firstFalse P b) where
+    false-is : firstFalse P (take (varTotal P) b) ≡ j
+    false-is = false-front P (T .limits) b ∙ sym f
 
-    pub judged-missing : 0 < u → {r : CheckVerdict} {c : List ℕ} → (r ≡ Refused (MissingVariable u)) × (c ≡ filledWith (t .vars) 0 b)
-        → Gives P (judged P (take (t .vars) b)) r b c l l
-    judged-missing h {r} {c} w =
-        at-vars (λ k. Gives P (judged P (take k b)) r b c l l)
-        (gives-zeroed P (judged-15 P (take (varTotal P) b) (subst (λ (k : ℕ). 0 < k) (sym unset-is) h) ∙ ap (λ (k : ℕ). refuse (MissingVariable k)) unset-is) b l refl
+    pub judged-false : 0 < j → {r : CheckVerdict} {c : List ℕ} → (r ≡ Refused (FalseClause j)) × (c ≡ filledWith (t .vars) 0 b)
+        → Gives P (judged P u (take (t .vars) b)) r b c l l
+    judged-false h {r} {c} w =
+        at-vars (λ k. Gives P (judged P u (take k b)) r b c l l)
+        (gives-zeroed P (judged-16 P u (take (varTotal P) b) (subst (λ (k : ℕ). 0 < k) (sym false-is) h) ∙ ap (λ (k : ℕ). refuse (FalseClause k)) false-is) b l refl
         (w .0, w .1 ∙ ap (λ (k : ℕ). filledWith k 0 b) vars-is))
 
-    module _ (z : u ≤ 0) {j : ℕ} (f : j ≡ firstFalse P b) where
-      none-unset : firstUnset (varTotal P) (take (varTotal P) b) ≤ 0
-      none-unset = subst (λ (k : ℕ). k ≤ 0) (sym unset-is) z
+    pub judged-accepted : j ≤ 0 → {m : List ℕ} {k h : ℕ} → m ≡ tab (t .sizes .n) (counter (sizesOf (t .sizes)) (valueIn b)) ++ drop (t .sizes .n) l
+        → k ≡ trueCount (t .sizes .n) b → h ≡ highest (t .sizes .n) (levelIn m) → Gives P (judged P u (take (t .vars) b)) (Model k h u) b b l m
+    judged-accepted g {m} {k} {h} x y w =
+        at-vars (λ k′. Gives P (judged P u (take k′ b)) (Model k h u) b b l m)
+        (subst (λ (q : Result CheckRefusal). Gives P q (Model k h u) b b l m)
+        (sym (judged-none P u (take (varTotal P) b) (subst (λ (k : ℕ). k ≤ 0) (sym false-is) g))) (
+          ap₂ (λ (x y : ℕ). Model x y u) (y ∙ ap (λ (i : ℕ). trueCount i b) atoms-is ∙ sym (true-front P (T .limits) b))
+              (w ∙ ap (λ (i : ℕ). highest i (levelIn m)) atoms-is ∙ highest-same (P .atoms) (levelIn m) (levelIn cs) same-level),
+          sym (take-append-drop (varTotal P) b),
+          levels-are,
+        ))
+      where
+        cs : List ℕ
+        cs = counters (sizes P (width (P .atoms))) (take (varTotal P) b)
 
-      false-is : firstFalse P (take (varTotal P) b) ≡ j
-      false-is = false-front P (T .limits) b ∙ sym f
+        levels-are : m ≡ cs ++ drop (P .atoms) l
+        levels-are =
+            x ∙ ap (λ (s : Sizes). tab (s .n) (counter (sizesOf s) (valueIn b)) ++ drop (s .n) l) sizes-are
+            ∙ ap (λ (y : List ℕ). y ++ drop (P .atoms) l) (sym (counters-front P (T .limits) b))
 
-      pub judged-false : 0 < j → {r : CheckVerdict} {c : List ℕ} → (r ≡ Refused (FalseClause j)) × (c ≡ filledWith (t .vars) 0 b)
-          → Gives P (judged P (take (t .vars) b)) r b c l l
-      judged-false h {r} {c} w =
-          at-vars (λ k. Gives P (judged P (take k b)) r b c l l)
-          (gives-zeroed P (judged-16 P (take (varTotal P) b) none-unset (subst (λ (k : ℕ). 0 < k) (sym false-is) h) ∙ ap (λ (k : ℕ). refuse (FalseClause k)) false-is) b l refl
-          (w .0, w .1 ∙ ap (λ (k : ℕ). filledWith k 0 b) vars-is))
-
-      pub judged-accepted : j ≤ 0 → {m : List ℕ} {k h : ℕ} → m ≡ tab (t .sizes .n) (counter (sizesOf (t .sizes)) (valueIn b)) ++ drop (t .sizes .n) l
-          → k ≡ trueCount (t .sizes .n) b → h ≡ highest (t .sizes .n) (levelIn m) → Gives P (judged P (take (t .vars) b)) (Model k h) b b l m
-      judged-accepted g {m} {k} {h} x y w =
-          at-vars (λ k′. Gives P (judged P (take k′ b)) (Model k h) b b l m)
-          (subst (λ (q : Result CheckRefusal). Gives P q (Model k h) b b l m)
-          (sym (judged-none P (take (varTotal P) b) none-unset (subst (λ (k : ℕ). k ≤ 0) (sym false-is) g))) (
-            ap₂ Model (y ∙ ap (λ (i : ℕ). trueCount i b) atoms-is ∙ sym (true-front P (T .limits) b)) (w ∙ ap (λ (i : ℕ). highest i (levelIn m)) atoms-is ∙ highest-same (P .atoms) (levelIn m) (levelIn cs) same-level),
-            sym (take-append-drop (varTotal P) b),
-            levels-are,
-          ))
-        where
-          cs : List ℕ
-          cs = counters (sizes P (width (P .atoms))) (take (varTotal P) b)
-
-          levels-are : m ≡ cs ++ drop (P .atoms) l
-          levels-are =
-              x ∙ ap (λ (s : Sizes). tab (s .n) (counter (sizesOf s) (valueIn b)) ++ drop (s .n) l) sizes-are
-              ∙ ap (λ (y : List ℕ). y ++ drop (P .atoms) l) (sym (counters-front P (T .limits) b))
-
-          same-level : (i : ℕ) → i < P .atoms → levelIn m (suc i) ≡ levelIn cs (suc i)
-          same-level i p =
-              ap (λ (y : List ℕ). getD y i 0) levels-are
-              ∙ getD-here cs (drop (P .atoms) l) 0 (P .atoms) i (length-tab (P .atoms) (counter (sizes P (width (P .atoms))) (valueIn (take (varTotal P) b)))) p
+        same-level : (i : ℕ) → i < P .atoms → levelIn m (suc i) ≡ levelIn cs (suc i)
+        same-level i p =
+            ap (λ (y : List ℕ). getD y i 0) levels-are
+            ∙ getD-here cs (drop (P .atoms) l) 0 (P .atoms) i (length-tab (P .atoms) (counter (sizes P (width (P .atoms))) (valueIn (take (varTotal P) b)))) p
 
   -- ---- rows 13 and 14
 
-  module _ {o : Assigned} (vs b l : List ℕ) where
-    -- o says that each literal is assigned; b₂ is the buffer with the values vs
-    pub assigned-judged : o ≡ Done → t .vars ≤ length vs → {b₂ : List ℕ} → b₂ ≡ take (t .vars) vs ++ drop (t .vars) b → {r : CheckVerdict} {c m : List ℕ}
-        → Gives P (judged P (take (t .vars) b₂)) r b₂ c l m → Gives P (afterAssigning (outcomeOf o) (judged P (take (t .vars) vs))) r b c l m
-    assigned-judged d h {b₂} e {r} {c} {m} w =
-        subst (λ (a : Assigned). Gives P (afterAssigning (outcomeOf a) (judged P (take (t .vars) vs))) r b c l m) (sym d)
-        (then (subst (λ (y : List ℕ). Gives P (judged P y) r b₂ c l m) front-is w))
-      where
-        front-length : length (take (t .vars) vs) ≡ t .vars
-        front-length = length-take-le (t .vars) vs h
+  module _ (u : ℕ) (vs b l : List ℕ) where
+    abbrev values : List ℕ
+    values = completed (take (t .vars) vs)
 
-        front-is : take (t .vars) b₂ ≡ take (t .vars) vs
-        front-is = ap (take (t .vars)) e ∙ take-at (take (t .vars) vs) (drop (t .vars) b) (t .vars) front-length
+    abbrev next : Assigned → Result CheckRefusal
+    next o = afterAssigning (outcomeOf o) (judged P u values)
+
+    -- o says that each literal is assigned; b₂ is the buffer with the values vs, completed
+    pub assigned-judged : {o : Assigned} → o ≡ Done → t .vars ≤ length vs → {b₂ : List ℕ} → b₂ ≡ values ++ drop (t .vars) b → {r : CheckVerdict} {c m : List ℕ}
+        → Gives P (judged P u (take (t .vars) b₂)) r b₂ c l m → Gives P (next o) r b c l m
+    assigned-judged d h {b₂} e {r} {c} {m} w =
+        subst (λ (a : Assigned). Gives P (next a) r b c l m) (sym d) (then (subst (λ (y : List ℕ). Gives P (judged P u y) r b₂ c l m) front-is w))
+      where
+        front-length : length values ≡ t .vars
+        front-length = length-map (take (t .vars) vs) completedByte ∙ length-take-le (t .vars) vs h
+
+        front-is : take (t .vars) b₂ ≡ values
+        front-is = ap (take (t .vars)) e ∙ take-at values (drop (t .vars) b) (t .vars) front-length
 
         rest-is : drop (varTotal P) b₂ ≡ drop (varTotal P) b
-        rest-is =
-            subst (λ (k : ℕ). drop k b₂ ≡ drop k b) vars-is (ap (drop (t .vars)) e ∙ drop-at (take (t .vars) vs) (drop (t .vars) b) (t .vars) front-length)
+        rest-is = subst (λ (k : ℕ). drop k b₂ ≡ drop k b) vars-is (ap (drop (t .vars)) e ∙ drop-at values (drop (t .vars) b) (t .vars) front-length)
 
-        then : Gives P (judged P (take (t .vars) vs)) r b₂ c l m → Gives P (judged P (take (t .vars) vs)) r b c l m
-        then w = (w .0, w .1 ∙ judged-rest P (take (t .vars) vs) b₂ b rest-is, w .2)
+        then : Gives P (judged P u values) r b₂ c l m → Gives P (judged P u values) r b c l m
+        then w = (w .0, w .1 ∙ judged-rest P u values b₂ b rest-is, w .2)
 
-    module _ {r : CheckVerdict} {c : List ℕ} {s : ℕ} where
-      pub assigned-stray : o ≡ Stray s → (r ≡ Refused (StrayVariable s)) × (c ≡ filledWith (t .vars) 0 b)
-          → Gives P (afterAssigning (outcomeOf o) (judged P (take (t .vars) vs))) r b c l l
-      assigned-stray d w =
-          gives-zeroed P (ap (λ (a : Assigned). afterAssigning (outcomeOf a) (judged P (take (t .vars) vs))) d) b l refl (w .0, w .1 ∙ ap (λ (k : ℕ). filledWith k 0 b) vars-is)
+    module _ {o : Assigned} {r : CheckVerdict} {c : List ℕ} {s : ℕ} where
+      pub assigned-stray : o ≡ Stray s → (r ≡ Refused (StrayVariable s)) × (c ≡ filledWith (t .vars) 0 b) → Gives P (next o) r b c l l
+      assigned-stray d w = gives-zeroed P (ap next d) b l refl (w .0, w .1 ∙ ap (λ (k : ℕ). filledWith k 0 b) vars-is)
 
-      pub assigned-repeated : o ≡ Repeated s → (r ≡ Refused (RepeatedVariable s)) × (c ≡ filledWith (t .vars) 0 b)
-          → Gives P (afterAssigning (outcomeOf o) (judged P (take (t .vars) vs))) r b c l l
-      assigned-repeated d w =
-          gives-zeroed P (ap (λ (a : Assigned). afterAssigning (outcomeOf a) (judged P (take (t .vars) vs))) d) b l refl (w .0, w .1 ∙ ap (λ (k : ℕ). filledWith k 0 b) vars-is)
+      pub assigned-repeated : o ≡ Repeated s → (r ≡ Refused (RepeatedVariable s)) × (c ≡ filledWith (t .vars) 0 b) → Gives P (next o) r b c l l
+      assigned-repeated d w = gives-zeroed P (ap next d) b l refl (w .0, w .1 ∙ ap (λ (k : ℕ). filledWith k 0 b) vars-is)
 
-  -- the values that the literals of an answer of the form give, read into k bytes without values
-  module _ (answer : List ℕ) {i : ℕ} (q : formOf answer ≡ FormModel i) (k : ℕ) (room : t .vars ≤ k) {o : Assigned} {vs : List ℕ}
-      (e : o ≡ assignedFor (readOutcome (t .vars) answer (replicate k 2))) (g : vs ≡ readBytes (t .vars) answer (replicate k 2)) where
+  -- the values that the literals of an answer of the form give, read into k bytes without values; u variables are said to have none
+  module _ (answer : List ℕ) {i : ℕ} (q : formOf answer ≡ FormModel i) (k : ℕ) (room : t .vars ≤ k) {o : Assigned} {vs : List ℕ} {u : ℕ}
+      (e : o ≡ assignedFor (readOutcome (t .vars) answer (replicate k 2))) (g : vs ≡ readBytes (t .vars) answer (replicate k 2))
+      (z : u ≡ assumedBy (FormModel i) o (unsetCount (t .vars) vs)) where
     abbrev ls : List Spotted
     ls = literalsFrom answer i
 
@@ -246,10 +228,20 @@ module _ {P : Program} {t : Totals} {hs ss bs ks xs ys : List ℕ} (T : Tabled P
         ∙ any-bytes (t .vars) ls (literals-named answer i) (replicate k 2))
         ∙ take-at alone (drop (t .vars) (replicate k 2)) (t .vars) alone-length
 
-    assigned-is : afterAssigning (outcomeOf o) (judged P (take (t .vars) vs)) ≡ assignedResult P answer i
+    -- the number of variables without a value plays no part where a literal is not assigned
+    any-assumed : (o : Assigned) (k : ℕ) (bs : List ℕ)
+        → afterAssigning (outcomeOf o) (judged P (assumedBy (FormModel i) o k) bs) ≡ afterAssigning (outcomeOf o) (judged P k bs)
+    any-assumed Done k bs = refl
+    any-assumed (Stray s) k bs = refl
+    any-assumed (Repeated s) k bs = refl
+
+    assigned-is : afterAssigning (outcomeOf o) (judged P u (completed (take (t .vars) vs))) ≡ assignedResult P answer i
     assigned-is =
-        ap₂ (λ (u : Outcome) (y : List ℕ). afterAssigning u (judged P y)) outcome-is values-are
-        ∙ ap (λ (v : ℕ). afterAssigning (assignedOf v ls (noValues v)) (judged P (assignedBytes v ls (noValues v)))) vars-is
+        ap (λ (k : ℕ). afterAssigning (outcomeOf o) (judged P k (completed (take (t .vars) vs)))) z
+        ∙ any-assumed o (unsetCount (t .vars) vs) (completed (take (t .vars) vs))
+        ∙ ap (λ (k : ℕ). afterAssigning (outcomeOf o) (judged P k (completed (take (t .vars) vs)))) (sym (unset-front vs (t .vars)))
+        ∙ ap₂ (λ (a : Outcome) (y : List ℕ). afterAssigning a (judged P (unsetCount (t .vars) y) (completed y))) outcome-is values-are
+        ∙ ap (λ (v : ℕ). afterAssigning (assignedOf v ls (noValues v)) (judged P (unsetCount v (assignedBytes v ls (noValues v))) (completed (assignedBytes v ls (noValues v))))) vars-is
 
   -- ---- rows 8, 10, 11 and 12
 
@@ -292,8 +284,10 @@ module _ {P : Program} {t : Totals} {hs ss bs ks xs ys : List ℕ} (T : Tabled P
           pub form-none : f ≡ NoModel → Gives P x (Refused NoModelOffered) b b l l
           form-none q = gives-refused P (by-form q) b l refl
 
-          pub form-model : {i : ℕ} → f ≡ FormModel i → (z : ℕ) → t .vars ≤ z → {o : Assigned} {vs : List ℕ}
-              → o ≡ assignedFor (readOutcome (t .vars) answer (replicate z 2)) → vs ≡ readBytes (t .vars) answer (replicate z 2) → {r : CheckVerdict} {c m : List ℕ}
-              → Gives P (afterAssigning (outcomeOf o) (judged P (take (t .vars) vs))) r b c l m → Gives P x r b c l m
-          form-model q z h u v {r} {c} {m} w =
-              subst (λ (y : Result CheckRefusal). Gives P y r b c l m) (assigned-is answer (sym e ∙ q) z h u v ∙ sym (by-form q)) w
+          pub form-model : {i : ℕ} → f ≡ FormModel i → (z : ℕ) → t .vars ≤ z → {o : Assigned} {vs : List ℕ} {u : ℕ}
+              → o ≡ assignedFor (readOutcome (t .vars) answer (replicate z 2)) → vs ≡ readBytes (t .vars) answer (replicate z 2)
+              → u ≡ assumedBy f o (unsetCount (t .vars) vs) → {r : CheckVerdict} {c m : List ℕ}
+              → Gives P (afterAssigning (outcomeOf o) (judged P u (completed (take (t .vars) vs)))) r b c l m → Gives P x r b c l m
+          form-model q z h {o} {vs} p v n {r} {c} {m} w =
+              subst (λ (y : Result CheckRefusal). Gives P y r b c l m)
+              (assigned-is answer (sym e ∙ q) z h p v (n ∙ ap (λ (g : Formed). assumedBy g o (unsetCount (t .vars) vs)) q) ∙ sym (by-form q)) w

@@ -5,7 +5,7 @@
 --   model-none, none-model    accepted exactly if no row is met
 --   model-offers           and then the answer shows a model
 --   shows-none, shows-result   an answer that shows a model meets no row, and is accepted with it
---   true-accepted, accepted-true   an answer that names each variable once is accepted exactly if each clause is true
+--   true-accepted, accepted-true   an answer that names no variable above V and none twice is accepted exactly if each clause is true
 -- Assumes nothing.
 use Prim.Native.Nat.{ℕ, _≤_, _<_}
 use native.Mathlib.Nat.{le-refl, le-trans, lt-irrefl, eq-or-lt-of-le}
@@ -39,29 +39,29 @@ use Rattle.answer_reader.specs.declared.Formed.{Formed}
 use Rattle.answer_reader.specs.declared.Formed.the-variants.{Model as FormModel, NoModel, Malformed as FormMalformed}
 use Rattle.answer_reader.specs.Results.{formOf}
 use Rattle.answer_reader.proofs.Promised.{form-malformed, malformed-form, form-none, none-form}
-use Rattle.assigning.specs.Assign.{Outcome, literalsFrom, variableAt, spotAt, Named, Unnamed, assignedOf, assignedBytes, firstUnset}
-use Rattle.assigning.specs.Rows.{Fit, AllFit, StrayAt, RepeatedAt, Missing, Once}
-use Rattle.assigning.proofs.Rows.{Meant, meant, unset-missing, unset-nothing}
+use Rattle.assigning.specs.Assign.{Outcome, literalsFrom, variableAt, spotAt, assignedOf, assignedBytes, unsetCount, completed}
+use Rattle.assigning.specs.Rows.{Fit, AllFit, StrayAt, RepeatedAt}
+use Rattle.assigning.proofs.Rows.{Meant, meant, unset-unnamed}
 use Rattle.offering.specs.Offered.{valueBytes, valuesOf}
 use Rattle.offering.proofs.Values.{values-alone}
 use Rattle.truth.specs.Truth.{firstFalse}
 use Rattle.results.specs.Results.{Result, varTotal, programOf}
 use Rattle.checking.specs.declared.CheckRefusal.{CheckRefusal}
-use Rattle.checking.specs.declared.CheckRefusal.the-variants.{Text, ShortBuffer, OverlongAnswer, MalformedAnswer, NoModelOffered, StrayVariable, RepeatedVariable, MissingVariable, FalseClause}
+use Rattle.checking.specs.declared.CheckRefusal.the-variants.{Text, ShortBuffer, OverlongAnswer, MalformedAnswer, NoModelOffered, StrayVariable, RepeatedVariable, FalseClause}
 use Rattle.checking.specs.declared.CheckVerdict.{CheckVerdict}
 use Rattle.checking.specs.declared.CheckVerdict.the-variants.{Model, Refused}
-use Rattle.checking.specs.Check.{checkNumber, checkSpot, refuse, judged, noValues, afterAssigning, assignedResult, formResult, checkResult, afterReading, verdictOf, checkOf, checkAnswer}
+use Rattle.checking.specs.Check.{checkNumber, checkSpot, refuse, judged, completedResult, noValues, afterAssigning, assignedResult, formResult, checkResult, afterReading, verdictOf, checkOf, checkAnswer}
 use Rattle.results.specs.Order.{NotAfter, earlier, nearer, smaller}
 use Rattle.results.proofs.Order.{first-one}
-use Rattle.checking.specs.Rows.{Offers, valuesIn, levelsOf, trueNumber, clauseOf, clauseNumber, CheckRow, of-text, short-assignment, short-levels, overlong-answer, malformed-answer, no-model-offered, stray-variable, repeated-variable, missing-variable, false-clause, FirstCheckRow, CheckAnswers, EachTrue, Shows}
-use Rattle.checking.proofs.Rows.{judged-15, judged-16, judged-none}
+use Rattle.checking.specs.Rows.{Offers, valuesIn, assumedNumber, levelsOf, trueNumber, clauseOf, clauseNumber, CheckRow, of-text, short-assignment, short-levels, overlong-answer, malformed-answer, no-model-offered, stray-variable, repeated-variable, false-clause, FirstCheckRow, CheckAnswers, Accepts, EachTrue, Shows}
+use Rattle.checking.proofs.Rows.{judged-16, judged-none}
 use Rattle.checking.proofs.Spots.{offers-unique, spots-ascend, offers-named, offers-form, form-offers}
 use Rattle.results.proofs.ValueBytes.{count-same, counters-same, levels-same}
 use Rattle.checking.proofs.Valued.{FirstFalse, first-false, filled-none}
 
 -- what is written of an accepted answer
 abbrev pub shownResult : Program → List Spotted → Result CheckRefusal
-shownResult P xs = Result.accepted (valueBytes (valuesOf (varTotal P) xs)) (tab (P .atoms) (levelsOf P xs))
+shownResult P xs = Result.accepted (assumedNumber P xs) (valueBytes (valuesOf (varTotal P) xs)) (tab (P .atoms) (levelsOf P xs))
 
 pub data CheckTold (t u : List ℕ) (a l : ℕ) : Type 0 where
   at-row : (q : CheckRefusal) → FirstCheckRow t u a l (checkNumber q) (checkSpot q) → checkOf t u a l ≡ refuse q → CheckTold t u a l
@@ -110,12 +110,11 @@ rank-low r = go (eqb r 1) (eqb r 2)
 -- ---- rows and places
 
 module _ (t u : List ℕ) (a l : ℕ) where
-  -- something that is so of each of rows 13 to 16 that is met where P is the program and the answer offers the literals xs
+  -- something that is so of each of rows 13, 14 and 16 that is met where P is the program and the answer offers the literals xs
   record OfLiterals (P : Program) (xs : List Spotted) (Z : ℕ → ℕ → ℕ → Type 0) : Type 0 where
     stray : (i : ℕ) → i < length xs → varTotal P < variableAt xs i → Z 8 13 (spotAt xs i)
     repeated : (i j : ℕ) → i < length xs → j < i → variableAt xs j ≡ variableAt xs i → Z 8 14 (spotAt xs i)
-    missing : (v : ℕ) → 0 < v → v ≤ varTotal P → Unnamed xs v → Z 9 15 v
-    false-one : (j : ℕ) → 0 < j → j ≤ clauseNumber P → clauseTrue (valuesIn P xs) (clauseOf P j) ≡ false → Z 10 16 j
+    false-one : (j : ℕ) → 0 < j → j ≤ clauseNumber P → clauseTrue (valuesIn P xs) (clauseOf P j) ≡ false → Z 9 16 j
 
   -- the same of each row that is met where P is the program
   record Each (P : Program) (Z : ℕ → ℕ → ℕ → Type 0) : Type 0 where
@@ -126,13 +125,12 @@ module _ (t u : List ℕ) (a l : ℕ) where
     no-model : (x : Status) → OfStatus u x → Z 7 12 0
     offered : (xs : List Spotted) → Offers u xs → OfLiterals P xs Z
 
-  -- rows 13 to 16 come behind places 0 to 7
+  -- rows 13, 14 and 16 come behind places 0 to 7
   literals-later : (P : Program) (p r s : ℕ) → p < 8 → (xs : List Spotted) → OfLiterals P xs (NotAfter p r s)
   literals-later P p r s h xs =
       record {
         stray = λ i g f. earlier h;
         repeated = λ i j g f e. earlier h;
-        missing = λ v g f n. earlier (omega (arith, h));
         false-one = λ j g f e. earlier (omega (arith, h));
       }
 
@@ -159,7 +157,6 @@ module _ (t u : List ℕ) (a l : ℕ) where
     each-row Z c p r s (no-model-offered {x = x} o) = c .no-model x o
     each-row Z c p r s (stray-variable Q B xs o i h g) = c .offered xs o .stray i h (subst (λ (X : Program). varTotal X < variableAt xs i) (same Q B) g)
     each-row Z c p r s (repeated-variable Q B xs o i j h g e) = c .offered xs o .repeated i j h g e
-    each-row Z c p r s (missing-variable Q B xs o v h g n) = c .offered xs o .missing v h (subst (λ (X : Program). v ≤ varTotal X) (same Q B) g) n
     each-row Z c p r s (false-clause Q B xs o j h g e) =
         c .offered xs o .false-one j h (subst (λ (X : Program). j ≤ clauseNumber X) (same Q B) g)
         (subst (λ (X : Program). clauseTrue (valuesIn X xs) (clauseOf X j) ≡ false) (same Q B) e)
@@ -286,8 +283,8 @@ module _ (t u : List ℕ) (a l : ℕ) where
             abbrev bytes : List ℕ
             bytes = assignedBytes vars xs (noValues vars)
 
-            by-outcome : {o : Outcome} → assignedOf vars xs (noValues vars) ≡ o → assignedResult P u e ≡ afterAssigning o (judged P bytes)
-            by-outcome w = ap (λ (o : Outcome). afterAssigning o (judged P bytes)) w
+            by-outcome : {o : Outcome} → assignedOf vars xs (noValues vars) ≡ o → assignedResult P u e ≡ afterAssigning o (completedResult P bytes)
+            by-outcome w = ap (λ (o : Outcome). afterAssigning o (completedResult P bytes)) w
 
             -- ---- rows 13 and 14
 
@@ -317,7 +314,6 @@ module _ (t u : List ℕ) (a l : ℕ) where
                 (record {
                   stray = λ i h g. unfit-order (m .place) i (m .before) (stray-unfit i g) h 13 13 (λ q. le-refl 13);
                   repeated = λ i j h g q. unfit-order (m .place) i (m .before) (repeated-unfit i j g q) h 13 14 (λ q. omega arith);
-                  missing = λ v h g n. earlier (omega arith);
                   false-one = λ j h g n. earlier (omega arith);
                 }))
                 (by-outcome w)
@@ -332,116 +328,71 @@ module _ (t u : List ℕ) (a l : ℕ) where
                       unfit-order (m .place) i (m .before) (stray-unfit i g) h 14 13
                       (λ q. absurd (lt-irrefl vars (le-trans (subst (λ (k : ℕ). vars < variableAt xs k) (sym q) g) (m .within))));
                   repeated = λ i j h g q. unfit-order (m .place) i (m .before) (repeated-unfit i j g q) h 14 14 (λ q. le-refl 14);
-                  missing = λ v h g n. earlier (omega arith);
                   false-one = λ j h g n. earlier (omega arith);
                 }))
                 (by-outcome w)
 
             module _ (done : assignedOf vars xs (noValues vars) ≡ Outcome.done) (fit : AllFit vars xs) where
-              -- ---- row 15
-
-              unset-is : 0 < firstUnset vars bytes → Missing vars xs (firstUnset vars bytes)
-              unset-is =
-                  subst (λ (b : List ℕ). 0 < firstUnset vars (assignedBytes vars xs b) → Missing vars xs (firstUnset vars (assignedBytes vars xs b))) (filled-none vars 2)
-                  (unset-missing vars xs [] (offers-named offer) fit)
-
-              told-15 : 0 < firstUnset vars bytes → CheckTold t u a l
-              told-15 h = go (unset-is h)
-                where
-                  go : Missing vars xs (firstUnset vars bytes) → CheckTold t u a l
-                  go m =
-                      model-at (MissingVariable (firstUnset vars bytes)) 9 (missing-variable P A xs offer (firstUnset vars bytes) (m .positive) (m .within) (m .unnamed))
-                      (record {
-                        stray = λ i h g. absurd (stray-unfit i g (fit i h));
-                        repeated = λ i j h g q. absurd (repeated-unfit i j g q (fit i h));
-                        missing = λ v h g n. order v h n (le-or-lt (firstUnset vars bytes) v);
-                        false-one = λ j h g n. earlier (omega arith);
-                      })
-                      (by-outcome done ∙ judged-15 P bytes h)
-                    where
-                      on : (v : ℕ) → (firstUnset vars bytes ≡ v) ⊎ (firstUnset vars bytes < v) → NotAfter 9 15 (firstUnset vars bytes) 9 15 v
-                      on v (inl w) = smaller refl w (le-refl 15)
-                      on v (inr w) = nearer refl w
-
-                      order : (v : ℕ) → 0 < v → Unnamed xs v → (firstUnset vars bytes ≤ v) ⊎ (v < firstUnset vars bytes) → NotAfter 9 15 (firstUnset vars bytes) 9 15 v
-                      order v h n (inl w) = on v (eq-or-lt-of-le w)
-                      order v h n (inr w) = let k = m .before v h w in absurd (n (k .0) (k .1) (k .2))
-
               -- ---- row 16
 
-              module _ (set : firstUnset vars bytes ≤ 0) where
-                all-named : firstUnset vars bytes ≡ 0 → (v : ℕ) → 0 < v → v ≤ vars → Named xs v
-                all-named =
-                    subst (λ (b : List ℕ). firstUnset vars (assignedBytes vars xs b) ≡ 0 → (v : ℕ) → 0 < v → v ≤ vars → Named xs v) (filled-none vars 2)
-                    (unset-nothing vars xs [] (offers-named offer) fit)
+              abbrev ys : List Bool
+              ys = valuesOf vars xs
 
-                once : Once vars xs
-                once = record { fit = fit; named = all-named (omega (arith, set)) }
+              bytes-are : completed bytes ≡ valueBytes ys
+              bytes-are = values-alone vars xs (offers-named offer) fit
 
-                abbrev ys : List Bool
-                ys = valuesOf vars xs
+              unset-are : unsetCount vars bytes ≡ assumedNumber P xs
+              unset-are =
+                  subst (λ (b : List ℕ). unsetCount vars (assignedBytes vars xs b) ≡ assumedNumber P xs) (filled-none vars 2)
+                  (unset-unnamed vars xs (offers-named offer) fit [])
 
-                bytes-are : bytes ≡ valueBytes ys
-                bytes-are = values-alone vars xs (offers-named offer) once
+              judged-are : assignedResult P u e ≡ judged P (assumedNumber P xs) (valueBytes ys)
+              judged-are = by-outcome done ∙ ap₂ (judged P) unset-are bytes-are
 
-                still-set : firstUnset vars (valueBytes ys) ≤ 0
-                still-set = subst (λ (b : List ℕ). firstUnset vars b ≤ 0) bytes-are set
+              falses : FirstFalse P (valuesIn P xs) (firstFalse P (valueBytes ys))
+              falses = first-false P ys
 
-                judged-are : assignedResult P u e ≡ judged P (valueBytes ys)
-                judged-are = by-outcome done ∙ ap (judged P) bytes-are
+              told-16 : 0 < firstFalse P (valueBytes ys) → CheckTold t u a l
+              told-16 h =
+                  model-at (FalseClause (firstFalse P (valueBytes ys))) 9
+                  (false-clause P A xs offer (firstFalse P (valueBytes ys)) h (falses .within) (falses .is-false h))
+                  (record {
+                    stray = λ i h g. absurd (stray-unfit i g (fit i h));
+                    repeated = λ i j h g q. absurd (repeated-unfit i j g q (fit i h));
+                    false-one = λ j h g n. order j h n (le-or-lt (firstFalse P (valueBytes ys)) j);
+                  })
+                  (judged-are ∙ judged-16 P (assumedNumber P xs) (valueBytes ys) h)
+                where
+                  on : (j : ℕ) → (firstFalse P (valueBytes ys) ≡ j) ⊎ (firstFalse P (valueBytes ys) < j) → NotAfter 9 16 (firstFalse P (valueBytes ys)) 9 16 j
+                  on j (inl w) = smaller refl w (le-refl 16)
+                  on j (inr w) = nearer refl w
 
-                falses : FirstFalse P (valuesIn P xs) (firstFalse P (valueBytes ys))
-                falses = first-false P ys
+                  order : (j : ℕ) → 0 < j → clauseTrue (valuesIn P xs) (clauseOf P j) ≡ false → (firstFalse P (valueBytes ys) ≤ j) ⊎ (j < firstFalse P (valueBytes ys))
+                      → NotAfter 9 16 (firstFalse P (valueBytes ys)) 9 16 j
+                  order j h n (inl w) = on j (eq-or-lt-of-le w)
+                  order j h n (inr w) = absurd (false≢true (sym n ∙ falses .true-before j h w))
 
-                unnamed-none : (v : ℕ) → 0 < v → v ≤ vars → Unnamed xs v → ⊥
-                unnamed-none v h g n = let k = once .named v h g in n (k .0) (k .1) (k .2)
-
-                told-16 : 0 < firstFalse P (valueBytes ys) → CheckTold t u a l
-                told-16 h =
-                    model-at (FalseClause (firstFalse P (valueBytes ys))) 10
-                    (false-clause P A xs offer (firstFalse P (valueBytes ys)) h (falses .within) (falses .is-false h))
-                    (record {
-                      stray = λ i h g. absurd (stray-unfit i g (fit i h));
-                      repeated = λ i j h g q. absurd (repeated-unfit i j g q (fit i h));
-                      missing = λ v h g n. absurd (unnamed-none v h g n);
-                      false-one = λ j h g n. order j h n (le-or-lt (firstFalse P (valueBytes ys)) j);
-                    })
-                    (judged-are ∙ judged-16 P (valueBytes ys) still-set h)
-                  where
-                    on : (j : ℕ) → (firstFalse P (valueBytes ys) ≡ j) ⊎ (firstFalse P (valueBytes ys) < j) → NotAfter 10 16 (firstFalse P (valueBytes ys)) 10 16 j
-                    on j (inl w) = smaller refl w (le-refl 16)
-                    on j (inr w) = nearer refl w
-
-                    order : (j : ℕ) → 0 < j → clauseTrue (valuesIn P xs) (clauseOf P j) ≡ false → (firstFalse P (valueBytes ys) ≤ j) ⊎ (j < firstFalse P (valueBytes ys))
-                        → NotAfter 10 16 (firstFalse P (valueBytes ys)) 10 16 j
-                    order j h n (inl w) = on j (eq-or-lt-of-le w)
-                    order j h n (inr w) = absurd (false≢true (sym n ∙ falses .true-before j h w))
-
-                told-shown : firstFalse P (valueBytes ys) ≤ 0 → CheckTold t u a l
-                told-shown h =
-                    shown P xs
-                    (record {
-                      admitted = A;
-                      offers = offer;
-                      once = once;
-                      each-true = falses .all-true h;
-                      room = room;
-                      levels-room = levels-room;
-                      not-overlong = fits;
-                    })
-                    (result-is ∙ result-form P u (length u) a l room levels-room fits f ∙ judged-are ∙ judged-none P (valueBytes ys) still-set h
-                    ∙ ap (Result.accepted (valueBytes ys)) (counters-same (sizes P (width (P .atoms))) ys))
+              told-shown : firstFalse P (valueBytes ys) ≤ 0 → CheckTold t u a l
+              told-shown h =
+                  shown P xs
+                  (record {
+                    admitted = A;
+                    offers = offer;
+                    fit = fit;
+                    each-true = falses .all-true h;
+                    room = room;
+                    levels-room = levels-room;
+                    not-overlong = fits;
+                  })
+                  (result-is ∙ result-form P u (length u) a l room levels-room fits f ∙ judged-are ∙ judged-none P (assumedNumber P xs) (valueBytes ys) h
+                  ∙ ap (Result.accepted (assumedNumber P xs) (valueBytes ys)) (counters-same (sizes P (width (P .atoms))) ys))
 
               told-done : CheckTold t u a l
-              told-done = go (le-or-lt (firstUnset vars bytes) 0)
+              told-done = go (le-or-lt (firstFalse P (valueBytes ys)) 0)
                 where
-                  clauses-told : (set : firstUnset vars bytes ≤ 0) → (firstFalse P (valueBytes (valuesOf vars xs)) ≤ 0) ⊎ (0 < firstFalse P (valueBytes (valuesOf vars xs))) → CheckTold t u a l
-                  clauses-told set (inl h) = told-shown set h
-                  clauses-told set (inr h) = told-16 set h
-
-                  go : (firstUnset vars bytes ≤ 0) ⊎ (0 < firstUnset vars bytes) → CheckTold t u a l
-                  go (inl h) = clauses-told h (le-or-lt (firstFalse P (valueBytes (valuesOf vars xs))) 0)
-                  go (inr h) = told-15 h
+                  go : (firstFalse P (valueBytes ys) ≤ 0) ⊎ (0 < firstFalse P (valueBytes ys)) → CheckTold t u a l
+                  go (inl h) = told-shown h
+                  go (inr h) = told-16 h
 
             told-model : CheckTold t u a l
             told-model =
@@ -480,17 +431,13 @@ module _ (t u : List ℕ) (a l : ℕ) where
     pub shows-none : (xs : List Spotted) → Shows t u a l P xs → (p r s : ℕ) → CheckRow t u a l p r s → ⊥
     shows-none xs S = each-row (λ p r s. ⊥) (every (offers-form (S .offers)))
       where
-        fit : AllFit (varTotal P) xs
-        fit = S .once .fit
-
         every : formOf u ≡ FormModel (statusEnd (S .offers .before)) → Each P (λ p r s. ⊥)
         every f =
             each-literal (S .room) (S .levels-room) (S .not-overlong) (statusEnd (S .offers .before)) f (λ p r s. ⊥)
             (subst (λ (zs : List Spotted). OfLiterals P zs (λ p r s. ⊥)) (offers-unique (S .offers) (form-offers (statusEnd (S .offers .before)) f))
             (record {
-              stray = λ i h g. lt-irrefl (varTotal P) (le-trans g (fit i h .0));
-              repeated = λ i j h g q. fit i h .1 j g q;
-              missing = λ v h g n. let k = S .once .named v h g in n (k .0) (k .1) (k .2);
+              stray = λ i h g. lt-irrefl (varTotal P) (le-trans g (S .fit i h .0));
+              repeated = λ i j h g q. S .fit i h .1 j g q;
               false-one = λ j h g n. false≢true (sym n ∙ S .each-true j h g);
             }))
 
@@ -523,7 +470,6 @@ module _ (t u : List ℕ) (a l : ℕ) where
     text-first p r s (no-model-offered o) = earlier (omega (arith, low))
     text-first p r s (stray-variable P A xs o i h g) = absurd (not-admitted P A)
     text-first p r s (repeated-variable P A xs o i j h g e) = absurd (not-admitted P A)
-    text-first p r s (missing-variable P A xs o w h g n) = absurd (not-admitted P A)
     text-first p r s (false-clause P A xs o j h g e) = absurd (not-admitted P A)
 
     told-text : CheckTold t u a l
@@ -550,19 +496,19 @@ module _ (t u : List ℕ) (a l : ℕ) where
 
   -- what a model is answered with
   pub shown-answer : (P : Program) (xs : List Spotted) → Admitted t P → checkOf t u a l ≡ shownResult P xs
-      → checkAnswer t u a l ≡ Model (trueNumber P xs) (highest (P .atoms) (levelsOf P xs))
+      → checkAnswer t u a l ≡ Model (trueNumber P xs) (highest (P .atoms) (levelsOf P xs)) (assumedNumber P xs)
   unfolding checkAnswer
   shown-answer P xs A e =
       ap₂ (λ (n : ℕ) (x : Result CheckRefusal). verdictOf n x) (ap (λ (X : Program). X .atoms) (program-is P A)) e
-      ∙ ap₂ Model (count-same (P .atoms) (valuesOf (varTotal P) xs)) (levels-same (P .atoms) (levelsOf P xs))
+      ∙ ap₂ (λ (k h : ℕ). Model k h (assumedNumber P xs)) (count-same (P .atoms) (valuesOf (varTotal P) xs)) (levels-same (P .atoms) (levelsOf P xs))
 
   -- an answer is a refusal or it is not
-  verdicts : (q : CheckRefusal) (k h : ℕ) → checkAnswer t u a l ≡ Refused q → checkAnswer t u a l ≡ Model k h → ⊥
-  verdicts q k h e f = true≢false (ap isRefused (sym e ∙ f))
+  verdicts : (q : CheckRefusal) (k h c : ℕ) → checkAnswer t u a l ≡ Refused q → checkAnswer t u a l ≡ Model k h c → ⊥
+  verdicts q k h c e f = true≢false (ap isRefused (sym e ∙ f))
     where
       isRefused : CheckVerdict → Bool
       isRefused (Refused r) = true
-      isRefused (Model k h) = false
+      isRefused (Model k h c) = false
 
   -- it has one refusal
   same-refusal : (q x : CheckRefusal) → checkOf t u a l ≡ refuse q → checkAnswer t u a l ≡ Refused x → q ≡ x
@@ -570,7 +516,7 @@ module _ (t u : List ℕ) (a l : ℕ) where
     where
       refusalIn : CheckVerdict → CheckRefusal
       refusalIn (Refused r) = r
-      refusalIn (Model k h) = NoModelOffered
+      refusalIn (Model k h c) = NoModelOffered
 
   told-answers : (q : CheckRefusal) → checkOf t u a l ≡ refuse q → CheckAnswers t u a l (checkNumber q) (checkSpot q)
   told-answers q e = record { refusal = q; answer-is = refused-answer q e; row-is = refl; spot-is = refl }
@@ -580,7 +526,7 @@ module _ (t u : List ℕ) (a l : ℕ) where
     where
       go : CheckTold t u a l → checkOf t u a l ≡ refuse (w .refusal)
       go (at-row q f e) = e ∙ ap refuse (same-refusal q (w .refusal) e (w .answer-is))
-      go (shown P xs S e) = absurd (verdicts (w .refusal) _ _ (w .answer-is) (shown-answer P xs (S .admitted) e))
+      go (shown P xs S e) = absurd (verdicts (w .refusal) _ _ _ (w .answer-is) (shown-answer P xs (S .admitted) e))
 
   pub answers-check-first : (r s : ℕ) → CheckAnswers t u a l r s → FirstCheckRow t u a l r s
   answers-check-first r s w = go check-told
@@ -589,7 +535,7 @@ module _ (t u : List ℕ) (a l : ℕ) where
       go (at-row q f e) =
           let i = same-refusal q (w .refusal) e (w .answer-is) in
           subst (FirstCheckRow t u a l r) (ap checkSpot i ∙ w .spot-is) (subst (λ (z : ℕ). FirstCheckRow t u a l z (checkSpot q)) (ap checkNumber i ∙ w .row-is) f)
-      go (shown P xs S e) = absurd (verdicts (w .refusal) _ _ (w .answer-is) (shown-answer P xs (S .admitted) e))
+      go (shown P xs S e) = absurd (verdicts (w .refusal) _ _ _ (w .answer-is) (shown-answer P xs (S .admitted) e))
 
   pub first-check-answers : (r s : ℕ) → FirstCheckRow t u a l r s → CheckAnswers t u a l r s
   first-check-answers r s f = go check-told
@@ -600,15 +546,15 @@ module _ (t u : List ℕ) (a l : ℕ) where
           subst (CheckAnswers t u a l r) (w .1) (subst (λ (z : ℕ). CheckAnswers t u a l z (checkSpot q)) (w .0) (told-answers q e))
       go (shown P xs S e) = absurd (shows-none P (S .admitted) xs S (f .place) r s (f .met))
 
-  pub model-offers : (k h : ℕ) → checkAnswer t u a l ≡ Model k h → (P : Program) × (xs : List Spotted) × Shows t u a l P xs
-  model-offers k h w = go check-told
+  pub model-offers : (k h c : ℕ) → checkAnswer t u a l ≡ Model k h c → (P : Program) × (xs : List Spotted) × Shows t u a l P xs
+  model-offers k h c w = go check-told
     where
       go : CheckTold t u a l → (P : Program) × (xs : List Spotted) × Shows t u a l P xs
-      go (at-row q f e) = absurd (verdicts q k h (refused-answer q e) w)
+      go (at-row q f e) = absurd (verdicts q k h c (refused-answer q e) w)
       go (shown P xs S e) = (P, xs, S)
 
-  pub model-none : (k h : ℕ) → checkAnswer t u a l ≡ Model k h → (p r s : ℕ) → CheckRow t u a l p r s → ⊥
-  model-none k h w = let m = model-offers k h w in shows-none (m .0) (m .2 .admitted) (m .1) (m .2)
+  pub model-none : (k h c : ℕ) → checkAnswer t u a l ≡ Model k h c → (p r s : ℕ) → CheckRow t u a l p r s → ⊥
+  model-none k h c w = let m = model-offers k h c w in shows-none (m .0) (m .2 .admitted) (m .1) (m .2)
 
   -- an answer that shows a model is accepted, with it
   pub shows-result : (P : Program) (xs : List Spotted) → Shows t u a l P xs → checkOf t u a l ≡ shownResult P xs
@@ -618,21 +564,21 @@ module _ (t u : List ℕ) (a l : ℕ) where
       go (at-row q f e) = absurd (shows-none P (S .admitted) xs S (f .place) (checkNumber q) (checkSpot q) (f .met))
       go (shown Q ys T e) = e ∙ ap₂ shownResult (same P (S .admitted) Q (T .admitted)) (offers-unique (T .offers) (S .offers))
 
-  pub none-model : ((p r s : ℕ) → CheckRow t u a l p r s → ⊥) → (k : ℕ) × (h : ℕ) × (checkAnswer t u a l ≡ Model k h)
+  pub none-model : ((p r s : ℕ) → CheckRow t u a l p r s → ⊥) → Accepts t u a l
   none-model none = go check-told
     where
-      go : CheckTold t u a l → (k : ℕ) × (h : ℕ) × (checkAnswer t u a l ≡ Model k h)
+      go : CheckTold t u a l → Accepts t u a l
       go (at-row q f e) = absurd (none (f .place) (checkNumber q) (checkSpot q) (f .met))
-      go (shown P xs S e) = (trueNumber P xs, highest (P .atoms) (levelsOf P xs), shown-answer P xs (S .admitted) e)
+      go (shown P xs S e) = (trueNumber P xs, highest (P .atoms) (levelsOf P xs), assumedNumber P xs, shown-answer P xs (S .admitted) e)
 
-  -- an answer that names each variable once
-  module _ (P : Program) (xs : List Spotted) (A : Admitted t P) (o : Offers u xs) (fits : length u ≤ 65536) (once : Once (varTotal P) xs) (room : varTotal P ≤ a) (levels-room : P .atoms ≤ l) where
-    pub true-accepted : EachTrue P xs → (k : ℕ) × (h : ℕ) × (checkAnswer t u a l ≡ Model k h)
+  -- an answer that names no variable above V and none twice
+  module _ (P : Program) (xs : List Spotted) (A : Admitted t P) (o : Offers u xs) (fits : length u ≤ 65536) (fit : AllFit (varTotal P) xs) (room : varTotal P ≤ a) (levels-room : P .atoms ≤ l) where
+    pub true-accepted : EachTrue P xs → Accepts t u a l
     true-accepted f =
-        none-model (shows-none P A xs (record { admitted = A; offers = o; once = once; each-true = f; room = room; levels-room = levels-room; not-overlong = fits }))
+        none-model (shows-none P A xs (record { admitted = A; offers = o; fit = fit; each-true = f; room = room; levels-room = levels-room; not-overlong = fits }))
 
-    pub accepted-true : (k h : ℕ) → checkAnswer t u a l ≡ Model k h → EachTrue P xs
-    accepted-true k h w = go (model-offers k h w)
+    pub accepted-true : (k h c : ℕ) → checkAnswer t u a l ≡ Model k h c → EachTrue P xs
+    accepted-true k h c w = go (model-offers k h c w)
       where
         go : ((Q : Program) × (ys : List Spotted) × Shows t u a l Q ys) → EachTrue P xs
         go (Q, ys, S) = subst (λ (X : Program). EachTrue X xs) (same P A Q (S .admitted)) (subst (EachTrue Q) (offers-unique (S .offers) o) (S .each-true))

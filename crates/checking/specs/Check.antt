@@ -1,11 +1,12 @@
--- The check of a solver answer against a program (document 01, "Check and filling out" and "Verdicts"): what it answers, and what each lent buffer holds
--- afterwards. V is the number of variables of the program P, n that of its atoms; t is the answer, of k bytes.
+-- The check of a solver answer against a program (document 01, "Check and filling out" and "Verdicts"; document 02, Q-3): what it answers, and what each
+-- lent buffer holds afterwards. V is the number of variables of the program P, n that of its atoms; t is the answer, of k bytes.
 --   checkNumber, checkSpot   the document's number and spot of a refusal
---   zeroes r                 refusals 13 to 16 zero the assignment
---   judged P bs              rows 15 and 16, for the values bs: a variable that has none has 2
+--   zeroes r                 refusals 13, 14 and 16 zero the assignment
+--   judged P c bs            row 16, for the values bs, c of which are assumed
+--   completedResult P bs     the same, for the values bs, completed: a variable that has none has 2
 --   outcomeOf o              the outcome that the code's answer o says
 --   afterAssigning o x       rows 13 and 14, by the outcome o of assigning, then x
---   assignedResult P t e     the same, for the literals of t from position e on, then these
+--   assignedResult P t e     the same, for the literals of t from position e on, then these for their values, completed
 --   formResult P t f         rows 11 and 12, by the form f of t, then these
 --   answerResult P t k       row 10, then these
 --   checkResult P t k a l    row 8, for buffers of a and l bytes, then these
@@ -21,7 +22,7 @@ use lib.ListN.{length, replicate}
 use Rattle.lists.specs.Lists.{highest}
 use Rattle.meaning.specs.Program.{Program}
 use Rattle.encoding.specs.Width.{width}
-use Rattle.encoding.specs.Clauses.{sizes, variables}
+use Rattle.encoding.specs.Clauses.{sizes}
 use Rattle.program.specs.declared.Reading.{Reading}
 use Rattle.program.specs.declared.ReadVerdict.{ReadVerdict}
 use Rattle.program.specs.declared.ReadVerdict.the-variants.{Accepted, Refused as TextRefused}
@@ -31,11 +32,11 @@ use Rattle.answer_reader.specs.declared.Formed.the-variants.{Model as FormModel
 use Rattle.answer_reader.specs.Results.{formOf}
 use Rattle.assigning.specs.declared.Assigned.{Assigned}
 use Rattle.assigning.specs.declared.Assigned.the-variants.{Done, Stray, Repeated}
-use Rattle.assigning.specs.Assign.{Outcome, literalsFrom, assignedOf, assignedBytes, firstUnset}
+use Rattle.assigning.specs.Assign.{Outcome, literalsFrom, assignedOf, assignedBytes, unsetCount, completed}
 use Rattle.truth.specs.Truth.{firstFalse}
 use Rattle.results.specs.Results.{Result, trueCount, levelIn, counters, assignmentAfter, levelsAfter, varTotal, programOf}
 use Rattle.checking.specs.declared.CheckRefusal.{CheckRefusal}
-use Rattle.checking.specs.declared.CheckRefusal.the-variants.{Text, ShortBuffer, OverlongAnswer, MalformedAnswer, NoModelOffered, StrayVariable, RepeatedVariable, MissingVariable, FalseClause}
+use Rattle.checking.specs.declared.CheckRefusal.the-variants.{Text, ShortBuffer, OverlongAnswer, MalformedAnswer, NoModelOffered, StrayVariable, RepeatedVariable, FalseClause}
 use Rattle.checking.specs.declared.CheckVerdict.{CheckVerdict}
 use Rattle.checking.specs.declared.CheckVerdict.the-variants.{Model, Refused}
 
@@ -49,7 +50,6 @@ checkNumber (MalformedAnswer s) = 11
 checkNumber NoModelOffered = 12
 checkNumber (StrayVariable s) = 13
 checkNumber (RepeatedVariable s) = 14
-checkNumber (MissingVariable v) = 15
 checkNumber (FalseClause j) = 16
 
 abbrev pub checkSpot : CheckRefusal → ℕ
@@ -60,7 +60,6 @@ checkSpot (MalformedAnswer s) = s
 checkSpot NoModelOffered = 0
 checkSpot (StrayVariable s) = s
 checkSpot (RepeatedVariable s) = s
-checkSpot (MissingVariable v) = v
 checkSpot (FalseClause j) = j
 
 abbrev pub zeroes : CheckRefusal → Bool
@@ -71,7 +70,6 @@ zeroes (MalformedAnswer s) = false
 zeroes NoModelOffered = false
 zeroes (StrayVariable s) = true
 zeroes (RepeatedVariable s) = true
-zeroes (MissingVariable v) = true
 zeroes (FalseClause j) = true
 
 -- ---- the rows, last to first
@@ -79,10 +77,11 @@ zeroes (FalseClause j) = true
 abbrev pub refuse : CheckRefusal → Result CheckRefusal
 refuse r = Result.refused r
 
-unfoldable pub judged : Program → List ℕ → Result CheckRefusal
-judged P bs =
-    cond (ltb 0 (firstUnset (varTotal P) bs)) (refuse (MissingVariable (firstUnset (varTotal P) bs)))
-    (cond (ltb 0 (firstFalse P bs)) (refuse (FalseClause (firstFalse P bs))) (Result.accepted bs (counters (sizes P (width (P .atoms))) bs)))
+unfoldable pub judged : Program → ℕ → List ℕ → Result CheckRefusal
+judged P c bs = cond (ltb 0 (firstFalse P bs)) (refuse (FalseClause (firstFalse P bs))) (Result.accepted c bs (counters (sizes P (width (P .atoms))) bs))
+
+abbrev pub completedResult : Program → List ℕ → Result CheckRefusal
+completedResult P bs = judged P (unsetCount (varTotal P) bs) (completed bs)
 
 abbrev pub outcomeOf : Assigned → Outcome
 outcomeOf Done = Outcome.done
@@ -94,13 +93,14 @@ afterAssigning Outcome.done x = x
 afterAssigning (Outcome.stray s) x = refuse (StrayVariable s)
 afterAssigning (Outcome.repeated s) x = refuse (RepeatedVariable s)
 
--- the values that the literals xs give to v variables, one after the other
+-- v variables without values
 abbrev pub noValues : ℕ → List ℕ
 noValues v = replicate v 2
 
 abbrev pub assignedResult : Program → List ℕ → ℕ → Result CheckRefusal
 assignedResult P t e =
-    afterAssigning (assignedOf (varTotal P) (literalsFrom t e) (noValues (varTotal P))) (judged P (assignedBytes (varTotal P) (literalsFrom t e) (noValues (varTotal P))))
+    afterAssigning (assignedOf (varTotal P) (literalsFrom t e) (noValues (varTotal P)))
+    (completedResult P (assignedBytes (varTotal P) (literalsFrom t e) (noValues (varTotal P))))
 
 abbrev pub formResult : Program → List ℕ → Formed → Result CheckRefusal
 formResult P t (Malformed s) = refuse (MalformedAnswer s)
@@ -122,7 +122,7 @@ afterReading Accepted x = x
 afterReading (TextRefused r) x = refuse (Text r)
 
 abbrev pub verdictOf : ℕ → Result CheckRefusal → CheckVerdict
-verdictOf n (Result.accepted bs ls) = Model (trueCount n bs) (highest n (levelIn ls))
+verdictOf n (Result.accepted c bs ls) = Model (trueCount n bs) (highest n (levelIn ls)) c
 verdictOf n (Result.refused r) = Refused r
 
 -- of program P, the result x is answered by r and leaves the buffers b and l as c and m

@@ -1,9 +1,9 @@
-// The check of a solver answer against a program (document 01, "Check and filling out").
+// The check of a solver answer against a program (document 01, "Check and filling out"; document 02, Q-3).
 use answer_reader::Formed;
 use assigning::Assigned;
-use assigning::copy_first;
+use assigning::Read;
+use assigning::copy_completed;
 use assigning::fill;
-use assigning::first_unset;
 use assigning::read_form;
 use program::Program;
 use program::ReadVerdict;
@@ -25,7 +25,7 @@ ghost use lib.ListN.{length, take};
 ghost use Rattle.reader_laws.specs.Decoded.{decoded};
 ghost use Rattle.program.specs.declared.ReadVerdict.the-variants.{Accepted};
 ghost use Rattle.tables.specs.Tables.{Stored, programIn, Ready};
-ghost use Rattle.assigning.specs.Assign.{filledWith};
+ghost use Rattle.assigning.specs.Assign.{completed, filledWith};
 ghost use Rattle.checking.specs.declared.CheckVerdict.the-variants.{Refused};
 ghost use Rattle.results.specs.Results.{programOf};
 ghost use Rattle.checking.specs.Check.{checkNumber, checkSpot, Gives, judged, outcomeOf, afterAssigning, checkResult, readResult, checkAnswer, checkAssignment, checkLevels};
@@ -39,13 +39,12 @@ pub enum CheckRefusal {
     NoModelOffered,
     StrayVariable(usize),
     RepeatedVariable(usize),
-    MissingVariable(usize),
     FalseClause(usize),
 }
 
-// How many atoms are true, and the highest level; or a refusal.
+// How many atoms are true, the highest level, and how many variables the answer left out, which are read as false; or a refusal.
 pub enum CheckVerdict {
-    Model(usize, usize),
+    Model(usize, usize, usize),
     Refused(CheckRefusal),
 }
 
@@ -58,7 +57,7 @@ fn zeroed(r: CheckRefusal, v: usize, assignment: &mut [u8]) -> CheckVerdict
     CheckVerdict::Refused(r)
 }
 
-// Rows 15 and 16, for the values that stand in the assignment.
+// Row 16, for the values that stand in the assignment, `assumed` of which are assumed.
 fn judge<'a>(
     t: Totals,
     heads: &'a [u16],
@@ -67,16 +66,13 @@ fn judge<'a>(
     before: &'a [u16],
     partners: &'a [u16],
     owners: &'a [u16],
+    assumed: usize,
     assignment: &mut [u8],
     levels: &mut [u8],
 ) -> CheckVerdict
     requires { ⌜ (Ready t (now heads) (now starts) (now bodies) (now before) (now partners) (now owners)) × (t .vars ≤ length (now assignment)) × (t .sizes .n ≤ length (now levels)) ⌝ }
-    ensures { λ r. ⌜ Gives (programIn (t .sizes) (now (heads .entry)) (now (starts .entry)) (now (bodies .entry))) (judged (programIn (t .sizes) (now (heads .entry)) (now (starts .entry)) (now (bodies .entry))) (take (t .vars) (now (assignment .entry)))) r (now (assignment .entry)) (now (assignment .exit)) (now (levels .entry)) (now (levels .exit)) ⌝ }
+    ensures { λ r. ⌜ Gives (programIn (t .sizes) (now (heads .entry)) (now (starts .entry)) (now (bodies .entry))) (judged (programIn (t .sizes) (now (heads .entry)) (now (starts .entry)) (now (bodies .entry))) assumed (take (t .vars) (now (assignment .entry)))) r (now (assignment .entry)) (now (assignment .exit)) (now (levels .entry)) (now (levels .exit)) ⌝ }
 {
-    let u = first_unset(&*assignment, t.vars);
-    if 0 < u {
-        return zeroed(CheckRefusal::MissingVariable(u), t.vars, &mut *assignment);
-    }
     let j = first_false(
         t,
         heads,
@@ -92,10 +88,14 @@ fn judge<'a>(
     }
     put_counters(t.sizes, &*assignment, &mut *levels);
     let n = t.sizes.n;
-    CheckVerdict::Model(true_count(n, &*assignment), highest_of(n, &*levels))
+    CheckVerdict::Model(
+        true_count(n, &*assignment),
+        highest_of(n, &*levels),
+        assumed,
+    )
 }
 
-// Rows 13 and 14, by how the literals were assigned, then these, for the values that the literals gave.
+// Rows 13 and 14, by how the literals of the answer read were assigned, then these, for the values that they gave, completed.
 fn assigned<'a>(
     t: Totals,
     heads: &'a [u16],
@@ -104,17 +104,18 @@ fn assigned<'a>(
     before: &'a [u16],
     partners: &'a [u16],
     owners: &'a [u16],
-    o: Assigned,
+    x: Read,
     values: &'a [u8],
     assignment: &mut [u8],
     levels: &mut [u8],
 ) -> CheckVerdict
     requires { ⌜ (Ready t (now heads) (now starts) (now bodies) (now before) (now partners) (now owners)) × (t .vars ≤ length (now values)) × (t .vars ≤ length (now assignment)) × (t .sizes .n ≤ length (now levels)) ⌝ }
-    ensures { λ r. ⌜ Gives (programIn (t .sizes) (now (heads .entry)) (now (starts .entry)) (now (bodies .entry))) (afterAssigning (outcomeOf o) (judged (programIn (t .sizes) (now (heads .entry)) (now (starts .entry)) (now (bodies .entry))) (take (t .vars) (now (values .entry))))) r (now (assignment .entry)) (now (assignment .exit)) (now (levels .entry)) (now (levels .exit)) ⌝ }
+    ensures { λ r. ⌜ Gives (programIn (t .sizes) (now (heads .entry)) (now (starts .entry)) (now (bodies .entry))) (afterAssigning (outcomeOf (x .outcome)) (judged (programIn (t .sizes) (now (heads .entry)) (now (starts .entry)) (now (bodies .entry))) (x .assumed) (completed (take (t .vars) (now (values .entry)))))) r (now (assignment .entry)) (now (assignment .exit)) (now (levels .entry)) (now (levels .exit)) ⌝ }
 {
+    let o = x.outcome;
     match o {
         Assigned::Done => {
-            copy_first(values, t.vars, &mut *assignment);
+            copy_completed(values, t.vars, &mut *assignment);
             judge(
                 t,
                 heads,
@@ -123,6 +124,7 @@ fn assigned<'a>(
                 before,
                 partners,
                 owners,
+                x.assumed,
                 &mut *assignment,
                 &mut *levels,
             )
@@ -165,7 +167,6 @@ fn check_in<'a>(
     let mut values = [2u8; 9890];
     let x = read_form(answer, t.vars, &mut values);
     let f = x.form;
-    let o = x.outcome;
     match f {
         Formed::Malformed(s) => CheckVerdict::Refused(CheckRefusal::MalformedAnswer(s)),
         Formed::NoModel => CheckVerdict::Refused(CheckRefusal::NoModelOffered),
@@ -177,7 +178,7 @@ fn check_in<'a>(
             before,
             partners,
             owners,
-            o,
+            x,
             &values,
             &mut *assignment,
             &mut *levels,
@@ -233,8 +234,8 @@ pub fn check_read(
     }
 }
 
-// Whether the answer shows a stable model of the program: how many atoms are true, and the highest level; the assignment and the levels are written.
-// Refusals 13 to 16 zero the assignment; the others write nothing. Bytes past V and n stay.
+// Whether the answer shows a stable model of the program: how many atoms are true, the highest level, and how many variables were left out and read as
+// false; the assignment and the levels are written. Refusals 13, 14 and 16 zero the assignment; the others write nothing. Bytes past V and n stay.
 pub fn check(text: &[u8], answer: &[u8], assignment: &mut [u8], levels: &mut [u8]) -> CheckVerdict
     ensures { λ r. ⌜ (r ≡ checkAnswer (now (text .entry)) (now (answer .entry)) (length (now (assignment .entry))) (length (now (levels .entry)))) × (now (assignment .exit) ≡ checkAssignment (now (text .entry)) (now (answer .entry)) (now (assignment .entry)) (length (now (levels .entry)))) × (now (levels .exit) ≡ checkLevels (now (text .entry)) (now (answer .entry)) (length (now (assignment .entry))) (now (levels .entry))) ⌝ }
 {
@@ -254,7 +255,6 @@ pub fn check_number_of(r: CheckRefusal) -> u8
         CheckRefusal::NoModelOffered => 12,
         CheckRefusal::StrayVariable(s) => 13,
         CheckRefusal::RepeatedVariable(s) => 14,
-        CheckRefusal::MissingVariable(v) => 15,
         CheckRefusal::FalseClause(j) => 16,
     }
 }
@@ -271,7 +271,6 @@ pub fn check_spot_of(r: CheckRefusal) -> usize
         CheckRefusal::NoModelOffered => 0,
         CheckRefusal::StrayVariable(s) => s,
         CheckRefusal::RepeatedVariable(s) => s,
-        CheckRefusal::MissingVariable(v) => v,
         CheckRefusal::FalseClause(j) => j,
     }
 }

@@ -36,9 +36,9 @@ use Rattle.reader_laws.specs.Row.{Admitted}
 use Rattle.reader_laws.proofs.Unique.{text-unique}
 use Rattle.answers.specs.Reading.{Spotted, spotsOf}
 use Rattle.offering.specs.Offered.{valueBytes, valuesOf, literalsFor, offered, offeredText}
-use Rattle.assigning.specs.Rows.{Once}
+use Rattle.assigning.specs.Rows.{AllFit}
 use Rattle.offering.proofs.Values.{values-length}
-use Rattle.offering.proofs.Offers.{offered-proper, offered-fits, offered-spots, offered-once, offered-values}
+use Rattle.offering.proofs.Offers.{offered-proper, offered-fits, offered-spots, offered-fit, offered-values}
 use Rattle.table_laws.proofs.Bounds.{variables-fit}
 use Rattle.truth.specs.Truth.{valueIn}
 use Rattle.stages.specs.Levels.{setIn}
@@ -46,7 +46,7 @@ use Rattle.results.specs.Results.{varTotal}
 use Rattle.results.proofs.ValueBytes.{value-same}
 use Rattle.checking.specs.declared.CheckVerdict.the-variants.{Model}
 use Rattle.checking.specs.Check.{checkAnswer, checkAssignment, checkLevels}
-use Rattle.checking.specs.Rows.{Offers, trueNumber, levelsOf, clauseOf, clauseNumber, EachTrue, Shows, ModelWritten}
+use Rattle.checking.specs.Rows.{Offers, assumedNumber, trueNumber, levelsOf, clauseOf, clauseNumber, EachTrue, Shows, ModelWritten}
 use Rattle.checking.proofs.Spots.{offers-unique}
 use Rattle.checking.proofs.Verdicts.{model-offers, true-accepted}
 use Rattle.checking.proofs.Buffers.{shows-writes}
@@ -84,8 +84,8 @@ module _ (t : List ℕ) (P : Program) (A : Admitted t P) where
   -- ---- an answer that is accepted
 
   module _ (u : List ℕ) (xs : List Spotted) (o : Offers u xs) where
-    shows : (a l k h : ℕ) → checkAnswer t u a l ≡ Model k h → Shows t u a l P xs
-    shows a l k h e = go (model-offers t u a l k h e)
+    shows : (a l k h c : ℕ) → checkAnswer t u a l ≡ Model k h c → Shows t u a l P xs
+    shows a l k h c e = go (model-offers t u a l k h c e)
       where
         go : ((Q : Program) × (ys : List Spotted) × Shows t u a l Q ys) → Shows t u a l P xs
         go (Q, ys, S) =
@@ -98,27 +98,27 @@ module _ (t : List ℕ) (P : Program) (A : Admitted t P) where
         record {
           admitted = S .admitted;
           offers = S .offers;
-          once = S .once;
+          fit = S .fit;
           each-true = S .each-true;
           room = h;
           levels-room = g;
           not-overlong = S .not-overlong;
         }
 
-    -- literals that name each variable once and make each clause true have an accepted assignment
-    abbrev true-assignment : length u ≤ 65536 → Once (varTotal P) xs → EachTrue P xs → {bs : List Bool} → valuesOf (varTotal P) xs ≡ bs → AcceptedAssignment t P bs
-    true-assignment f once e v =
-        let q = true-accepted t u (varTotal P) n P xs A o f once (le-refl (varTotal P)) (le-refl n) e in
-        record { answer = u; literals = xs; offers = o; its-values = v; count = q .0; highest = q .1; accepted = q .2 }
+    -- literals that name no variable above V and none twice, and whose values make each clause true, have an accepted assignment
+    abbrev true-assignment : length u ≤ 65536 → AllFit (varTotal P) xs → EachTrue P xs → {bs : List Bool} → valuesOf (varTotal P) xs ≡ bs → AcceptedAssignment t P bs
+    true-assignment f fit e v =
+        let q = true-accepted t u (varTotal P) n P xs A o f fit (le-refl (varTotal P)) (le-refl n) e in
+        record { answer = u; literals = xs; offers = o; its-values = v; count = q .0; highest = q .1; assumed = q .2; accepted = q .3 }
 
     abbrev pub shows-accepted : {a l : ℕ} → Shows t u a l P xs → AcceptedAssignment t P (valuesOf (varTotal P) xs)
-    shows-accepted S = true-assignment (S .not-overlong) (S .once) (S .each-true) refl
+    shows-accepted S = true-assignment (S .not-overlong) (S .fit) (S .each-true) refl
 
   -- ---- accepted assignments
 
   module _ (bs : List Bool) (X : AcceptedAssignment t P bs) where
     its-shows : Shows t (X .answer) (varTotal P) n P (X .literals)
-    its-shows = shows (X .answer) (X .literals) (X .offers) (varTotal P) n (X .count) (X .highest) (X .accepted)
+    its-shows = shows (X .answer) (X .literals) (X .offers) (varTotal P) n (X .count) (X .highest) (X .assumed) (X .accepted)
 
     pub accepted-true : (length bs ≡ varTotal P) × So (allTrue (valueOf bs) (clauses P w))
     accepted-true = (
@@ -150,11 +150,14 @@ module _ (t : List ℕ) (P : Program) (A : Admitted t P) where
     pub check-writes : (b l : List ℕ) → Room P b l → CheckWrites t P bs X b l
     check-writes b l r = go (shows-writes t (X .answer) b l P (X .literals) (with-room (X .answer) (X .literals) (X .offers) its-shows (length b) (length l) (r .assignment) (r .levels)))
       where
-        go : ((k : ℕ) × (h : ℕ) × (checkAnswer t (X .answer) (length b) (length l) ≡ Model k h) × ModelWritten t (X .answer) b l P (X .literals) k h) → CheckWrites t P bs X b l
-        go (k, h, e, W) =
+        go : ((k : ℕ) × (h : ℕ) × (c : ℕ) × (checkAnswer t (X .answer) (length b) (length l) ≡ Model k h c) × ModelWritten t (X .answer) b l P (X .literals) k h c)
+            → CheckWrites t P bs X b l
+        go (k, h, c, e, W) =
             record {
               answer-is =
-                  e ∙ ap₂ Model (W .count-is ∙ count-is) (W .highest-is ∙ highest-same n (levelsOf P (X .literals)) (level P M) level-is);
+                  e ∙ ap (Model k h) (W .assumed-is)
+                  ∙ ap₂ (λ (x y : ℕ). Model x y (assumedNumber P (X .literals))) (W .count-is ∙ count-is)
+                  (W .highest-is ∙ highest-same n (levelsOf P (X .literals)) (level P M) level-is);
               assignment-is = W .assignment-is ∙ ap (λ (cs : List Bool). valueBytes cs ++ drop (varTotal P) b) (X .its-values);
               levels-are = W .levels-are ∙ ap (λ (ls : List ℕ). ls ++ drop n l) (tab-ext n (levelsOf P (X .literals)) (level P M) level-is);
             }
@@ -190,8 +193,8 @@ module _ (t : List ℕ) (P : Program) (A : Admitted t P) where
     unfolding offeredText
     offers = record { before = []; lines = []; last = literalsFor bs; after = []; is-proper = offered-proper bs; its-text = refl; literals-are = refl }
 
-    once : Once (varTotal P) (spotsOf (offered bs))
-    once = subst (λ (k : ℕ). Once k (spotsOf (offered bs))) size (subst (Once (length bs)) (offered-spots bs) (offered-once bs))
+    fit : AllFit (varTotal P) (spotsOf (offered bs))
+    fit = subst (λ (k : ℕ). AllFit k (spotsOf (offered bs))) size (subst (AllFit (length bs)) (offered-spots bs) (offered-fit bs))
 
     values : valuesOf (varTotal P) (spotsOf (offered bs)) ≡ bs
     values = ap₂ valuesOf (sym size) (sym (offered-spots bs)) ∙ offered-values bs
@@ -200,7 +203,7 @@ module _ (t : List ℕ) (P : Program) (A : Admitted t P) where
     fits = offered-fits bs (subst (λ (k : ℕ). k ≤ 9890) (sym size) (variables-fit P (A .limits)))
 
     pub stable-accepted : AcceptedAssignment t P bs
-    stable-accepted = true-assignment (offeredText bs) (spotsOf (offered bs)) offers fits once true-each values
+    stable-accepted = true-assignment (offeredText bs) (spotsOf (offered bs)) offers fits fit true-each values
       where
         true-each : EachTrue P (spotsOf (offered bs))
         true-each j p h = subst (λ (cs : List Bool). So (clauseTrue (valueOf cs) (clauseOf P j))) (sym values) (each-true P bs (Base.fill-true P w form wide M σ) j p h)

@@ -1,5 +1,6 @@
 -- Levels without gaps (document 02, Q-6), in the bytes that an accepted call writes.
---   gaps-written   the values and level numbers of a stable model, as bytes in two buffers
+--   value-in, level-in   the values and level numbers of a stable model, read from the bytes of two buffers
+--   gaps-written   so these have no gap
 --   check-gaps     so of every check that accepts
 --   fill-gaps      and of every filling out that accepts
 -- Assumes nothing.
@@ -44,13 +45,13 @@ module _ (P : Program) (form : So (wellFormed P)) (M : Atoms) (σ : Stable P M) 
   n = P .atoms
 
   module _ {c m : List ℕ} (x y : List ℕ) (values-are : c ≡ valueBytes bs ++ x) (levels-are : m ≡ tab n (level P M) ++ y) where
-    value-in : (a : ℕ) → So (isAtom n a) → valueIn c a ≡ valueOf bs a
+    pub value-in : (a : ℕ) → So (isAtom n a) → valueIn c a ≡ valueOf bs a
     value-in =
         by-place n (λ a. valueIn c a ≡ valueOf bs a)
         (λ a h. ap (λ (vs : List ℕ). valueIn vs (suc a)) values-are
         ∙ value-here (valueBytes bs) x a (omega (arith, h, atoms-within P, size, length-map {B = ℕ} bs (λ b. cond b 1 0))) ∙ value-same bs (suc a))
 
-    level-in : (a : ℕ) → So (isAtom n a) → levelIn m a ≡ level P M a
+    pub level-in : (a : ℕ) → So (isAtom n a) → levelIn m a ≡ level P M a
     level-in a i = ap (λ (ls : List ℕ). levelIn ls a) levels-are ∙ level-here n (level P M) y a i
 
     gaps-written : {k h : ℕ} → k ≡ sum n (λ a. cond (M a) 1 0) → h ≡ highest n (level P M) → WithoutGaps (setIn n c) (levelIn m) k h
@@ -72,9 +73,9 @@ module _ (P : Program) (form : So (wellFormed P)) (M : Atoms) (σ : Stable P M) 
 abbrev InBytes : (t c m : List ℕ) → ℕ → ℕ → Type 0
 InBytes t c m k h = (P : Program) × Admitted t P × WithoutGaps (setIn (P .atoms) c) (levelIn m) k h
 
-pub check-gaps : (t u b l : List ℕ) (k h : ℕ) → checkAnswer t u (length b) (length l) ≡ Model k h
+pub check-gaps : (t u b l : List ℕ) (k h c : ℕ) → checkAnswer t u (length b) (length l) ≡ Model k h c
     → InBytes t (checkAssignment t u b (length l)) (checkLevels t u (length b) l) k h
-check-gaps t u b l k h e = go (model-offers t u (length b) (length l) k h e)
+check-gaps t u b l k h c e = go (model-offers t u (length b) (length l) k h c e)
   where
     go : ((P : Program) × (xs : List Spotted) × Shows t u (length b) (length l) P xs) → InBytes t (checkAssignment t u b (length l)) (checkLevels t u (length b) l) k h
     go (P, xs, S) =

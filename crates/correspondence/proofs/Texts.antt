@@ -1,5 +1,6 @@
 -- The correspondence over texts, answers and bytes.
---   checked-exactly   an answer that names each variable once is accepted exactly if each clause from 1 to C is true under its assignment
+--   checked-exactly   an answer that names no variable above V and none twice is accepted exactly if each clause from 1 to C is true under its assignment,
+--                     completed
 --   line-prints       the bytes that the line call writes for j are the print of clause j
 --   level-bytes       for each atom the counter, the level byte written and the level number are equal
 --   level-of-false    and 0 for a false atom
@@ -29,7 +30,7 @@ use Rattle.reader_laws.proofs.Rows.{accepted-none}
 use Rattle.reader_laws.proofs.Contents.{admitted-answer}
 use Rattle.answers.specs.Reading.{Spotted}
 use Rattle.offering.specs.Offered.{valuesOf}
-use Rattle.assigning.specs.Rows.{Once}
+use Rattle.assigning.specs.Rows.{AllFit}
 use Rattle.runs.specs.Lines.{clauseTotal, lineOf}
 use Rattle.lines.specs.Lines.{lineBytes}
 use Rattle.lines.specs.Rows.{LineRow, of-text, short-buffer, no-such-clause}
@@ -39,9 +40,8 @@ use Rattle.lines.proofs.File as File
 use Rattle.stages.specs.Levels.{setIn}
 use Rattle.results.specs.Results.{levelIn, varTotal}
 use Rattle.results.proofs.ValueBytes.{level-here}
-use Rattle.checking.specs.declared.CheckVerdict.the-variants.{Model}
-use Rattle.checking.specs.Check.{checkAnswer, checkLevels}
-use Rattle.checking.specs.Rows.{Offers, clauseOf, clauseNumber}
+use Rattle.checking.specs.Check.{checkLevels}
+use Rattle.checking.specs.Rows.{Offers, clauseOf, clauseNumber, Accepts}
 use Rattle.checking.proofs.Verdicts as Verdicts
 use Rattle.filling_out.specs.Rows.{FillAccepts, Fills}
 use Rattle.filling_out.proofs.Written.{fill-accepted, stable-fills}
@@ -56,12 +56,12 @@ module _ (t : List ℕ) (P : Program) (A : Admitted t P) where
   total : clauseTotal P ≡ clauseNumber P
   total = File.clause-total P (A .limits)
 
-  module _ (u : List ℕ) (xs : List Spotted) (o : Offers u xs) (short : length u ≤ 65536) (once : Once (varTotal P) xs) (b l : List ℕ) (r : Room P b l) where
-    pub checked-exactly : ((k : ℕ) × (h : ℕ) × (checkAnswer t u (length b) (length l) ≡ Model k h))
+  module _ (u : List ℕ) (xs : List Spotted) (o : Offers u xs) (short : length u ≤ 65536) (fit : AllFit (varTotal P) xs) (b l : List ℕ) (r : Room P b l) where
+    pub checked-exactly : Accepts t u (length b) (length l)
         ↔ ((j : ℕ) → 0 < j → j ≤ clauseTotal P → So (clauseTrue (valueOf (valuesOf (varTotal P) xs)) (clauseOf P j)))
     checked-exactly = (
-      λ e. λ j p h. Verdicts.accepted-true t u (length b) (length l) P xs A o short once (r .assignment) (r .levels) (e .0) (e .1) (e .2) j p (subst (λ (c : ℕ). j ≤ c) total h),
-      λ f. Verdicts.true-accepted t u (length b) (length l) P xs A o short once (r .assignment) (r .levels) (λ j p h. f j p (subst (λ (c : ℕ). j ≤ c) (sym total) h)),
+      λ e. λ j p h. Verdicts.accepted-true t u (length b) (length l) P xs A o short fit (r .assignment) (r .levels) (e .0) (e .1) (e .2) (e .3) j p (subst (λ (c : ℕ). j ≤ c) total h),
+      λ f. Verdicts.true-accepted t u (length b) (length l) P xs A o short fit (r .assignment) (r .levels) (λ j p h. f j p (subst (λ (c : ℕ). j ≤ c) (sym total) h)),
     )
 
   -- ---- lines

@@ -1,5 +1,5 @@
 -- Accepted assignments (document 01, "Check and filling out"): lists of values, over the texts of programs and answers.
---   AcceptedAssignment t P bs   the check accepts, for the program text t of P, an answer that has the values bs
+--   AcceptedAssignment t P bs   the check accepts, for the program text t of P, an answer that has the values bs, completed
 --   Room P b l                  the buffers b and l have room for the assignment and the levels
 --   CheckWrites                 what the check of an answer with an accepted assignment returns and writes
 --   setBytes n M                a set of atoms as bytes, one for each atom
@@ -20,7 +20,7 @@ use Rattle.stages.specs.Levels.{setIn}
 use Rattle.checking.specs.declared.CheckVerdict.the-variants.{Model}
 use Rattle.results.specs.Results.{varTotal}
 use Rattle.checking.specs.Check.{checkAnswer, checkAssignment, checkLevels}
-use Rattle.checking.specs.Rows.{Offers}
+use Rattle.checking.specs.Rows.{Offers, assumedNumber}
 
 pub record AcceptedAssignment (t : List ℕ) (P : Program) (bs : List Bool) : Type 0 where
   pub answer : List ℕ
@@ -30,17 +30,18 @@ pub record AcceptedAssignment (t : List ℕ) (P : Program) (bs : List Bool) : Ty
   -- with buffers of V and n bytes
   pub count : ℕ
   pub highest : ℕ
-  pub accepted : checkAnswer t answer (varTotal P) (P .atoms) ≡ Model count highest
+  pub assumed : ℕ
+  pub accepted : checkAnswer t answer (varTotal P) (P .atoms) ≡ Model count highest assumed
 
 pub record Room (P : Program) (b l : List ℕ) : Type 0 where
   pub assignment : varTotal P ≤ length b
   pub levels : P .atoms ≤ length l
 
--- the check of an answer with the accepted assignment bs: how many atoms are true, the highest level number, the values and the level numbers; the bytes
--- behind them stay
+-- the check of an answer with the accepted assignment bs: how many atoms are true, the highest level number, how many variables the answer leaves out, the
+-- values and the level numbers; the bytes behind them stay
 pub record CheckWrites (t : List ℕ) (P : Program) (bs : List Bool) (X : AcceptedAssignment t P bs) (b l : List ℕ) : Type 0 where
   pub answer-is : checkAnswer t (X .answer) (length b) (length l)
-      ≡ Model (sum (P .atoms) (λ a. cond (trueAtoms P bs a) 1 0)) (highestOf (P .atoms) (level P (trueAtoms P bs)))
+      ≡ Model (sum (P .atoms) (λ a. cond (trueAtoms P bs a) 1 0)) (highestOf (P .atoms) (level P (trueAtoms P bs))) (assumedNumber P (X .literals))
   pub assignment-is : checkAssignment t (X .answer) b (length l) ≡ valueBytes bs ++ drop (varTotal P) b
   pub levels-are : checkLevels t (X .answer) (length b) l ≡ tab (P .atoms) (level P (trueAtoms P bs)) ++ drop (P .atoms) l
 

@@ -20,9 +20,9 @@ told f q e = e ∙ sym (ap f q)
 pub numbered : {i j s u : ℕ} {r : Reply} → i ≡ j → s ≡ u → r ≡ refusedReply i s → r ≡ refusedReply j u
 numbered e f q = q ∙ ap₂ refusedReply e f
 
-pub totalled : (P : Program) {t : Totals} {r : Reply} → t ≡ totalsOf P → r ≡ acceptedReply (t .vars) (t .clauses) → r ≡ totalsReply P
+pub totalled : (P : Program) {t : Totals} {r : Reply} → t ≡ totalsOf P → r ≡ acceptedReply (t .vars) (t .clauses) 0 → r ≡ totalsReply P
 unfolding totalsOf
-totalled P e q = q ∙ ap (λ (x : Totals). acceptedReply (x .vars) (x .clauses)) e
+totalled P e q = q ∙ ap (λ (x : Totals). acceptedReply (x .vars) (x .clauses) 0) e
 
 module _ (t : List ℕ) {x : Reading} (e : x ≡ readOf t) {r : Reply} where
   pub reading-told : {v : ReadVerdict} → x .verdict ≡ v → r ≡ ofReading v (decoded (x .program)) → r ≡ readReply t

@@ -20,10 +20,11 @@ use Rattle.lines.specs.declared.RunVerdict.{RunVerdict}
 use Rattle.lines.specs.declared.RunVerdict.the-variants.{WrittenRun, RefusedRun}
 use Rattle.lines.specs.Lines.{lineNumber, lineAnswer, runAnswer}
 use Rattle.checking.specs.declared.CheckRefusal.{CheckRefusal}
-use Rattle.checking.specs.declared.CheckRefusal.the-variants.{Text as CheckText, ShortBuffer as CheckShort, OverlongAnswer, MalformedAnswer, NoModelOffered, StrayVariable, RepeatedVariable, MissingVariable, FalseClause}
+use Rattle.checking.specs.declared.CheckRefusal.the-variants.{Text as CheckText, ShortBuffer as CheckShort, OverlongAnswer, MalformedAnswer, NoModelOffered, StrayVariable, RepeatedVariable, FalseClause}
 use Rattle.checking.specs.declared.CheckVerdict.{CheckVerdict}
 use Rattle.checking.specs.declared.CheckVerdict.the-variants.{Model, Refused as CheckRefused}
 use Rattle.checking.specs.Check.{checkNumber, checkAnswer}
+use Rattle.checking.specs.Rows.{Accepts}
 use Rattle.filling_out.specs.declared.FillRefusal.{FillRefusal}
 use Rattle.filling_out.specs.declared.FillRefusal.the-variants.{Text as FillText, ShortBuffer as FillShort, BadSet, Unfounded}
 use Rattle.filling_out.specs.declared.FillVerdict.{FillVerdict}
@@ -55,7 +56,6 @@ check-some (MalformedAnswer s) e = omega (arith, e)
 check-some NoModelOffered e = omega (arith, e)
 check-some (StrayVariable s) e = omega (arith, e)
 check-some (RepeatedVariable s) e = omega (arith, e)
-check-some (MissingVariable v) e = omega (arith, e)
 check-some (FalseClause j) e = omega (arith, e)
 
 fill-some : (r : FillRefusal) → fillNumber r ≡ 0 → ⊥
@@ -78,8 +78,8 @@ of-run : (v : RunVerdict) → ofRun v .number ≡ 0 → (m : ℕ) × (n : ℕ) �
 of-run (WrittenRun m n) e = (m, n, refl)
 of-run (RefusedRun r) e = absurd (line-some r e)
 
-of-check : (v : CheckVerdict) → ofCheck v .number ≡ 0 → (k : ℕ) × (h : ℕ) × (v ≡ Model k h)
-of-check (Model k h) e = (k, h, refl)
+of-check : (v : CheckVerdict) → ofCheck v .number ≡ 0 → (k : ℕ) × (h : ℕ) × (c : ℕ) × (v ≡ Model k h c)
+of-check (Model k h c) e = (k, h, c, refl)
 of-check (CheckRefused r) e = absurd (check-some r e)
 
 of-fill : (v : FillVerdict) → ofFill v .number ≡ 0 → (k : ℕ) × (h : ℕ) × (v ≡ Filled k h)
@@ -101,9 +101,9 @@ pub run-zero : (t : List ℕ) (j n : ℕ) → (runReply t j n .number ≡ 0) ↔
 unfolding runReply
 run-zero t j n = (of-run (runAnswer t j n), λ e. ap (λ (v : RunVerdict). ofRun v .number) (e .2))
 
-pub check-zero : (t u : List ℕ) (a l : ℕ) → (checkReply t u a l .number ≡ 0) ↔ ((k : ℕ) × (h : ℕ) × (checkAnswer t u a l ≡ Model k h))
+pub check-zero : (t u : List ℕ) (a l : ℕ) → (checkReply t u a l .number ≡ 0) ↔ Accepts t u a l
 unfolding checkReply
-check-zero t u a l = (of-check (checkAnswer t u a l), λ e. ap (λ (v : CheckVerdict). ofCheck v .number) (e .2))
+check-zero t u a l = (of-check (checkAnswer t u a l), λ e. ap (λ (v : CheckVerdict). ofCheck v .number) (e .3))
 
 pub fill-zero : (t s : List ℕ) (a l : ℕ) → (fillReply t s a l .number ≡ 0) ↔ ((k : ℕ) × (h : ℕ) × (fillAnswer t s a l ≡ Filled k h))
 unfolding fillReply

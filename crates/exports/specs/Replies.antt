@@ -1,8 +1,9 @@
 -- The replies of the functions that other languages call: a refusal's number and spot by document 01's table ("Verdicts"), both 0 for acceptance, and the
--- two numbers of an accepted call, a and b, 0 where there is none. What a call writes is said by the definitions of the call that it is made of.
---   acceptedReply a b, refusedReply r s   the two kinds of reply
+-- numbers of an accepted call, a, b and c, 0 where there is none; d is 0. What a call writes is said by the definitions of the call that it is made of.
+--   acceptedReply a b c, refusedReply r s   the two kinds of reply
 --   totalsReply P             V and C of the program P
---   ofLine, ofRun, ofCheck, ofFill   the reply for a verdict: a line's length; lines and bytes; true atoms and highest level, twice
+--   ofLine, ofRun, ofCheck, ofFill   the reply for a verdict: a line's length; lines and bytes; true atoms and highest level, twice, and for the check how many
+--                             variables were left out
 --   readReply t               the reply for the text t
 --   lineReply t j k n         for line j of text t, into n bytes from place k on
 --   runReply t j n            for the lines from line j on, into n bytes
@@ -31,35 +32,35 @@ use Rattle.filling_out.specs.declared.FillVerdict.the-variants.{Filled, Refused
 use Rattle.filling_out.specs.FillOut.{fillNumber, fillSpot, fillAnswer}
 use Rattle.exports.specs.declared.Reply.{Reply}
 
-abbrev pub acceptedReply : ℕ → ℕ → Reply
-acceptedReply a b = record { number = 0; spot = 0; a = a; b = b }
+abbrev pub acceptedReply : ℕ → ℕ → ℕ → Reply
+acceptedReply a b c = record { number = 0; spot = 0; a = a; b = b; c = c; d = 0 }
 
 abbrev pub refusedReply : ℕ → ℕ → Reply
-refusedReply r s = record { number = r; spot = s; a = 0; b = 0 }
+refusedReply r s = record { number = r; spot = s; a = 0; b = 0; c = 0; d = 0 }
 
 -- ---- from a verdict
 
 abbrev pub totalsReply : Program → Reply
-totalsReply P = acceptedReply (varTotal P) (clauseTotal P)
+totalsReply P = acceptedReply (varTotal P) (clauseTotal P) 0
 
 abbrev pub ofReading : ReadVerdict → Program → Reply
 ofReading Accepted P = totalsReply P
 ofReading (TextRefused r) P = refusedReply (textNumber r) (textSpot r)
 
 abbrev pub ofLine : LineVerdict → Reply
-ofLine (Written n) = acceptedReply n 0
+ofLine (Written n) = acceptedReply n 0 0
 ofLine (LineRefused r) = refusedReply (lineNumber r) (lineSpot r)
 
 abbrev pub ofRun : RunVerdict → Reply
-ofRun (WrittenRun m n) = acceptedReply m n
+ofRun (WrittenRun m n) = acceptedReply m n 0
 ofRun (RefusedRun r) = refusedReply (lineNumber r) (lineSpot r)
 
 abbrev pub ofCheck : CheckVerdict → Reply
-ofCheck (Model k h) = acceptedReply k h
+ofCheck (Model k h c) = acceptedReply k h c
 ofCheck (CheckRefused r) = refusedReply (checkNumber r) (checkSpot r)
 
 abbrev pub ofFill : FillVerdict → Reply
-ofFill (Filled k h) = acceptedReply k h
+ofFill (Filled k h) = acceptedReply k h 0
 ofFill (FillRefused r) = refusedReply (fillNumber r) (fillSpot r)
 
 -- ---- of a call

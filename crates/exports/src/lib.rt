@@ -29,23 +29,27 @@ ghost use Rattle.checking.specs.Check.{checkAssignment, checkLevels};
 ghost use Rattle.filling_out.specs.FillOut.{fillAssignment, fillLevels};
 ghost use Rattle.exports.specs.Replies.{acceptedReply, refusedReply, totalsReply, ofLine, ofRun, ofCheck, ofFill, readReply, lineReply, runReply, checkReply, fillReply};
 
-// The row's number and the spot of a refusal, both 0 for acceptance; and the two numbers that an accepted call gives.
+// The row's number and the spot of a refusal, both 0 for acceptance; and the numbers that an accepted call gives, 0 where it gives none.
 #[repr(C)]
 pub struct Reply {
     pub number: u64,
     pub spot: u64,
     pub a: u64,
     pub b: u64,
+    pub c: u64,
+    pub d: u64,
 }
 
-fn accepted(a: usize, b: usize) -> Reply
-    ensures { λ r. ⌜ r ≡ acceptedReply a b ⌝ }
+fn accepted(a: usize, b: usize, c: usize) -> Reply
+    ensures { λ r. ⌜ r ≡ acceptedReply a b c ⌝ }
 {
     Reply {
         number: 0,
         spot: 0,
         a: a as u64,
         b: b as u64,
+        c: c as u64,
+        d: 0,
     }
 }
 
@@ -57,6 +61,8 @@ fn refused(number: u8, spot: usize) -> Reply
         spot: spot as u64,
         a: 0,
         b: 0,
+        c: 0,
+        d: 0,
     }
 }
 
@@ -67,14 +73,14 @@ fn of_program(p: Program) -> Reply
 {
     let k = pairs_of(p);
     let t = totals_of(p, k.count, k.empty);
-    accepted(t.vars, t.clauses)
+    accepted(t.vars, t.clauses, 0)
 }
 
 fn of_line(v: LineVerdict) -> Reply
     ensures { λ r. ⌜ r ≡ ofLine v ⌝ }
 {
     match v {
-        LineVerdict::Written(n) => accepted(n, 0),
+        LineVerdict::Written(n) => accepted(n, 0, 0),
         LineVerdict::Refused(x) => refused(line_number_of(x), line_spot_of(x)),
     }
 }
@@ -83,7 +89,7 @@ fn of_run(v: RunVerdict) -> Reply
     ensures { λ r. ⌜ r ≡ ofRun v ⌝ }
 {
     match v {
-        RunVerdict::WrittenRun(m, n) => accepted(m, n),
+        RunVerdict::WrittenRun(m, n) => accepted(m, n, 0),
         RunVerdict::RefusedRun(x) => refused(line_number_of(x), line_spot_of(x)),
     }
 }
@@ -92,7 +98,7 @@ fn of_check(v: CheckVerdict) -> Reply
     ensures { λ r. ⌜ r ≡ ofCheck v ⌝ }
 {
     match v {
-        CheckVerdict::Model(k, h) => accepted(k, h),
+        CheckVerdict::Model(k, h, c) => accepted(k, h, c),
         CheckVerdict::Refused(x) => refused(check_number_of(x), check_spot_of(x)),
     }
 }
@@ -101,7 +107,7 @@ fn of_fill(v: FillVerdict) -> Reply
     ensures { λ r. ⌜ r ≡ ofFill v ⌝ }
 {
     match v {
-        FillVerdict::Filled(k, h) => accepted(k, h),
+        FillVerdict::Filled(k, h) => accepted(k, h, 0),
         FillVerdict::Refused(x) => refused(fill_number_of(x), fill_spot_of(x)),
     }
 }
@@ -137,7 +143,7 @@ pub extern "C" fn qs_run(text: &[u8], j: usize, buf: &mut [u8]) -> Reply
     of_run(v)
 }
 
-// The check of a solver answer: how many atoms are true, and the highest level.
+// The check of a solver answer: how many atoms are true, the highest level, and how many variables the answer left out.
 #[no_mangle]
 pub extern "C" fn qs_check(
     text: &[u8],

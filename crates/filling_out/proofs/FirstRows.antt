@@ -258,7 +258,7 @@ module _ (t s : List ℕ) (a l : ℕ) where
                 at-row 18 (differ P M)
                 (record { place = 6; met = unfounded P A (differ P M) (is-atom (P .atoms) (differ P M) h (differ-le P form M)) (differ-at P form M h); first = go })
                 (refuses (Unfounded (differ P M))
-                (past4 ∙ ap (λ e. cond e (refuse (Unfounded (differ P M))) (Result.accepted (valueBytes (fill P (width (P .atoms)) M)) (tab (P .atoms) (level P M)))) (lt-ltb 0 (differ P M) h)))
+                (past4 ∙ ap (λ e. cond e (refuse (Unfounded (differ P M))) (Result.accepted 0 (valueBytes (fill P (width (P .atoms)) M)) (tab (P .atoms) (level P M)))) (lt-ltb 0 (differ P M) h)))
               where
                 go : (k r u : ℕ) → FillRow t s a l k r u → NotAfter 6 18 (differ P M) k r u
                 go k r u (of-text ρ) = absurd (accepted-none t v r u ρ)
@@ -278,10 +278,10 @@ module _ (t s : List ℕ) (a l : ℕ) where
               pub stable : Stable P M
               stable = decided P form M atoms-alone .0 (omega (arith, h5))
 
-              pub past5 : fillResult P s a l ≡ Result.accepted (valueBytes (fill P (width (P .atoms)) M)) (tab (P .atoms) (level P M))
+              pub past5 : fillResult P s a l ≡ Result.accepted 0 (valueBytes (fill P (width (P .atoms)) M)) (tab (P .atoms) (level P M))
               unfolding foundedResult
               past5 =
-                  past4 ∙ ap (λ e. cond e (refuse (Unfounded (differ P M))) (Result.accepted (valueBytes (fill P (width (P .atoms)) M)) (tab (P .atoms) (level P M)))) (le-ltb 0 (differ P M) h5)
+                  past4 ∙ ap (λ e. cond e (refuse (Unfounded (differ P M))) (Result.accepted 0 (valueBytes (fill P (width (P .atoms)) M)) (tab (P .atoms) (level P M)))) (le-ltb 0 (differ P M) h5)
 
               told6 : Case
               unfolding fillAnswer
@@ -322,7 +322,7 @@ module _ (t s : List ℕ) (a l : ℕ) where
 
     -- a stable set of the right form gives this result
     pub stable-result : varTotal P ≤ a → P .atoms ≤ l → length s ≡ P .atoms → firstBad s ≤ 0 → Stable P (setIn (P .atoms) s)
-        → fillOf t s a l ≡ Result.accepted (valueBytes (fill P (width (P .atoms)) (setIn (P .atoms) s))) (tab (P .atoms) (level P (setIn (P .atoms) s)))
+        → fillOf t s a l ≡ Result.accepted 0 (valueBytes (fill P (width (P .atoms)) (setIn (P .atoms) s))) (tab (P .atoms) (level P (setIn (P .atoms) s)))
     stable-result h1 h2 h3 h4 σ =
         let M = setIn (P .atoms) s in
         let none = decided P (A .limits .all-atoms) M (atoms-alone h1 h2 h3 h4) .1 σ in

@@ -125,9 +125,9 @@ module _ {P : Program} {t : Totals} {hs ss bs ks xs ys : List ℕ} (T : Tabled P
     set-is = ap (λ (k : ℕ). setIn k s) atoms-is
 
     founded-by : {d : Bool} → ltb 0 (differ P M) ≡ d
-        → foundedResult P M ≡ cond d (refuse (Unfounded (differ P M))) (Result.accepted (valueBytes (fill P (width (P .atoms)) M)) (tab (P .atoms) (level P M)))
+        → foundedResult P M ≡ cond d (refuse (Unfounded (differ P M))) (Result.accepted 0 (valueBytes (fill P (width (P .atoms)) M)) (tab (P .atoms) (level P M)))
     unfolding foundedResult
-    founded-by e = ap (λ d. cond d (refuse (Unfounded (differ P M))) (Result.accepted (valueBytes (fill P (width (P .atoms)) M)) (tab (P .atoms) (level P M)))) e
+    founded-by e = ap (λ d. cond d (refuse (Unfounded (differ P M))) (Result.accepted 0 (valueBytes (fill P (width (P .atoms)) M)) (tab (P .atoms) (level P M)))) e
 
     pub found-room : {f : List ℕ} (rest : List ℕ) → f ≡ tab (t .sizes .n) (level P (setIn (t .sizes .n) s)) ++ rest → t .sizes .n ≤ length f
     found-room rest e =

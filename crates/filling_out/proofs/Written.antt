@@ -97,7 +97,7 @@ module _ (t s b l : List ℕ) where
     answer = Filled (sum (P .atoms) (λ a. cond (M a) 1 0)) (highest (P .atoms) (level P M))
 
     module _ (f : Founded s b l P) where
-      result : fillOf t s (length b) (length l) ≡ Result.accepted (valueBytes (fill P (width (P .atoms)) M)) (tab (P .atoms) (level P M))
+      result : fillOf t s (length b) (length l) ≡ Result.accepted 0 (valueBytes (fill P (width (P .atoms)) M)) (tab (P .atoms) (level P M))
       result = stable-result t s (length b) (length l) v (f .room) (f .levels-room) (f .sized) (none-bad s (f .bytes)) (f .stable)
 
       answered : fillAnswer t s (length b) (length l) ≡ answer
@@ -189,5 +189,5 @@ module _ (t s b l : List ℕ) where
     where
       go : (x : Result FillRefusal) → verdictOf (programOf (readOf t) .atoms) x ≡ Refused r
           → (assignmentAfter leaves (varTotal (programOf (readOf t))) x b ≡ b) × (levelsAfter (programOf (readOf t) .atoms) x l ≡ l)
-      go (Result.accepted bs ls) q = absurd (true≢false (ap isFilled q))
+      go (Result.accepted c bs ls) q = absurd (true≢false (ap isFilled q))
       go (Result.refused y) q = (refl, refl)

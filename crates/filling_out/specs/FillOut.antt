@@ -55,7 +55,7 @@ firstBad s = first (length s) (λ i. ltb 1 (getD s (pred i) 0))
 unfoldable pub foundedResult : Program → Atoms → Result FillRefusal
 foundedResult P M =
     cond (ltb 0 (differ P M)) (refuse (Unfounded (differ P M)))
-    (Result.accepted (valueBytes (fill P (width (P .atoms)) M)) (tab (P .atoms) (level P M)))
+    (Result.accepted 0 (valueBytes (fill P (width (P .atoms)) M)) (tab (P .atoms) (level P M)))
 
 abbrev pub setResult : Program → List ℕ → Result FillRefusal
 setResult P s =
@@ -74,7 +74,7 @@ afterReading Accepted x = x
 afterReading (TextRefused r) x = refuse (Text r)
 
 abbrev pub verdictOf : ℕ → Result FillRefusal → FillVerdict
-verdictOf n (Result.accepted bs ls) = Filled (trueCount n bs) (highest n (levelIn ls))
+verdictOf n (Result.accepted c bs ls) = Filled (trueCount n bs) (highest n (levelIn ls))
 verdictOf n (Result.refused r) = Refused r
 
 -- no refusal writes

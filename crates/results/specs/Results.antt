@@ -1,7 +1,8 @@
 -- What the check and filling out write and return (document 01, "Check and filling out" and "Verdicts").
 --   varTotal P             the number of variables of P
 --   programOf r            the program that a reading accepted
---   Result R               accepted, with the values of the variables and the levels of the atoms as bytes; or refused
+--   Result R               accepted, with the number of variables that were left out and read as false (document 02, Q-3), the values of the variables and
+--                          the levels of the atoms as bytes; or refused
 --   trueCount n bs         how many of the atoms 1 to n are true under the values bs
 --   levelIn ls a           the level of atom a in the bytes ls
 --   counters S bs          the counter of each atom under the values bs
@@ -32,7 +33,7 @@ abbrev pub programOf : Reading → Program
 programOf r = decoded (r .program)
 
 pub data Result (R : Type 0) : Type 0 where
-  accepted : (values levels : List ℕ) → Result R
+  accepted : (assumed : ℕ) (values levels : List ℕ) → Result R
   refused : R → Result R
 
 -- ---- what is returned
@@ -49,9 +50,9 @@ abbrev pub counters : Sizes → List ℕ → List ℕ
 counters S bs = tab (S .n) (counter S (valueIn bs))
 
 abbrev pub assignmentAfter : {R : Type 0} → (R → Bool) → ℕ → Result R → List ℕ → List ℕ
-assignmentAfter z v (Result.accepted bs ls) b = bs ++ drop v b
+assignmentAfter z v (Result.accepted c bs ls) b = bs ++ drop v b
 assignmentAfter z v (Result.refused r) b = cond (z r) (filledWith v 0 b) b
 
 abbrev pub levelsAfter : {R : Type 0} → ℕ → Result R → List ℕ → List ℕ
-levelsAfter n (Result.accepted bs ls) b = ls ++ drop n b
+levelsAfter n (Result.accepted c bs ls) b = ls ++ drop n b
 levelsAfter n (Result.refused r) b = b

@@ -1,88 +1,67 @@
+use Rattle.checking.proofs.Rows.{counters-asks, atoms-room, judged-false, judged-accepted}
 use denote.Ref.{now}
-use Rattle.checking.proofs.Rows.{counters-asks, atoms-room, judged-missing, judged-false, judged-accepted}
 use borrow.Author.Needs.{needs}
 use Rattle.checking.proofs.judge.Statement.{statement}
 use Rattle.checking.proofs.judge.Tie as tie
 use Rattle.checking.proofs.judge.Reads as reads
 use Rattle.checking.proofs.judge.Lts as lts
-use Rattle.assigning.proofs.first_unset.Reads as first-unset-reads
 use Rattle.checking.proofs.zeroed.Reads as zeroed-reads
 use Rattle.results.proofs.highest_of.Reads as highest-of-reads
 use Rattle.results.proofs.put_counters.Reads as put-counters-reads
 use Rattle.results.proofs.true_count.Reads as true-count-reads
 use Rattle.truth.proofs.first_false.Reads as first-false-reads
 
--- src/lib.rt:75:9
-first-unset-requires : tie.Need-first-unset-requires
-first-unset-requires c κs = search needs
-
--- src/lib.rt:77:9
-zeroed-requires : tie.Need-zeroed-requires
-zeroed-requires c κs = search needs
-
--- src/lib.rt:77:9
-same-length : tie.Need-same-length
-same-length c = search needs
-
--- src/lib.rt:77:9
-returns : tie.Need-returns
-returns c = judged-missing (c .before .before .before .before .before .before .before .before .before .before .before .before .before .before .before .pre .0) (now (c .before .before .before .before .before .before .before .before .before .before .before .before .before .before .before .args .assignment)) (now (c .before .before .before .before .before .before .before .before .before .before .before .before .before .before .before .args .levels)) (c .before .before .before .before .before .first-unset .ensures) (c .before .before .before .before .if1 .taken) (c .before .before .zeroed .ensures)
-
--- src/lib.rt:79:9
+-- src/lib.rt:76:9
 first-false-requires : tie.Need-first-false-requires
 first-false-requires c κs = search needs
 
--- src/lib.rt:90:9
-zeroed-requires-2 : tie.Need-zeroed-requires-2
-zeroed-requires-2 c κs = search needs
+-- src/lib.rt:87:9
+zeroed-requires : tie.Need-zeroed-requires
+zeroed-requires c κs = search needs
 
--- src/lib.rt:90:9
-same-length-2 : tie.Need-same-length-2
-same-length-2 c = search needs
+-- src/lib.rt:87:9
+same-length : tie.Need-same-length
+same-length c = search needs
 
--- src/lib.rt:90:9
-returns-2 : tie.Need-returns-2
-returns-2 c = judged-false (c .before .before .before .before .before .before .before .before .before .before .before .before .before .before .before .before .before .before .pre .0) (now (c .before .before .before .before .before .before .before .before .before .before .before .before .before .before .before .before .before .before .args .assignment)) (now (c .before .before .before .before .before .before .before .before .before .before .before .before .before .before .before .before .before .before .args .levels)) (c .before .before .before .before .before .before .before .before .first-unset .ensures) (c .before .before .before .before .before .before .before .if1 .left) (c .before .before .before .before .before .first-false .ensures) (c .before .before .before .before .if2 .taken) (c .before .before .zeroed2 .ensures)
+-- src/lib.rt:87:9
+returns : tie.Need-returns
+returns c = judged-false (c .before .before .before .before .before .before .before .before .before .before .before .before .before .before .before .pre .0) (now (c .before .before .before .before .before .before .before .before .before .before .before .before .before .before .before .args .assignment)) (now (c .before .before .before .before .before .before .before .before .before .before .before .before .before .before .before .args .levels)) (c .before .before .before .before .before .before .before .before .before .before .before .before .before .before .before .args .assumed) (c .before .before .before .before .before .first-false .ensures) (c .before .before .before .before .if1 .taken) (c .before .before .zeroed .ensures)
 
--- src/lib.rt:92:5
+-- src/lib.rt:89:5
 put-counters-requires : tie.Need-put-counters-requires
-put-counters-requires c κs = counters-asks (c .before .before .before .before .before .before .before .before .before .before .before .before .before .before .before .before .pre .0) (c .before .before .before .before .before .before .before .before .before .before .before .before .before .before .before .before .pre .1) (c .before .before .before .before .before .before .before .before .before .before .before .before .before .before .before .before .pre .2)
+put-counters-requires c κs = counters-asks (c .before .before .before .before .before .before .before .before .before .before .before .before .before .pre .0) (c .before .before .before .before .before .before .before .before .before .before .before .before .before .pre .1) (c .before .before .before .before .before .before .before .before .before .before .before .before .before .pre .2)
 
--- src/lib.rt:94:25
+-- src/lib.rt:91:25
 true-count-requires : tie.Need-true-count-requires
-true-count-requires c κs = atoms-room (c .before .before .before .before .before .before .before .before .before .before .before .before .before .before .before .before .before .before .before .before .pre .0) (c .before .before .before .before .before .before .before .before .before .before .before .before .before .before .before .before .before .before .before .before .pre .1)
+true-count-requires c κs = atoms-room (c .before .before .before .before .before .before .before .before .before .before .before .before .before .before .before .before .before .pre .0) (c .before .before .before .before .before .before .before .before .before .before .before .before .before .before .before .before .before .pre .1)
 
--- src/lib.rt:94:54
+-- src/lib.rt:91:54
 highest-of-requires : tie.Need-highest-of-requires
 highest-of-requires c κs = search needs
+
+-- src/lib.rt:61:1
+same-length-2 : tie.Need-same-length-2
+same-length-2 c = search needs
 
 -- src/lib.rt:61:1
 same-length-3 : tie.Need-same-length-3
 same-length-3 c = search needs
 
 -- src/lib.rt:61:1
-same-length-4 : tie.Need-same-length-4
-same-length-4 c = search needs
-
--- src/lib.rt:61:1
-returns-3 : tie.Need-returns-3
-returns-3 c = judged-accepted (c .before .before .before .before .before .before .before .before .before .before .before .before .before .before .before .before .before .before .before .before .before .before .before .pre .0) (now (c .before .before .before .before .before .before .before .before .before .before .before .before .before .before .before .before .before .before .before .before .before .before .before .args .assignment)) (now (c .before .before .before .before .before .before .before .before .before .before .before .before .before .before .before .before .before .before .before .before .before .before .before .args .levels)) (c .before .before .before .before .before .before .before .before .before .before .before .before .before .first-unset .ensures) (c .before .before .before .before .before .before .before .before .before .before .before .before .if1 .left) (c .before .before .before .before .before .before .before .before .before .before .first-false .ensures) (c .before .before .before .before .before .before .before .before .before .if2 .left) (c .before .before .before .before .before .before .put-counters .ensures) (c .before .before .true-count .ensures) (c .highest-of .ensures)
+returns-2 : tie.Need-returns-2
+returns-2 c = judged-accepted (c .before .before .before .before .before .before .before .before .before .before .before .before .before .before .before .before .before .before .before .before .pre .0) (now (c .before .before .before .before .before .before .before .before .before .before .before .before .before .before .before .before .before .before .before .before .args .assignment)) (now (c .before .before .before .before .before .before .before .before .before .before .before .before .before .before .before .before .before .before .before .before .args .levels)) (c .before .before .before .before .before .before .before .before .before .before .before .before .before .before .before .before .before .before .before .before .args .assumed) (c .before .before .before .before .before .before .before .before .before .before .first-false .ensures) (c .before .before .before .before .before .before .before .before .before .if1 .left) (c .before .before .before .before .before .before .put-counters .ensures) (c .before .before .true-count .ensures) (c .highest-of .ensures)
 
 pub judge-spec : {M : Type 1} → statement M
 judge-spec =
     tie.close
     (tie.spec
-    first-unset-requires
+    first-false-requires
     zeroed-requires
     same-length
     returns
-    first-false-requires
-    zeroed-requires-2
-    same-length-2
-    returns-2
     put-counters-requires
     true-count-requires
     highest-of-requires
+    same-length-2
     same-length-3
-    same-length-4
-    returns-3)
+    returns-2)
