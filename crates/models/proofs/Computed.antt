@@ -1,10 +1,10 @@
--- Three lines of models, as texts.
+-- Lines of models, as texts.
 -- Assumes nothing.
 use mathlib.Core.Path.{_≡_, refl}
-use mathlib.Core.List.{[], _∷_}
+use mathlib.Core.List.{[], _∷_, map}
 use Rattle.lists.specs.Ascii.{ascii}
 use Rattle.text.specs.Decimal.{decimal}
-use Rattle.models.specs.Model.{modelText}
+use Rattle.models.specs.Model.{modelText, assumedText, shownModel}
 
 -- document 01's fact
 pub model-fact : modelText 1 (1 ∷ 1 ∷ 1 ∷ 1 ∷ 0 ∷ 0 ∷ 1 ∷ []) (1 ∷ []) ≡ ascii "(model (1) (1))\n"
@@ -19,3 +19,9 @@ model-two = refl
 pub model-none : modelText 2 (0 ∷ 0 ∷ 1 ∷ []) (0 ∷ 0 ∷ []) ≡ ascii "(model () ())\n"
 unfolding modelText ascii decimal
 model-none = refl
+
+-- the fact, by an answer that leaves nothing out, two variables, and by a count of four digits
+pub shown-fact : map (λ c. shownModel 1 c (1 ∷ 1 ∷ 1 ∷ 1 ∷ 0 ∷ 0 ∷ 1 ∷ []) (1 ∷ [])) (0 ∷ 2 ∷ 9764 ∷ [])
+    ≡ map ascii ("(model (1) (1))\n" ∷ "(assumed 2)\n(model (1) (1))\n" ∷ "(assumed 9764)\n(model (1) (1))\n" ∷ [])
+unfolding modelText assumedText ascii decimal
+shown-fact = refl

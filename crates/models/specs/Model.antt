@@ -1,13 +1,17 @@
--- The line of a model (document 01, "Programs").
+-- The lines that the checker prints of a model (document 01, "Programs"; document 02, Q-3).
 --   trueAtoms n bs       the atoms from 1 to n that are true under the values bs, ascending
 --   numbersText xs       the numbers xs in decimal, one space between
---   modelText n bs ls    "(model (", the true atoms, ") (", their levels in ls, in step, "))" and byte 10
+--   modelLine xs ys      "(model (", the numbers xs, ") (", the numbers ys, "))" and byte 10
+--   modelText n bs ls    the line with the true atoms and their levels in ls, in step
+--   assumedText c        "(assumed ", c, ")" and byte 10, and nothing where c is 0
+--   shownModel n c bs ls   the line of c, then that of the model
 --   nextText k x         what the number x adds to the text of a list of which k bytes stand before it
 --   shownText b k x      the same where b says that x is of the list, nothing otherwise
 -- Assumes nothing.
 use Prim.Native.Nat.{ℕ, zero, suc}
 use mathlib.Core.Bool.{Bool, cond}
 use mathlib.Core.List.{List, [], _∷_, _++_, map}
+use lib.Dec.{eqb}
 use Rattle.lists.specs.Lists.{select}
 use Rattle.lists.specs.Ascii.{ascii}
 use Rattle.text.specs.Decimal.{decimal}
@@ -26,9 +30,17 @@ abbrev pub numbersText : List ℕ → List ℕ
 numbersText [] = []
 numbersText (x ∷ xs) = decimal x ++ spacedText xs
 
+abbrev pub modelLine : List ℕ → List ℕ → List ℕ
+modelLine xs ys = (((ascii "(model (" ++ numbersText xs) ++ ascii ") (") ++ numbersText ys) ++ ascii "))\n"
+
 unfoldable pub modelText : ℕ → List ℕ → List ℕ → List ℕ
-modelText n bs ls =
-    (((ascii "(model (" ++ numbersText (trueAtoms n bs)) ++ ascii ") (") ++ numbersText (map (levelIn ls) (trueAtoms n bs))) ++ ascii "))\n"
+modelText n bs ls = modelLine (trueAtoms n bs) (map (levelIn ls) (trueAtoms n bs))
+
+unfoldable pub assumedText : ℕ → List ℕ
+assumedText c = cond (eqb c 0) [] ((ascii "(assumed " ++ decimal c) ++ ascii ")\n")
+
+abbrev pub shownModel : ℕ → ℕ → List ℕ → List ℕ → List ℕ
+shownModel n c bs ls = assumedText c ++ modelText n bs ls
 
 -- ---- as code writes it
 

@@ -1,18 +1,19 @@
-// The line of a model, written into a lent buffer (document 01, "Programs").
+// The lines of a model, written into a lent buffer (document 01, "Programs"; document 02, Q-3).
 use digits::put_decimal;
 use printing::put_word;
 use row_truth::value_of;
 ghost use Prim.Native.Nat.{_≤_, _<_};
 ghost use mathlib.Core.Path.{_≡_};
-ghost use mathlib.Core.List.{_++_, map};
-ghost use lib.ListN.{length, drop};
+ghost use mathlib.Core.List.{map};
+ghost use lib.ListN.{length};
+ghost use Rattle.digits.specs.Bytes.{Wrote};
 ghost use Rattle.results.specs.Results.{levelIn};
-ghost use Rattle.models.specs.Model.{trueAtoms, numbersText, nextText, shownText, modelText};
+ghost use Rattle.models.specs.Model.{trueAtoms, numbersText, nextText, shownText, modelText, assumedText, shownModel};
 
 // Writes the number x at the front of the buffer, behind one space where bytes of its list stand before it, and returns how many bytes they are.
 fn put_next(before: usize, x: usize, buf: &mut [u8]) -> usize
     requires { ⌜ length (nextText before x) ≤ length (now buf) ⌝ }
-    ensures { λ r. ⌜ (r ≡ length (nextText before x)) × (now (buf .exit) ≡ nextText before x ++ drop r (now (buf .entry))) ⌝ }
+    ensures { λ r. ⌜ Wrote (nextText before x) (now (buf .entry)) (now (buf .exit)) r ⌝ }
 {
     if before == 0 {
         return put_decimal(x, &mut *buf);
@@ -24,7 +25,7 @@ fn put_next(before: usize, x: usize, buf: &mut [u8]) -> usize
 // The same for a number that is shown; nothing for one that is not.
 fn put_shown(shown: bool, before: usize, x: usize, buf: &mut [u8]) -> usize
     requires { ⌜ length (shownText shown before x) ≤ length (now buf) ⌝ }
-    ensures { λ r. ⌜ (r ≡ length (shownText shown before x)) × (now (buf .exit) ≡ shownText shown before x ++ drop r (now (buf .entry))) ⌝ }
+    ensures { λ r. ⌜ Wrote (shownText shown before x) (now (buf .entry)) (now (buf .exit)) r ⌝ }
 {
     if shown {
         return put_next(before, x, &mut *buf);
@@ -35,7 +36,7 @@ fn put_shown(shown: bool, before: usize, x: usize, buf: &mut [u8]) -> usize
 // Writes the true ones of the atoms 1 to n.
 fn put_atoms(n: usize, assignment: &[u8], buf: &mut [u8]) -> usize
     requires { ⌜ (n ≤ length (now assignment)) × (length (numbersText (trueAtoms n (now assignment))) ≤ length (now buf)) ⌝ }
-    ensures { λ r. ⌜ (r ≡ length (numbersText (trueAtoms n (now (assignment .entry))))) × (now (buf .exit) ≡ numbersText (trueAtoms n (now (assignment .entry))) ++ drop r (now (buf .entry))) ⌝ }
+    ensures { λ r. ⌜ Wrote (numbersText (trueAtoms n (now (assignment .entry)))) (now (buf .entry)) (now (buf .exit)) r ⌝ }
 {
     let mut a: usize = 0;
     let mut to: usize = 0;
@@ -58,7 +59,7 @@ fn level_of(levels: &[u8], a: usize) -> usize
 // Writes their levels, in step.
 fn put_levels(n: usize, assignment: &[u8], levels: &[u8], buf: &mut [u8]) -> usize
     requires { ⌜ (n ≤ length (now assignment)) × (n ≤ length (now levels)) × (length (numbersText (map (levelIn (now levels)) (trueAtoms n (now assignment)))) ≤ length (now buf)) ⌝ }
-    ensures { λ r. ⌜ (r ≡ length (numbersText (map (levelIn (now (levels .entry))) (trueAtoms n (now (assignment .entry)))))) × (now (buf .exit) ≡ numbersText (map (levelIn (now (levels .entry))) (trueAtoms n (now (assignment .entry)))) ++ drop r (now (buf .entry))) ⌝ }
+    ensures { λ r. ⌜ Wrote (numbersText (map (levelIn (now (levels .entry))) (trueAtoms n (now (assignment .entry))))) (now (buf .entry)) (now (buf .exit)) r ⌝ }
 {
     let mut a: usize = 0;
     let mut to: usize = 0;
@@ -72,14 +73,44 @@ fn put_levels(n: usize, assignment: &[u8], levels: &[u8], buf: &mut [u8]) -> usi
 }
 
 // Writes "(model (atoms) (levels))" and byte 10 at the front of the buffer and returns how many bytes they are.
-pub fn put_model(n: u16, assignment: &[u8], levels: &[u8], buf: &mut [u8]) -> usize
+fn put_model(n: u16, assignment: &[u8], levels: &[u8], buf: &mut [u8]) -> usize
     requires { ⌜ (n ≤ 126) × (n ≤ length (now assignment)) × (n ≤ length (now levels)) × (1100 ≤ length (now buf)) ⌝ }
-    ensures { λ r. ⌜ (r ≡ length (modelText n (now (assignment .entry)) (now (levels .entry)))) × (now (buf .exit) ≡ modelText n (now (assignment .entry)) (now (levels .entry)) ++ drop r (now (buf .entry))) ⌝ }
+    ensures { λ r. ⌜ Wrote (modelText n (now (assignment .entry)) (now (levels .entry))) (now (buf .entry)) (now (buf .exit)) r ⌝ }
 {
     let mut to = put_word(b"(model (", &mut *buf);
     to += put_atoms(n as usize, assignment, &mut buf[to..]);
     to += put_word(b") (", &mut buf[to..]);
     to += put_levels(n as usize, assignment, levels, &mut buf[to..]);
     to += put_word(b"))\n", &mut buf[to..]);
+    to
+}
+
+// Writes "(assumed COUNT)" and byte 10 at the front of the buffer, nothing if the count is 0, and returns how many bytes they are.
+fn put_assumed(count: usize, buf: &mut [u8]) -> usize
+    requires { ⌜ length (assumedText count) ≤ length (now buf) ⌝ }
+    ensures { λ r. ⌜ Wrote (assumedText count) (now (buf .entry)) (now (buf .exit)) r ⌝ }
+{
+    if count == 0 {
+        return 0;
+    }
+    let mut to = put_word(b"(assumed ", &mut *buf);
+    to += put_decimal(count, &mut buf[to..]);
+    to += put_word(b")\n", &mut buf[to..]);
+    to
+}
+
+// Writes the line of the variables that were assumed, if there are any, then the line of the model.
+pub fn put_shown_model(
+    n: u16,
+    assumed: usize,
+    assignment: &[u8],
+    levels: &[u8],
+    buf: &mut [u8],
+) -> usize
+    requires { ⌜ (n ≤ 126) × (n ≤ length (now assignment)) × (n ≤ length (now levels)) × (1131 ≤ length (now buf)) ⌝ }
+    ensures { λ r. ⌜ Wrote (shownModel n assumed (now (assignment .entry)) (now (levels .entry))) (now (buf .entry)) (now (buf .exit)) r ⌝ }
+{
+    let mut to = put_assumed(assumed, &mut *buf);
+    to += put_model(n, assignment, levels, &mut buf[to..]);
     to
 }

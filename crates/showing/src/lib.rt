@@ -1,58 +1,57 @@
 // The checker: reads program.lp and answer.txt in the current folder and prints the model that the answer shows, or why none is shown (document 01,
-// "Programs").
-use checking::CheckRefusal;
+// "Programs"; document 02, Q-3).
 use checking::CheckVerdict;
 use checking::check_number_of;
 use checking::check_read;
 use checking::check_spot_of;
 use files::read_front;
 use input::read_counted;
-use models::put_model;
+use models::put_shown_model;
 use printing::put_refusal;
 use program::Reading;
 ghost use Prim.Native.Nat.{_≤_};
 ghost use mathlib.Core.Path.{_≡_};
 ghost use lib.ListN.{length};
+ghost use Rattle.digits.specs.Bytes.{Wrote};
 ghost use Rattle.program.specs.declared.ReadVerdict.the-variants.{Accepted};
 ghost use Rattle.tables.specs.Tables.{Stored};
+ghost use Rattle.showing.specs.Output.{refusedLine, outputOf, outputText};
 
-// Prints the line of a refusal.
-fn say_refusal(x: CheckRefusal) {
-    let mut out = [0u8; 64];
-    let n = put_refusal(check_number_of(x), check_spot_of(x), &mut out);
-    io::write_all(1, &out[..n]);
-}
-
-fn say_refused(v: CheckVerdict) {
-    let CheckVerdict::Refused(x) = v else {
-        return;
-    };
-    say_refusal(x);
-}
-
-// Prints the line of a model.
-fn say_model(n: u16, assignment: &[u8], levels: &[u8])
-    requires { ⌜ (n ≤ 126) × (n ≤ length (now assignment)) × (n ≤ length (now levels)) ⌝ }
+// Writes the line of a refusal at the front of the buffer, nothing for a model, and returns how many bytes it has.
+fn put_refused(v: CheckVerdict, out: &mut [u8]) -> usize
+    requires { ⌜ 35 ≤ length (now out) ⌝ }
+    ensures { λ r. ⌜ Wrote (refusedLine v) (now (out .entry)) (now (out .exit)) r ⌝ }
 {
-    let mut out = [0u8; 1100];
-    let k = put_model(n, assignment, levels, &mut out);
-    io::write_all(1, &out[..k]);
+    match v {
+        CheckVerdict::Model(k, h, c) => 0,
+        CheckVerdict::Refused(q) => put_refusal(check_number_of(q), check_spot_of(q), &mut *out),
+    }
 }
 
-// The answer has `total` bytes; of one that is not overlong, `answer` is all.
-fn show(x: Reading, answer: &[u8], total: usize)
-    requires { ⌜ (x .verdict ≡ Accepted → Stored (x .program)) ⌝ }
+// Writes the checker's lines for a program that was read at the front of the buffer and returns how many bytes they are.
+fn put_checked(x: Reading, answer: &[u8], total: usize, out: &mut [u8]) -> usize
+    requires { ⌜ (x .verdict ≡ Accepted → Stored (x .program)) × (1131 ≤ length (now out)) ⌝ }
+    ensures { λ r. ⌜ Wrote (outputOf x (now (answer .entry)) total) (now (out .entry)) (now (out .exit)) r ⌝ }
 {
     let mut assignment = [0u8; 9890];
     let mut levels = [0u8; 126];
     let v = check_read(x, answer, total, &mut assignment, &mut levels);
-    let CheckVerdict::Model(k, h) = v else {
-        say_refused(v);
-        return;
+    let CheckVerdict::Model(k, h, c) = v else {
+        return put_refused(v, &mut *out);
     };
-    say_model(x.program.atoms, &assignment, &levels);
+    put_shown_model(x.program.atoms, c, &assignment, &levels, &mut *out)
 }
 
+// The same for a program text of `size` bytes and an answer of `total`; of those that are not overlong, `text` and `answer` are all.
+pub fn put_output(text: &[u8], size: usize, answer: &[u8], total: usize, out: &mut [u8]) -> usize
+    requires { ⌜ 1131 ≤ length (now out) ⌝ }
+    ensures { λ r. ⌜ Wrote (outputText (now (text .entry)) size (now (answer .entry)) total) (now (out .entry)) (now (out .exit)) r ⌝ }
+{
+    let x = read_counted(text, size);
+    put_checked(x, answer, total, &mut *out)
+}
+
+// Reads the two files and prints the lines.
 pub fn show_model() {
     let mut text = [0u8; 65537];
     let mut answer = [0u8; 65537];
@@ -60,5 +59,7 @@ pub fn show_model() {
     let a = read_front(b"answer.txt", &mut answer);
     let n = t.kept;
     let k = a.kept;
-    show(read_counted(&text[..n], t.total), &answer[..k], a.total);
+    let mut out = [0u8; 1131];
+    let z = put_output(&text[..n], t.total, &answer[..k], a.total, &mut out);
+    io::write_all(1, &out[..z]);
 }
