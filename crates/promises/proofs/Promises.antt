@@ -5,16 +5,16 @@
 --   3  Demand 3 for assignments: stable models and satisfying assignments correspond, one to one
 --   4  Demand 1 for program texts: what the reader answers to any bytes (document 01, "Program text" and rows 1 to 7)
 --   5  The clause file's lines: what the line call and the call for a run of lines answer and write, for any bytes (rows 8 and 9)
---   6  Solver answers: the form, where a text leaves it, and its assignment (document 01, "Solver answer" and rows 11, 13, 14 and 15)
---   7  The check: what it answers and writes, for any bytes (rows 8 and 10 to 16)
+--   6  Solver answers: the form, where a text leaves it, and its assignment (document 01, "Solver answer" and rows 11, 13 and 14)
+--   7  The check: what it answers and writes, for any bytes (rows 8, 10 to 14 and 16), and what the checker prints
 --   8  Filling out: what it answers and writes, for any bytes (rows 8, 17 and 18)
 --   9  Demand 3, over texts, answers and bytes: stable models, accepted assignments and filled-out sets correspond
---   10 The requests of document 02 (Q-6: levels without gaps)
+--   10 The requests of document 02 (Q-3: solvers that leave variables out; Q-6: levels without gaps)
 --   11 Document 01's examples and wrong turns
 --   12 Contracts: each public function meets its own
 -- Nothing is assumed: a hypothesis of sections 1 to 3 is met by every well-formed program, that of `clause-file` and of section 9 by the program of every
--- accepted text, and the other statements of sections 4 to 8 hold for any bytes. Section 10 is about every stable model of every well-formed program, and
--- about any bytes. A function of section 12 may ask for a bound or for tables; its contract in src/ says so.
+-- accepted text, and the other statements of sections 4 to 8 hold for any bytes. Section 10 is about every stable model of every well-formed program, about
+-- any bytes, and about the literals of any answer, whose hypothesis the outcome `done` of section 6 meets. A function of section 12 may ask for a bound or for tables; its contract in src/ says so.
 use Prim.Native.Nat.{ℕ, zero, suc, pred, _+_, _-_, _*_, _^_, _%_, _≤_, _<_}
 use mathlib.Core.Path.{_≡_, sym, _∙_, ap}
 use mathlib.Core.Logic.{_↔_, _⊎_}
@@ -199,23 +199,21 @@ use Rattle.answers.specs.Reading.{IsModel as IsModelText}
 use Rattle.answer_reader.proofs.Promised.{form-malformed, malformed-form, form-model, model-form, form-none, none-form}
 use Rattle.assigning.proofs.fill.Statement.{statement as assigning-fill·statement}
 use Rattle.assigning.proofs.fill.Met.{met as assigning-fill·met}
-use Rattle.assigning.proofs.copy_first.Statement.{statement as assigning-copy-first·statement}
-use Rattle.assigning.proofs.copy_first.Met.{met as assigning-copy-first·met}
+use Rattle.assigning.proofs.copy_completed.Statement.{statement as assigning-copy-completed·statement}
+use Rattle.assigning.proofs.copy_completed.Met.{met as assigning-copy-completed·met}
 use Rattle.assigning.proofs.read_form.Statement.{statement as assigning-read-form·statement}
 use Rattle.assigning.proofs.read_form.Met.{met as assigning-read-form·met}
-use Rattle.assigning.proofs.first_unset.Statement.{statement as assigning-first-unset·statement}
-use Rattle.assigning.proofs.first_unset.Met.{met as assigning-first-unset·met}
-use Rattle.assigning.specs.Assign.{Outcome, literalsFrom, literalAt, variableAt, Named, assignedOf, assignedBytes, firstUnset, filledWith}
+use Rattle.assigning.specs.Assign.{Outcome, literalsFrom, literalAt, variableAt, Unnamed, unnamedCount, assignedOf, assignedBytes, unsetCount, completed, filledWith}
 use Rattle.assigning.specs.Assign as Assign
-use Rattle.assigning.specs.Rows.{AllFit, StrayAt, RepeatedAt, Missing, Once}
-use Rattle.assigning.proofs.Rows.{literals-named, assigned-stray, stray-assigned, assigned-repeated, repeated-assigned, assigned-done, done-assigned, named-value, missing-unset, unset-nothing, nothing-unset}
+use Rattle.assigning.specs.Rows.{AllFit, StrayAt, RepeatedAt}
+use Rattle.assigning.proofs.Rows.{literals-named, assigned-stray, stray-assigned, assigned-repeated, repeated-assigned, assigned-done, done-assigned, named-value, unnamed-value, unset-unnamed}
 use Rattle.answers.specs.Answer.{Answer, proper, answerText, OfStatus}
 use Rattle.answers.specs.Answer as Answers
 use Rattle.answers.proofs.Spot as AnswerSpot
 use Rattle.answers.proofs.Unique.{answer-unique}
 use Rattle.digits.specs.Bytes.{lineText}
 use Rattle.table_laws.proofs.Bounds.{variables-fit, clauses-fit}
-use Rattle.printing.specs.Lines.{headerText}
+use Rattle.printing.specs.Lines.{headerText, refusedText}
 use Rattle.places.specs.Places.{placeAt, clauseIn}
 use Rattle.lines.specs.declared.LineRefusal.{LineRefusal}
 use Rattle.lines.specs.declared.LineVerdict.the-variants.{Written, Refused as LineRefused}
@@ -308,8 +306,10 @@ use Rattle.filling_out.proofs.fill_number_of.Statement.{statement as fill-numbe
 use Rattle.filling_out.proofs.fill_number_of.Met.{met as fill-number-of·met}
 use Rattle.filling_out.proofs.fill_spot_of.Statement.{statement as fill-spot-of·statement}
 use Rattle.filling_out.proofs.fill_spot_of.Met.{met as fill-spot-of·met}
-use Rattle.models.proofs.put_model.Statement.{statement as put-model·statement}
-use Rattle.models.proofs.put_model.Met.{met as put-model·met}
+use Rattle.models.proofs.put_shown_model.Statement.{statement as put-shown-model·statement}
+use Rattle.models.proofs.put_shown_model.Met.{met as put-shown-model·met}
+use Rattle.showing.proofs.put_output.Statement.{statement as put-output·statement}
+use Rattle.showing.proofs.put_output.Met.{met as put-output·met}
 use Rattle.row_truth.proofs.holds.Statement.{statement as literal-holds·statement}
 use Rattle.row_truth.proofs.holds.Met.{met as literal-holds·met}
 use Rattle.row_truth.proofs.row_passes.Statement.{statement as row-passes·statement}
@@ -322,13 +322,16 @@ use Rattle.encoding.specs.Literal.{clauseTrue}
 use Rattle.lines.specs.Lines.{lineBytes}
 use Rattle.stages.specs.Levels.{setIn}
 use Rattle.results.specs.Results.{levelIn, varTotal}
-use Rattle.offering.specs.Offered.{valuesOf, offeredText}
+use Rattle.offering.specs.Offered.{valueBytes, valuesOf, Completes, offeredText}
+use Rattle.offering.proofs.Values.{values-complete, values-alone, values-unique}
 use Rattle.checking.specs.declared.CheckVerdict.the-variants.{Model as ShownModel}
 use Rattle.checking.specs.Check.{readResult, checkAnswer, checkAssignment, checkLevels}
-use Rattle.checking.specs.Rows.{Offers, clauseOf, CheckRow, FirstCheckRow, CheckAnswers, Shows, ModelWritten}
+use Rattle.checking.specs.Rows.{Offers, clauseOf, CheckRow, FirstCheckRow, CheckAnswers, Accepts, Shows, ModelWritten}
 use Rattle.checking.proofs.Verdicts.{answers-check-first, first-check-answers, first-check-unique, model-none, none-model}
-use Rattle.checking.proofs.Buffers.{model-writes, refused-zeroes, refused-keeps, refused-levels}
-use Rattle.showing.proofs.Shown.{answer-whole}
+use Rattle.checking.proofs.Buffers.{model-writes, assumed-rest, refused-zeroes, refused-keeps, refused-levels, never-15}
+use Rattle.showing.specs.Output.{outputText, checkerText, PrintsModel}
+use Rattle.showing.proofs.Shown.{answer-whole, output-whole}
+use Rattle.showing.proofs.Printed.{checker-refuses, checker-shows}
 use Rattle.filling_out.specs.declared.FillRefusal.{FillRefusal}
 use Rattle.filling_out.specs.declared.FillVerdict.the-variants.{Filled, Refused as FillRefused}
 use Rattle.filling_out.specs.FillOut.{fillAnswer, fillAssignment, fillLevels}
@@ -707,10 +710,8 @@ pub record Assigning (t : List ℕ) (p n : ℕ) (b : List ℕ) : Type 0 where
   -- then the byte of a variable that a literal names is 1 if the literal is positive, 0 if it is negative
   pub values : AllFit n (literalsFrom t p) → (k : ℕ) → k < length (literalsFrom t p)
       → getD (assignedBytes n (literalsFrom t p) (filledWith n 2 b)) (variableAt (literalsFrom t p) k - 1) 0 ≡ Assign.valueOf (literalAt (literalsFrom t p) k)
-  -- and the first variable without a value is the smallest that no literal names; there is none exactly if each is named
-  pub missing : AllFit n (literalsFrom t p) → (v : ℕ) → Missing n (literalsFrom t p) v → firstUnset n (assignedBytes n (literalsFrom t p) (filledWith n 2 b)) ≡ v
-  pub none-missing : AllFit n (literalsFrom t p)
-      → (firstUnset n (assignedBytes n (literalsFrom t p) (filledWith n 2 b)) ≡ 0) ↔ ((v : ℕ) → zero < v → v ≤ n → Named (literalsFrom t p) v)
+  -- and that of a variable that none names stays 2
+  pub unnamed : (v : ℕ) → zero < v → v ≤ n → Unnamed (literalsFrom t p) v → getD (assignedBytes n (literalsFrom t p) (filledWith n 2 b)) (v - 1) 0 ≡ 2
 
 pub assigning : (t : List ℕ) (p n : ℕ) (b : List ℕ) → Assigning t p n b
 assigning t p n b =
@@ -719,26 +720,24 @@ assigning t p n b =
       repeated = λ s. (assigned-repeated n (literalsFrom t p) b (literals-named t p) s, repeated-assigned n (literalsFrom t p) b (literals-named t p) s);
       done = (assigned-done n (literalsFrom t p) b (literals-named t p), done-assigned n (literalsFrom t p) b (literals-named t p));
       values = named-value n (literalsFrom t p) b (literals-named t p);
-      missing = missing-unset n (literalsFrom t p) b (literals-named t p);
-      none-missing = λ f. (unset-nothing n (literalsFrom t p) b (literals-named t p) f, nothing-unset n (literalsFrom t p) b (literals-named t p) f);
+      unnamed = unnamed-value n (literalsFrom t p) b (literals-named t p);
     }
 
 -- ---- 7 The check: the program text t, the answer u, the buffers b for the assignment and l for the levels are any
 
 pub record CheckCall (t u b l : List ℕ) : Type 0 where
   -- the call answers row r with spot s exactly if r is the first row met, in the order: the reader's, 8 for the assignment, 8 for the levels, 10, 11, 12,
-  -- the smaller spot of 13 and 14, 15, 16
+  -- the smaller spot of 13 and 14, 16
   pub refused : (r s : ℕ) → CheckAnswers t u (length b) (length l) r s ↔ FirstCheckRow t u (length b) (length l) r s
   -- no two rows or spots are first
   pub one-row : (r s q v : ℕ) → FirstCheckRow t u (length b) (length l) r s → FirstCheckRow t u (length b) (length l) q v → (r ≡ q) × (s ≡ v)
   -- it accepts exactly if no row is met
-  pub accepted : ((k : ℕ) × (h : ℕ) × (checkAnswer t u (length b) (length l) ≡ ShownModel k h))
-      ↔ ((p r s : ℕ) → CheckRow t u (length b) (length l) p r s → ⊥)
-  -- then the text is admitted, the answer names each variable once and makes every clause true, there is room; it returns how many atoms are true and the
-  -- highest level, and writes the values and the levels; the bytes behind them stay
-  pub written : (k h : ℕ) → checkAnswer t u (length b) (length l) ≡ ShownModel k h
-      → (P : Program) × (xs : List Spotted) × Shows t u (length b) (length l) P xs × ModelWritten t u b l P xs k h
-  -- refusals 13 to 16 zero the assignment's first V bytes
+  pub accepted : Accepts t u (length b) (length l) ↔ ((p r s : ℕ) → CheckRow t u (length b) (length l) p r s → ⊥)
+  -- then the text is admitted, the answer names no variable above V and none twice, its values, completed, make every clause true, there is room; it returns
+  -- how many atoms are true, the highest level and how many variables no literal names, and writes the values and the levels; the bytes behind them stay
+  pub written : (k h c : ℕ) → checkAnswer t u (length b) (length l) ≡ ShownModel k h c
+      → (P : Program) × (xs : List Spotted) × Shows t u (length b) (length l) P xs × ModelWritten t u b l P xs k h c
+  -- refusals 13, 14 and 16 zero the assignment's first V bytes; row 15 does not occur (section 10, `left-out`)
   pub zeroed : (r s : ℕ) → CheckAnswers t u (length b) (length l) r s → 13 ≤ r
       → (P : Program) × Admitted t P × (checkAssignment t u b (length l) ≡ replicate (varTotal P) 0 ++ drop (varTotal P) b)
   -- the others leave it, and each leaves the levels
@@ -751,7 +750,7 @@ check-call t u b l =
     record {
       refused = λ r s. (answers-check-first t u (length b) (length l) r s, first-check-answers t u (length b) (length l) r s);
       one-row = first-check-unique t u (length b) (length l);
-      accepted = (λ e. model-none t u (length b) (length l) (e .0) (e .1) (e .2), none-model t u (length b) (length l));
+      accepted = (λ e. model-none t u (length b) (length l) (e .0) (e .1) (e .2) (e .3), none-model t u (length b) (length l));
       written = model-writes t u b l;
       zeroed = refused-zeroes t u b l;
       stays = refused-keeps t u b l;
@@ -761,6 +760,19 @@ check-call t u b l =
 -- the first 65,537 bytes of an answer and its length give the result of the whole answer, as `counted-input` says of a program text
 pub counted-answer : (x : Reading) (u : List ℕ) (a l : ℕ) → readResult x (take 65537 u) (length u) a l ≡ readResult x u (length u) a l
 counted-answer = answer-whole
+
+-- what the checker program prints for the program text t and the answer u: `checkerText`, which `put_output` writes (section 12); that it hands these two over,
+-- and what is written then to the output, are not stated here, since what files hold is not part of the definitions
+pub record CheckerOutput (t u : List ℕ) : Type 0 where
+  -- where the check refuses with row r and spot s, "(refused r s)"
+  pub refused : (r s : ℕ) → CheckAnswers t u 9890 126 r s → checkerText t u ≡ refusedText r s
+  -- where it accepts, "(assumed c)" on a line unless c is 0, then "(model (atoms) (levels))" with the atoms of a stable model, ascending, and their level numbers
+  pub shown : (k h c : ℕ) → checkAnswer t u 9890 126 ≡ ShownModel k h c → PrintsModel t u c
+  -- the first 65,537 bytes of each and its length give the same
+  pub front : outputText (take 65537 t) (length t) (take 65537 u) (length u) ≡ checkerText t u
+
+pub checker-output : (t u : List ℕ) → CheckerOutput t u
+checker-output t u = record { refused = checker-refuses t u; shown = checker-shows t u; front = output-whole t u }
 
 -- ---- 8 Filling out: the program text t, the set s, the buffers b for the assignment and l for the levels are any
 
@@ -794,11 +806,10 @@ fill-call t s b l =
 -- ---- 9 Demand 3, over texts, answers and bytes: t is any text that document 01 admits, P its program
 
 pub record TextDemand3 (t : List ℕ) (P : Program) : Type 0 where
-  -- an answer of at most 65,536 bytes, of the form, SATISFIABLE, whose literals name each of 1 to V once and nothing else, is accepted exactly if for every
-  -- j from 1 to C clause j is true under its assignment, whatever the buffers, if they have room
-  pub checked : (u : List ℕ) (xs : List Spotted) → Offers u xs → length u ≤ 65536 → Once (varTotal P) xs → (b l : List ℕ) → Room P b l
-      → ((k : ℕ) × (h : ℕ) × (checkAnswer t u (length b) (length l) ≡ ShownModel k h))
-      ↔ ((j : ℕ) → zero < j → j ≤ clauseTotal P → So (clauseTrue (valueOf (valuesOf (varTotal P) xs)) (clauseOf P j)))
+  -- an answer of at most 65,536 bytes, of the form, SATISFIABLE, whose literals give no variable twice and none above V, is accepted exactly if for every j
+  -- from 1 to C clause j is true under its assignment, completed (document 02, Q-3), whatever the buffers, if they have room
+  pub checked : (u : List ℕ) (xs : List Spotted) → Offers u xs → length u ≤ 65536 → AllFit (varTotal P) xs → (b l : List ℕ) → Room P b l
+      → Accepts t u (length b) (length l) ↔ ((j : ℕ) → zero < j → j ≤ clauseTotal P → So (clauseTrue (valueOf (valuesOf (varTotal P) xs)) (clauseOf P j)))
   -- and the bytes that the line call writes for j are the print of that clause
   pub printed : (j : ℕ) → zero < j → j ≤ clauseTotal P → (k : ℕ) (b : List ℕ) → length (lineText (clauseOf P j)) ≤ length b - k
       → lineBytes t j k b ≡ take k b ++ (lineText (clauseOf P j) ++ drop (k + length (lineText (clauseOf P j))) b)
@@ -817,10 +828,10 @@ pub record TextDemand3 (t : List ℕ) (P : Program) : Type 0 where
   pub short-enough : (M : Atoms) (σ : Stable P M) → length (complete M σ .answer) ≤ 65536
   -- every other with the same true atoms equals it
   pub unique : (bs cs : List Bool) → AcceptedAssignment t P bs → AcceptedAssignment t P cs → trueAtoms P bs ≡ trueAtoms P cs → bs ≡ cs
-  -- for all buffers with room the check of an answer that has it returns the number of true atoms and the stages' highest level, and writes it and the
-  -- level numbers
+  -- for all buffers with room the check of an answer that has it returns the number of true atoms, the stages' highest level and how many variables the answer
+  -- leaves out, and writes it and the level numbers
   pub check-gives : (bs : List Bool) (X : AcceptedAssignment t P bs) (b l : List ℕ) → Room P b l → CheckWrites t P bs X b l
-  -- filling out the set of its true atoms returns the same two numbers and writes the same bytes into both buffers
+  -- filling out the set of its true atoms returns the first two of these numbers and writes the same bytes into both buffers
   pub fill-gives : (bs : List Bool) (X : AcceptedAssignment t P bs) (s b l : List ℕ) → SetOf (P .atoms) s (trueAtoms P bs) → Room P b l
       → (fillAnswer t s (length b) (length l) ≡ Filled (sum (P .atoms) (λ a. cond (trueAtoms P bs a) 1 0)) (highest (P .atoms) (level P (trueAtoms P bs))))
       × (fillAssignment t s b (length l) ≡ checkAssignment t (X .answer) b (length l))
@@ -852,6 +863,37 @@ accepted-demand3 t e = let a = accepted-admitted t e in (a .0, a .1, text-demand
 
 -- ---- 10 The requests of document 02
 
+-- Q-3, solvers that leave variables out: `literalsFrom t p` are the literals of an answer t from position p on, n is the number of variables. Demand 3 for
+-- such answers is `TextDemand3` (section 9).
+pub record LeftOut : Type 0 where
+  -- literals that give no variable twice and none above n have a completed assignment, n values: each literal is true, and a variable that none names is false
+  pub completes : (t : List ℕ) (p n : ℕ) → AllFit n (literalsFrom t p) → Completes n (literalsFrom t p) (valuesOf n (literalsFrom t p))
+  -- and one alone
+  pub one-completion : (t : List ℕ) (p n : ℕ) → AllFit n (literalsFrom t p) → (bs : List Bool) → Completes n (literalsFrom t p) bs
+      → bs ≡ valuesOf n (literalsFrom t p)
+  -- these are the bytes that the reader leaves, each 2 read as 0
+  pub bytes : (t : List ℕ) (p n : ℕ) → AllFit n (literalsFrom t p)
+      → completed (assignedBytes n (literalsFrom t p) (replicate n 2)) ≡ valueBytes (valuesOf n (literalsFrom t p))
+  -- and as many are so read as variables from 1 to n that no literal names
+  pub counted : (t : List ℕ) (p n : ℕ) → AllFit n (literalsFrom t p) → (b : List ℕ)
+      → unsetCount n (assignedBytes n (literalsFrom t p) (filledWith n 2 b)) ≡ unnamedCount n (literalsFrom t p)
+  -- the count c that an accepting check returns is V less the number of literals of the answer
+  pub of-check : (t u b l : List ℕ) (k h c : ℕ) → checkAnswer t u (length b) (length l) ≡ ShownModel k h c
+      → (P : Program) × (xs : List Spotted) × Admitted t P × Offers u xs × (c + length xs ≡ varTotal P)
+  -- no check refuses with row 15
+  pub never-15 : (t u : List ℕ) (a l s : ℕ) → CheckAnswers t u a l 15 s → ⊥
+
+pub left-out : LeftOut
+left-out =
+    record {
+      completes = λ t p n. values-complete n (literalsFrom t p) (literals-named t p);
+      one-completion = λ t p n. values-unique n (literalsFrom t p) (literals-named t p);
+      bytes = λ t p n. values-alone n (literalsFrom t p) (literals-named t p);
+      counted = λ t p n. unset-unnamed n (literalsFrom t p) (literals-named t p);
+      of-check = assumed-rest;
+      never-15 = never-15;
+    }
+
 -- Q-6, levels without gaps. `WithoutGaps M ℓ k h` says that each number from 1 to h is the level ℓ a of some atom a of M, and that h is at most k.
 pub record LevelsWithoutGaps : Type 0 where
   -- in every stable model M: its level numbers up to the highest of them, which is at most the number of atoms of M
@@ -859,7 +901,7 @@ pub record LevelsWithoutGaps : Type 0 where
       → WithoutGaps M (level P M) (sum (P .atoms) (λ a. cond (M a) 1 0)) (highest (P .atoms) (level P M))
   -- in the bytes that every accepting check writes, with the number k of true atoms and the highest level h that it returns: the true atoms are those of 1 to
   -- n whose byte of the assignment is not 0, and their levels are their level bytes
-  pub of-check : (t u b l : List ℕ) (k h : ℕ) → checkAnswer t u (length b) (length l) ≡ ShownModel k h
+  pub of-check : (t u b l : List ℕ) (k h c : ℕ) → checkAnswer t u (length b) (length l) ≡ ShownModel k h c
       → (P : Program) × Admitted t P × WithoutGaps (setIn (P .atoms) (checkAssignment t u b (length l))) (levelIn (checkLevels t u (length b) l)) k h
   -- in the bytes that every accepting filling out writes
   pub of-fill : (t s b l : List ℕ) (k h : ℕ) → fillAnswer t s (length b) (length l) ≡ Filled k h
@@ -1097,17 +1139,17 @@ pub record AnswerReader (M : Type 1) : Type 2 where
   pub next-from : answer-next-from·statement M
   -- the form of an answer whose literals begin at a position, by what follows literal 0
   pub closed-form : answer-closed-form·statement M
-  -- the form of the whole answer is `formOf`; if its status is SATISFIABLE, its literals are assigned to a lent buffer of which the other bytes stay
+  -- the form of the whole answer is `formOf`; if its status is SATISFIABLE, its literals are assigned to a lent buffer of which the other bytes stay; how many
+  -- variables no literal names is `assumedBy`
   pub read-form : assigning-read-form·statement M
-  -- the first variable without a value; the first bytes of a buffer, filled with one value or copied
-  pub first-unset : assigning-first-unset·statement M
+  -- the first bytes of a buffer, filled with one value or copied and completed
   pub fill : assigning-fill·statement M
-  pub copy-first : assigning-copy-first·statement M
+  pub copy-completed : assigning-copy-completed·statement M
 
 pub answer-reader : (M : Type 1) → AnswerReader M
-answer-reader M = record { status = answer-status·met; next-literal = answer-next-literal·met; close = answer-close·met; new = answer-reader-new·met; next = answer-reader-next·met; next-from = answer-next-from·met; closed-form = answer-closed-form·met; read-form = assigning-read-form·met; first-unset = assigning-first-unset·met; fill = assigning-fill·met; copy-first = assigning-copy-first·met }
+answer-reader M = record { status = answer-status·met; next-literal = answer-next-literal·met; close = answer-close·met; new = answer-reader-new·met; next = answer-reader-next·met; next-from = answer-next-from·met; closed-form = answer-closed-form·met; read-form = assigning-read-form·met; fill = assigning-fill·met; copy-completed = assigning-copy-completed·met }
 
--- truth, stages, filling, results, checking, filling_out, models
+-- truth, stages, filling, results, checking, filling_out, models, showing
 pub record Verdicts (M : Type 1) : Type 2 where
   -- the check of any answer against any text: `checkAnswer`, `checkAssignment` and `checkLevels`
   pub check : check·statement M
@@ -1132,11 +1174,12 @@ pub record Verdicts (M : Type 1) : Type 2 where
   pub negatives-out : negatives-out·statement M
   pub positives-in : positives-in·statement M
   pub positives-below : positives-below·statement M
-  -- the line of a model, written into a lent buffer: the bytes behind it stay
-  pub put-model : put-model·statement M
+  -- the lines of a model, and all that the checker prints, `outputText`, written into a lent buffer: the bytes behind them stay
+  pub put-shown-model : put-shown-model·statement M
+  pub put-output : put-output·statement M
 
 pub verdicts : (M : Type 1) → Verdicts M
-verdicts M = record { check = check·met; check-read = check-read·met; fill-out = fill-out·met; check-number-of = check-number-of·met; check-spot-of = check-spot-of·met; fill-number-of = fill-number-of·met; fill-spot-of = fill-spot-of·met; value-of = truth-value-of·met; put-counters = put-counters·met; true-count = true-count·met; highest-of = highest-of·met; stage-levels = stage-levels·met; first-difference = first-difference·met; put-filled = put-filled·met; byte-of = byte-of·met; negatives-out = negatives-out·met; positives-in = positives-in·met; positives-below = positives-below·met; put-model = put-model·met }
+verdicts M = record { check = check·met; check-read = check-read·met; fill-out = fill-out·met; check-number-of = check-number-of·met; check-spot-of = check-spot-of·met; fill-number-of = fill-number-of·met; fill-spot-of = fill-spot-of·met; value-of = truth-value-of·met; put-counters = put-counters·met; true-count = true-count·met; highest-of = highest-of·met; stage-levels = stage-levels·met; first-difference = first-difference·met; put-filled = put-filled·met; byte-of = byte-of·met; negatives-out = negatives-out·met; positives-in = positives-in·met; positives-below = positives-below·met; put-shown-model = put-shown-model·met; put-output = put-output·met }
 
 -- files
 pub record Files (M : Type 1) : Type 2 where
@@ -1165,7 +1208,7 @@ pub record ZeroAccepts : Type 0 where
   pub of-read : (t : List ℕ) → (readReply t .number ≡ 0) ↔ (readOf t .verdict ≡ Accepted)
   pub of-line : (t : List ℕ) (j k n : ℕ) → (lineReply t j k n .number ≡ 0) ↔ ((m : ℕ) × (lineAnswer t j k n ≡ Written m))
   pub of-run : (t : List ℕ) (j n : ℕ) → (runReply t j n .number ≡ 0) ↔ ((m : ℕ) × (x : ℕ) × (runAnswer t j n ≡ WrittenRun m x))
-  pub of-check : (t u : List ℕ) (a l : ℕ) → (checkReply t u a l .number ≡ 0) ↔ ((k : ℕ) × (h : ℕ) × (checkAnswer t u a l ≡ ShownModel k h))
+  pub of-check : (t u : List ℕ) (a l : ℕ) → (checkReply t u a l .number ≡ 0) ↔ Accepts t u a l
   pub of-fill : (t s : List ℕ) (a l : ℕ) → (fillReply t s a l .number ≡ 0) ↔ ((k : ℕ) × (h : ℕ) × (fillAnswer t s a l ≡ Filled k h))
 
 pub zero-accepts : ZeroAccepts
