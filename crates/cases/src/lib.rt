@@ -21,5 +21,6 @@ pub use replies::print_accepted;
 pub use replies::print_bad_case;
 pub use replies::print_buffer;
 pub use replies::print_buffers;
+pub use replies::print_further;
 pub use replies::print_line_end;
 pub use replies::print_refused;

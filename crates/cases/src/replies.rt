@@ -10,6 +10,12 @@ pub fn print_accepted(first: usize, second: usize) {
     print_number(second);
 }
 
+// Prints a further number behind a space.
+pub fn print_further(number: usize) {
+    io::write_all(1, b" ");
+    print_number(number);
+}
+
 // Prints a refusal's number and spot.
 pub fn print_refused(number: u8, spot: usize) {
     io::write_all(1, b"refused ");

@@ -1,7 +1,7 @@
 // Runs the check on many programs and answers.
 //
 // Each argument names a file of at most 262,144 bytes with a call of `check` on each line, TEXT ANSWER ASSIGNMENT LEVELS: prints
-// `ok TRUE HIGHEST ASSIGNMENT LEVELS` or `refused NUMBER SPOT ASSIGNMENT LEVELS`, the two buffers as they are after the call, whole.
+// `ok TRUE HIGHEST ASSUMED ASSIGNMENT LEVELS` or `refused NUMBER SPOT ASSIGNMENT LEVELS`, the two buffers as they are after the call, whole.
 // The four are fields as crate `cases` decodes them. A line that is not of this form prints `bad case`, and so does a text or an answer of more than
 // 70,000 bytes, an assignment of more than 65,536 or levels of more than 4,096.
 use cases::decode_four;
@@ -9,6 +9,7 @@ use cases::line_end;
 use cases::print_accepted;
 use cases::print_bad_case;
 use cases::print_buffers;
+use cases::print_further;
 use cases::print_refused;
 use cases::read_argument;
 use checking::CheckVerdict;
@@ -19,7 +20,10 @@ use checking::check_spot_of;
 // Prints what the check answers.
 fn say_verdict(v: CheckVerdict) {
     match v {
-        CheckVerdict::Model(count, highest) => print_accepted(count, highest),
+        CheckVerdict::Model(count, highest, assumed) => {
+            print_accepted(count, highest);
+            print_further(assumed);
+        }
         CheckVerdict::Refused(r) => print_refused(check_number_of(r), check_spot_of(r)),
     }
 }
