@@ -10,7 +10,7 @@
  * - A call keeps nothing, allocates nothing and may run beside others in several threads.
  * - Bytes of a buffer that a comment does not name stay as they were.
  *
- * The program text, the clause file, the answer, the rows of refusals and their spots are those of the specification (document 01).
+ * The program text, the clause file, the answer, the rows of refusals and their spots are those of the specification (document 01, with Q-3 of document 02).
  * Atoms, variables and clauses count from 1, bytes from 0. */
 #ifndef QUADRENSOLO_H
 #define QUADRENSOLO_H
@@ -22,13 +22,15 @@
 extern "C" {
 #endif
 
-/* What a call answers. Accepted: number and spot are 0, and a and b are what the function says, 0 for one that it does not use.
- * Refused: number is the row met, 1 to 18, spot is where or how much, and a and b are 0. */
+/* What a call answers. Accepted: number and spot are 0, and a to d are what the function says, 0 for one that it does not use. No function uses d.
+ * Refused: number is the row met, 1 to 18 but not 15, spot is where or how much, and a to d are 0. */
 struct qs_reply {
     uint64_t number;
     uint64_t spot;
     uint64_t a;
     uint64_t b;
+    uint64_t c;
+    uint64_t d;
 };
 
 /* Reads a program text: a is V, the number of variables, and b is C, the number of clauses.
@@ -45,11 +47,12 @@ struct qs_reply qs_line(const uint8_t *text, size_t text_len, size_t j, size_t p
  * Refused, and nothing is written: as qs_line for line j at place 0. */
 struct qs_reply qs_run(const uint8_t *text, size_t text_len, size_t j, uint8_t *buf, size_t buf_len);
 
-/* Whether the solver's answer shows a stable model of the program: a is how many atoms are true, and b the highest level, 0 if there is none. Written are
- * the assignment, V bytes of 0 or 1, and the levels, one byte for each atom, 0 for a false one.
+/* Whether the solver's answer shows a stable model of the program: a is how many atoms are true, b the highest level, 0 if there is none, and c how many of
+ * the variables 1 to V the answer leaves out. Those are read as false. Written are the assignment, V bytes of 0 or 1, and the levels, one byte for each atom,
+ * 0 for a false one.
  * Refused: as qs_read; then 8 short buffer (of the assignment, spot V; of the levels, spot the number of atoms), 10 overlong answer, 11 malformed answer,
- * 12 no model offered, 13 stray variable, 14 repeated variable, 15 missing variable, 16 false clause. Refusals 13 to 16 zero the first V bytes of the
- * assignment; the others write nothing. */
+ * 12 no model offered, 13 stray variable, 14 repeated variable, 16 false clause. Refusals 13, 14 and 16 zero the first V bytes of the assignment; the others
+ * write nothing. */
 struct qs_reply qs_check(const uint8_t *text, size_t text_len, const uint8_t *answer, size_t answer_len, uint8_t *assignment, size_t assignment_len,
                          uint8_t *levels, size_t levels_len);
 

@@ -1,5 +1,6 @@
 #!/usr/bin/env python3
-"""Writes the clause file of a ring with a way in, fills out its stable model, and checks that model as a solver would print it."""
+"""Writes the clause file of a ring with a way in, fills out its stable model, and checks that model as a solver would print it, whole and without the false
+variables."""
 
 import quadrensolo
 
@@ -14,6 +15,10 @@ print(f"levels {list(model.levels)}")
 values = " ".join(str(v if value else -v) for v, value in enumerate(model.assignment, 1))
 answer = f"s SATISFIABLE\nv {values} 0\n".encode()
 print("checked:", quadrensolo.check(program, answer) == model)
+
+true = " ".join(str(v) for v, value in enumerate(model.assignment, 1) if value)
+short = quadrensolo.check(program, f"s SATISFIABLE\nv {true} 0\n".encode())
+print(f"checked: {short.assignment == model.assignment}, with {short.assumed} variables left out and read as false")
 
 try:
     quadrensolo.fill_out(program, bytes([1, 1, 1]))

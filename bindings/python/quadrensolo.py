@@ -13,13 +13,13 @@ LIBRARY = os.environ.get("QS_LIBRARY") or os.path.join(ROOT, "target", "python",
 # No line has more bytes.
 MAX_LINE = 3008
 
-# The rows of document 01's table of verdicts, and what the spot counts.
+# The rows of document 01's table of verdicts, and what the spot counts. Row 15 does not occur (Q-3 of document 02).
 ROWS = {
     1: ("overlong", "length"), 2: ("malformed", "byte"), 3: ("too many atoms", "byte"), 4: ("unknown atom", "byte"),
     5: ("unordered", "byte"), 6: ("too many rules", "byte"), 7: ("bodies full", "byte"), 8: ("short buffer", "bytes needed"),
     9: ("no such clause", "clauses"), 10: ("overlong answer", "length"), 11: ("malformed answer", "byte"),
     12: ("no model offered", None), 13: ("stray variable", "byte"), 14: ("repeated variable", "byte"),
-    15: ("missing variable", "variable"), 16: ("false clause", "clause"), 17: ("bad set", "index"), 18: ("unfounded", "atom"),
+    16: ("false clause", "clause"), 17: ("bad set", "index"), 18: ("unfounded", "atom"),
 }
 
 
@@ -40,12 +40,13 @@ class Totals(NamedTuple):
 class Model(NamedTuple):
     true_atoms: int
     highest_level: int
+    assumed: int  # how many variables the answer leaves out: they are read as false; 0 from fill_out
     assignment: bytes  # of each variable, 0 or 1
     levels: bytes  # of each atom, 0 for a false one
 
 
 class _Reply(ctypes.Structure):
-    _fields_ = [(name, ctypes.c_uint64) for name in ("number", "spot", "a", "b")]
+    _fields_ = [(name, ctypes.c_uint64) for name in ("number", "spot", "a", "b", "c", "d")]
 
 
 def _load():
@@ -69,12 +70,13 @@ _library = _load()
 def _numbers(reply):
     if reply.number:
         raise Refusal(reply.number, reply.spot)
-    return reply.a, reply.b
+    return reply.a, reply.b, reply.c
 
 
 def read(text: bytes) -> Totals:
     """How many variables and clauses the clause file of a program text has."""
-    return Totals(*_numbers(_library.qs_read(text, len(text))))
+    variables, clauses, _ = _numbers(_library.qs_read(text, len(text)))
+    return Totals(variables, clauses)
 
 
 def line(text: bytes, j: int) -> bytes:
@@ -82,7 +84,7 @@ def line(text: bytes, j: int) -> bytes:
     if not 0 <= j < 1 << 64:
         raise ValueError(f"no line number: {j}")
     buf = ctypes.create_string_buffer(MAX_LINE)
-    length, _ = _numbers(_library.qs_line(text, len(text), j, 0, buf, MAX_LINE))
+    length, _, _ = _numbers(_library.qs_line(text, len(text), j, 0, buf, MAX_LINE))
     return buf.raw[:length]
 
 
@@ -92,7 +94,7 @@ def runs(text: bytes, size: int = 1 << 20):
     buf = ctypes.create_string_buffer(size)
     j = 0
     while j <= clauses:
-        lines, length = _numbers(_library.qs_run(text, len(text), j, buf, size))
+        lines, length, _ = _numbers(_library.qs_run(text, len(text), j, buf, size))
         yield ctypes.string_at(buf, length)
         j += lines
 
@@ -112,7 +114,7 @@ def _model(function, text, given):
 
 
 def check(text: bytes, answer: bytes) -> Model:
-    """The stable model that a solver's answer shows."""
+    """The stable model that a solver's answer shows. A variable that the answer leaves out is read as false."""
     return _model(_library.qs_check, text, answer)
 
 

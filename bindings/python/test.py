@@ -40,13 +40,24 @@ class Module(unittest.TestCase):
         self.assertEqual(quadrensolo.clause_file(b"(atoms 0)\n"), b"p cnf 0 0\n")
 
     def test_models(self):
-        model = quadrensolo.Model(1, 1, bytes([1, 1, 1, 1, 0, 0, 1]), bytes([1]))
+        model = quadrensolo.Model(1, 1, 0, bytes([1, 1, 1, 1, 0, 0, 1]), bytes([1]))
         self.assertEqual(quadrensolo.check(FACT, ANSWER), model)
         self.assertEqual(quadrensolo.fill_out(FACT, bytes([1])), model)
-        self.assertEqual(quadrensolo.fill_out(b"(atoms 0)\n", b""), (0, 0, b"", b""))
+        self.assertEqual(quadrensolo.fill_out(b"(atoms 0)\n", b""), (0, 0, 0, b"", b""))
         self.refused(18, 1, quadrensolo.fill_out, FACT, bytes([0]))
         self.refused(12, 0, quadrensolo.check, FACT, b"s UNSATISFIABLE\n")
         self.refused(4, 16, quadrensolo.check, b"(atoms 1)\n(rule 2 () ())\n", ANSWER)
+
+    def test_left_out(self):
+        """5 and 6 are false in the fact's model, the others true: without 7 clause 11 is false, and clause 1 without any."""
+        model = quadrensolo.fill_out(FACT, bytes([1]))
+        self.assertEqual(quadrensolo.check(FACT, b"s SATISFIABLE\nv 1 2 3 4 7 0\n"), model._replace(assumed=2))
+        self.assertEqual(quadrensolo.check(FACT, b"s SATISFIABLE\nv 1 2 3 4 -5 7 0\n"), model._replace(assumed=1))
+        self.assertEqual(quadrensolo.check(b"(atoms 0)\n", b"s SATISFIABLE\nv 0\n"), (0, 0, 0, b"", b""))
+        self.refused(16, 11, quadrensolo.check, FACT, b"s SATISFIABLE\nv 1 2 3 4 -5 -6 0\n")
+        self.refused(16, 1, quadrensolo.check, FACT, b"s SATISFIABLE\nv 0\n")
+        self.refused(14, 18, quadrensolo.check, FACT, b"s SATISFIABLE\nv 1 -1 0\n")
+        self.refused(13, 16, quadrensolo.check, FACT, b"s SATISFIABLE\nv 8 0\n")
 
 
 def field(word):
@@ -75,7 +86,10 @@ class Cases(unittest.TestCase):
         self.assertTrue(0 < len(lines) <= len(expected))
         return zip(lines, expected)
 
-    def compare(self, expected, reply, values, *buffers):
+    def compare(self, expected, reply, values, *buffers, used=None):
+        """`used` says how many values the call has, if `values` are not all of them; the others are 0, and all are if it is refused."""
+        used = 0 if reply.number else len(values) if used is None else used
+        self.assertFalse(any((reply.a, reply.b, reply.c, reply.d)[used:]))
         words = [f"refused {reply.number} {reply.spot}"] if reply.number else [" ".join(map(str, ["ok", *values]))]
         self.assertEqual(" ".join(words + [shown(buffer.raw) for buffer in buffers]), expected)
         Cases.compared += 1
@@ -83,7 +97,7 @@ class Cases(unittest.TestCase):
     def test_read(self):
         for line, expected in self.calls("read_cases", ["vectors.hex"]):
             text = field(line)
-            self.compare(expected, _library.qs_read(text, len(text)), ())
+            self.compare(expected, _library.qs_read(text, len(text)), (), used=2)
 
     def test_line(self):
         for line, expected in self.calls("line_cases", ["vectors.calls", "hand.calls"]):
@@ -93,18 +107,19 @@ class Cases(unittest.TestCase):
             reply = _library.qs_line(text, len(text), int(words[1]), int(words[2]), buffer, len(buf))
             self.compare(expected, reply, (reply.a,), buffer)
 
-    def models(self, crate, names, function):
+    def models(self, crate, names, function, values):
         for line, expected in self.calls(crate, names):
             text, given, assignment, levels = map(field, line.split(" "))
             buffers = [ctypes.create_string_buffer(data, len(data)) for data in (assignment, levels)]
             reply = function(text, len(text), given, len(given), buffers[0], len(assignment), buffers[1], len(levels))
-            self.compare(expected, reply, (reply.a, reply.b), *buffers)
+            self.compare(expected, reply, values(reply), *buffers)
 
     def test_check(self):
-        self.models("check_cases", ["vectors1.calls", "vectors2.calls", "hand.calls", "full.calls", "filled.calls", "filled_vectors.calls"], _library.qs_check)
+        names = ["vectors1.calls", "vectors2.calls", "vectors3.calls", "hand.calls", "full.calls", "filled.calls", "filled_vectors.calls"]
+        self.models("check_cases", names, _library.qs_check, lambda reply: (reply.a, reply.b, reply.c))
 
     def test_fill(self):
-        self.models("fill_cases", ["vectors.calls", "hand.calls", "full.calls"], _library.qs_fill)
+        self.models("fill_cases", ["vectors.calls", "hand.calls", "full.calls"], _library.qs_fill, lambda reply: (reply.a, reply.b))
 
     @classmethod
     def tearDownClass(cls):

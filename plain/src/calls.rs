@@ -3,24 +3,24 @@
 use crate::Refusal;
 use std::io::{stdin, BufRead};
 
-/// A call on two inputs and two lent buffers.
-pub type Call = fn(&[u8], &[u8], &mut [u8], &mut [u8]) -> Result<(usize, usize), Refusal>;
+/// A call on two inputs and two lent buffers. Accepted, it returns several numbers.
+pub type Call<Numbers> = fn(&[u8], &[u8], &mut [u8], &mut [u8]) -> Result<Numbers, Refusal>;
 
 /// Prints the reply to each line of standard input.
-pub fn print_replies(call: Call) {
+pub fn print_replies<Numbers: Into<[usize; N]>, const N: usize>(call: Call<Numbers>) {
     for line in stdin().lock().lines() {
         println!("{}", reply(call, &line.expect("a line of text")));
     }
 }
 
 /// The reply to a line, and both buffers after the call.
-pub fn reply(call: Call, line: &str) -> String {
+pub fn reply<Numbers: Into<[usize; N]>, const N: usize>(call: Call<Numbers>, line: &str) -> String {
     let mut fields: Vec<_> = line.split(' ').map(bytes).collect();
     let [text, given, assignment, levels] = &mut fields[..] else {
         panic!("four fields: {line}");
     };
     let said = match call(text, given, assignment, levels) {
-        Ok((count, highest)) => format!("ok {count} {highest}"),
+        Ok(numbers) => format!("ok {}", numbers.into().map(|x| x.to_string()).join(" ")),
         Err((number, spot)) => format!("refused {number} {spot}"),
     };
     format!("{said} {} {}", hex(assignment), hex(levels))

@@ -152,7 +152,7 @@ mod tests {
                 &mut checked,
                 &mut counters
             ),
-            Ok((count, highest))
+            Ok((count, highest, 0))
         );
         assert_eq!((&checked, &counters), (&assignment, &levels));
         levels.truncate(n);

@@ -63,7 +63,7 @@ fn line_vectors() {
 }
 
 /// Compares the replies to calls on two inputs and two lent buffers.
-fn replies(name: &str, call: Call) {
+fn replies<Numbers: Into<[usize; N]>, const N: usize>(name: &str, call: Call<Numbers>) {
     for (i, (line, said)) in calls(name).unwrap_or_default().iter().enumerate() {
         assert_eq!(
             reply(call, &line.join(" ")),
@@ -76,7 +76,7 @@ fn replies(name: &str, call: Call) {
 
 #[test]
 fn check_vectors() {
-    replies("check.txt", check);
+    replies("q-3/check.txt", check);
 }
 
 #[test]

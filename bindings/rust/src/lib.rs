@@ -23,6 +23,11 @@
 //! answer.extend(b" 0\n");
 //! assert_eq!(quadrensolo::check(text, &answer, &mut assignment, &mut levels), Ok(model));
 //!
+//! // A variable that an answer leaves out is read as false: here 12 of the 18.
+//! let answer = b"s SATISFIABLE\nv 1 3 5 7 12 13 0\n";
+//! let short = quadrensolo::check(text, answer, &mut assignment, &mut levels)?;
+//! assert_eq!(short, quadrensolo::Model { assumed: 12, ..model });
+//!
 //! // Atom 2 alone is not one: row 18, and the set and its least model differ in atom 2.
 //! let refusal = quadrensolo::fill_out(text, &[0, 1], &mut assignment, &mut levels).unwrap_err();
 //! assert_eq!(refusal.to_string(), "unfounded (18), spot 2");
@@ -59,6 +64,8 @@ pub struct Model {
     pub true_atoms: usize,
     /// 0 if no atom is true.
     pub highest_level: usize,
+    /// How many variables the answer leaves out: they are read as false. 0 from [`fill_out`].
+    pub assumed: usize,
 }
 
 /// Reads a program text. Rows 1 to 7.
@@ -95,9 +102,9 @@ pub fn run(text: &[u8], j: usize, buf: &mut [u8]) -> Result<Run, Refusal> {
     Ok(Run { lines, bytes })
 }
 
-/// Whether the solver's answer shows a stable model of the program. Accepted, the first V bytes of `assignment` are the values of the
-/// variables, and the first bytes of `levels` the atoms' levels, 0 for a false atom. Rows 1 to 8 and 10 to 16; refusals 13 to 16 zero the
-/// first V bytes of `assignment`, the others write nothing.
+/// Whether the solver's answer shows a stable model of the program; a variable that it leaves out is read as false. Accepted, the first V
+/// bytes of `assignment` are the values of the variables, and the first bytes of `levels` the atoms' levels, 0 for a false atom. Rows 1 to
+/// 8, 10 to 14 and 16; refusals 13, 14 and 16 zero the first V bytes of `assignment`, the others write nothing.
 pub fn check(
     text: &[u8],
     answer: &[u8],
@@ -164,7 +171,9 @@ pub fn clause_file(text: &[u8]) -> Result<Vec<u8>, Refusal> {
 }
 
 fn accepted(reply: sys::Reply) -> Result<(usize, usize), Refusal> {
-    let sys::Reply { number, spot, a, b } = reply;
+    let sys::Reply {
+        number, spot, a, b, ..
+    } = reply;
     match number {
         0 => Ok((a as usize, b as usize)),
         _ => Err(Refusal { number, spot }),
@@ -176,5 +185,6 @@ fn model(reply: sys::Reply) -> Result<Model, Refusal> {
     Ok(Model {
         true_atoms,
         highest_level,
+        assumed: reply.c as usize,
     })
 }

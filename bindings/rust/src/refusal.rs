@@ -6,9 +6,9 @@ use std::fmt::{Display, Formatter, Result};
 /// A row of the specification's table of verdicts, and where it was met or how much was needed.
 #[derive(Clone, Copy, Debug, PartialEq, Eq, Hash)]
 pub struct Refusal {
-    /// The row, 1 to 18.
+    /// The row, 1 to 18 but not 15.
     pub number: u64,
-    /// A byte (from 0), a line, clause, variable or atom (from 1), or a length, as the row says.
+    /// A byte (from 0), a line, clause or atom (from 1), or a length, as the row says.
     pub spot: u64,
 }
 
@@ -30,7 +30,6 @@ impl Refusal {
             12 => "no model offered",
             13 => "stray variable",
             14 => "repeated variable",
-            15 => "missing variable",
             16 => "false clause",
             17 => "bad set",
             18 => "unfounded",

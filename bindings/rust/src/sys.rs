@@ -1,6 +1,6 @@
 //! The C interface, as in include/quadrensolo.h.
 
-/// Accepted: `number` and `spot` are 0, `a` and `b` what the function says. Refused: number and spot of the row met, `a` and `b` are 0.
+/// Accepted: `number` and `spot` are 0, `a` to `d` what the function says. Refused: number and spot of the row met, `a` to `d` are 0.
 #[repr(C)]
 #[derive(Clone, Copy, Debug, PartialEq, Eq)]
 pub struct Reply {
@@ -8,6 +8,8 @@ pub struct Reply {
     pub spot: u64,
     pub a: u64,
     pub b: u64,
+    pub c: u64,
+    pub d: u64,
 }
 
 extern "C" {

@@ -107,6 +107,7 @@ fn rows(case: &Case, words: &[String]) {
     }
     for (call, answer) in [
         ("check, accepted", &case.answer),
+        ("check, negative ones left out", &case.positive),
         ("check, refused late", &case.refused),
     ] {
         row(call, answer.len(), &|side, buffers| {

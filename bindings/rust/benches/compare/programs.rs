@@ -13,7 +13,9 @@ pub struct Case {
     pub clauses: usize,
     /// The answer that shows the model.
     pub answer: Vec<u8>,
-    /// The same with the literal of the last rule's s flipped.
+    /// Its positive literals alone.
+    pub positive: Vec<u8>,
+    /// The answer with the literal of the last rule's s flipped.
     pub refused: Vec<u8>,
 }
 
@@ -37,7 +39,9 @@ fn case(name: &'static str, text: String) -> Case {
     assert_eq!(set, upper, "{name}: atoms left open");
     let (mut values, mut levels) = (vec![0; variables], vec![0; program.atoms]);
     fill_out(&text, &set, &mut values, &mut levels).expect("a stable model");
-    let answer = answer(&values);
+    let whole = literals(&values);
+    let positive = whole.iter().filter(|literal| !literal.starts_with('-'));
+    let (answer, positive) = (answer(&whole), self::answer(positive));
     let last = program.atoms + 2 * program.rules().len() - 1;
     values[last] ^= 1;
     Case {
@@ -47,22 +51,23 @@ fn case(name: &'static str, text: String) -> Case {
         variables,
         clauses,
         answer,
-        refused: self::answer(&values),
+        positive,
+        refused: self::answer(&literals(&values)),
     }
 }
 
-/// The values as a solver prints them, in lines of at most 78 bytes.
-fn answer(values: &[u8]) -> Vec<u8> {
+/// Literals as a solver prints them, in lines of at most 78 bytes.
+fn answer<'a>(literals: impl IntoIterator<Item = &'a String>) -> Vec<u8> {
     let mut answer = String::from("s SATISFIABLE\n");
     let mut line = String::from("v");
-    for literal in literals(values) {
+    for literal in literals {
         if line.len() + 1 + literal.len() > 78 {
             answer += &line;
             answer += "\n";
             line = String::from("v");
         }
         line += " ";
-        line += &literal;
+        line += literal;
     }
     answer += &line;
     answer += " 0\n";

@@ -1,4 +1,4 @@
-//! Solver answers: printed from values, whole or damaged.
+//! Solver answers: printed from values, whole, with variables left out, or damaged.
 
 use crate::models::literals;
 use crate::random::Random;
@@ -30,11 +30,14 @@ const ODD: [&str; 22] = [
     "-340282366920938463463374607431768211457",
 ];
 
-/// An answer that shows the values, with a few changes or none.
+/// An answer that shows the values, all of them or some, with a few changes or none.
 pub fn answer(random: &mut Random, values: &[u8]) -> Vec<u8> {
     let mut literals = literals(values);
     if random.one_in(3) {
         random.shuffle(&mut literals);
+    }
+    if random.one_in(2) {
+        leave_out(random, &mut literals);
     }
     for _ in 0..random.pick(&[0, 0, 1, 1, 1, 2]) {
         change(random, &mut literals, values.len());
@@ -47,6 +50,26 @@ pub fn answer(random: &mut Random, values: &[u8]) -> Vec<u8> {
         pad(random, &mut answer);
     }
     answer
+}
+
+/// Leaves out negative literals, positive ones, a few of both, or all.
+fn leave_out(random: &mut Random, literals: &mut Vec<String>) {
+    let negative = |literal: &str| literal.starts_with('-');
+    match random.below(12) {
+        0..4 => literals.retain(|literal| !negative(literal)),
+        4..6 => literals.retain(|literal| !negative(literal) || random.one_in(2)),
+        6 => literals.retain(|literal| !negative(literal) || !random.one_in(20)),
+        7 => literals.retain(|literal| negative(literal)),
+        8 => literals.retain(|literal| negative(literal) || !random.one_in(20)),
+        9 => literals.clear(),
+        _ => {
+            for _ in 0..random.pick(&[1, 1, 2, 3]) {
+                if !literals.is_empty() {
+                    literals.remove(random.below(literals.len()));
+                }
+            }
+        }
+    }
 }
 
 fn change(random: &mut Random, literals: &mut Vec<String>, variables: usize) {

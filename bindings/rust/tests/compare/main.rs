@@ -1,4 +1,4 @@
-//! Every call of the proved library compared with the plain implementation: number, spot, both values and each byte of each buffer, on many
+//! Every call of the proved library compared with the plain implementation: number, spot, each value and each byte of each buffer, on many
 //! inputs from fixed seeds.
 
 mod answers;
@@ -139,7 +139,8 @@ fn check() {
             );
         }
     });
-    tally.end((1..=8).chain(10..=16));
+    assert_ne!(tally.assumed, 0);
+    tally.end((1..=8).chain(10..=14).chain([16]));
 }
 
 #[test]

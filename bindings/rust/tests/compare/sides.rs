@@ -15,19 +15,25 @@ pub struct Side {
 }
 
 pub const PLAIN: Side = Side {
-    read: |text| plain(plain::read(text)),
-    line: |text, j, place, buf| plain(plain::line(text, j, place, buf).map(|length| (length, 0))),
-    run: |text, j, buf| plain(plain::run(text, j, buf)),
-    check: |text, answer, values, levels| plain(plain::check(text, answer, values, levels)),
-    fill_out: |text, set, values, levels| plain(plain::fill_out(text, set, values, levels)),
+    read: |text| plain(plain::read(text).map(two)),
+    line: |text, j, place, buf| {
+        plain(plain::line(text, j, place, buf).map(|length| [length, 0, 0]))
+    },
+    run: |text, j, buf| plain(plain::run(text, j, buf).map(two)),
+    check: |text, answer, values, levels| {
+        plain(plain::check(text, answer, values, levels).map(<[usize; 3]>::from))
+    },
+    fill_out: |text, set, values, levels| {
+        plain(plain::fill_out(text, set, values, levels).map(two))
+    },
 };
 
 pub const SAFE: Side = Side {
-    read: |text| safe(quadrensolo::read(text).map(|totals| (totals.variables, totals.clauses))),
+    read: |text| safe(quadrensolo::read(text).map(|totals| [totals.variables, totals.clauses, 0])),
     line: |text, j, place, buf| {
-        safe(quadrensolo::line(text, j, place, buf).map(|length| (length, 0)))
+        safe(quadrensolo::line(text, j, place, buf).map(|length| [length, 0, 0]))
     },
-    run: |text, j, buf| safe(quadrensolo::run(text, j, buf).map(|run| (run.lines, run.bytes))),
+    run: |text, j, buf| safe(quadrensolo::run(text, j, buf).map(|run| [run.lines, run.bytes, 0])),
     check: |text, answer, values, levels| {
         safe(quadrensolo::check(text, answer, values, levels).map(model))
     },
@@ -36,31 +42,38 @@ pub const SAFE: Side = Side {
     },
 };
 
-fn model(model: Model) -> (usize, usize) {
-    (model.true_atoms, model.highest_level)
+/// The numbers a, b and c of a reply.
+type Numbers = [usize; 3];
+
+fn two((a, b): (usize, usize)) -> Numbers {
+    [a, b, 0]
 }
 
-fn plain(said: Result<(usize, usize), plain::Refusal>) -> Reply {
+fn model(model: Model) -> Numbers {
+    [model.true_atoms, model.highest_level, model.assumed]
+}
+
+fn plain(said: Result<Numbers, plain::Refusal>) -> Reply {
     match said {
-        Ok((a, b)) => accepted(a, b),
+        Ok(numbers) => accepted(numbers),
         Err((number, spot)) => refused(number as u64, spot as u64),
     }
 }
 
-fn safe(said: Result<(usize, usize), Refusal>) -> Reply {
+fn safe(said: Result<Numbers, Refusal>) -> Reply {
     match said {
-        Ok((a, b)) => accepted(a, b),
+        Ok(numbers) => accepted(numbers),
         Err(Refusal { number, spot }) => refused(number, spot),
     }
 }
 
-fn accepted(a: usize, b: usize) -> Reply {
-    let (a, b) = (a as u64, b as u64);
+fn accepted(numbers: Numbers) -> Reply {
+    let [a, b, c] = numbers.map(|number| number as u64);
     Reply {
-        number: 0,
-        spot: 0,
         a,
         b,
+        c,
+        ..refused(0, 0)
     }
 }
 
@@ -70,5 +83,7 @@ fn refused(number: u64, spot: u64) -> Reply {
         spot,
         a: 0,
         b: 0,
+        c: 0,
+        d: 0,
     }
 }

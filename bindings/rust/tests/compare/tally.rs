@@ -10,6 +10,8 @@ pub struct Tally {
     call: &'static str,
     /// Of each number; accepted ones at 0.
     replies: [usize; 19],
+    /// Accepted ones with variables left out.
+    pub assumed: usize,
     /// Of the inputs now tried.
     pub seed: u64,
 }
@@ -19,6 +21,7 @@ impl Tally {
         Tally {
             call,
             replies: [0; 19],
+            assumed: 0,
             seed: 0,
         }
     }
@@ -51,6 +54,7 @@ impl Tally {
             }
         }
         self.replies[plain.number as usize] += 1;
+        self.assumed += (plain.c > 0) as usize;
         plain
     }
 
@@ -58,6 +62,9 @@ impl Tally {
     pub fn end(self, numbers: impl IntoIterator<Item = usize>) {
         let total: usize = self.replies.iter().sum();
         let mut line = format!("{}: {total} calls, {} accepted", self.call, self.replies[0]);
+        if self.assumed > 0 {
+            line += &format!(" ({} with variables left out)", self.assumed);
+        }
         for (number, count) in self.replies.iter().enumerate().skip(1) {
             if *count > 0 {
                 line += &format!(", {count} of {number}");
