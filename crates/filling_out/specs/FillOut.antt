@@ -2,7 +2,7 @@
 -- s is the set, one byte for each atom.
 --   fillNumber, fillSpot    the document's number and spot of a refusal
 --   firstBad s              the first byte of s above 1, counted from 1; 0 if there is none
---   foundedResult P M       row 18, for the set M of atoms, and what an accepted set gives
+--   foundedResult P M       row 18, for the set M of atoms, and what an accepted set gives; no variable is left out
 --   setResult P s           row 17, then these
 --   fillResult P s a l      row 8, for buffers of a and l bytes, then these
 --   fillOf t s a l          the rows of the program text t, then these

@@ -6,7 +6,6 @@
 --   offered-fit                    none is stray or repeated
 --   offered-named                  each variable is named
 --   offered-values                 the values that they give are bs
---   offered-none                   no variable is left out
 -- Assumes nothing.
 use Prim.Native.Nat.{ℕ, zero, suc, _+_, _*_, _≤_, _<_}
 use native.Mathlib.Omega.{arith}
@@ -31,10 +30,10 @@ use Rattle.answer_reader.specs.declared.Formed.the-variants.{Model}
 use Rattle.answer_reader.specs.Results.{formOf}
 use Rattle.answers.specs.Reading.{IsModel}
 use Rattle.answer_reader.proofs.Promised.{model-form}
-use Rattle.assigning.specs.Assign.{literalsFrom, nobody, literalAt, variableAt, Named, unnamedCount}
+use Rattle.assigning.specs.Assign.{literalsFrom, nobody, literalAt, variableAt, Named}
 use Rattle.assigning.proofs.Taking.{literals-read}
 use Rattle.assigning.specs.Rows.{AllFit}
-use Rattle.assigning.proofs.Rows.{literals-named, unnamed-rest}
+use Rattle.assigning.proofs.Rows.{literals-named}
 use Rattle.offering.specs.Offered.{valueLiteral, literalsFor, offered, offeredText, valuesOf, Completes}
 use Rattle.offering.proofs.Values.{values-unique}
 
@@ -174,6 +173,3 @@ module _ (bs : List Bool) where
 
   pub offered-values : valuesOf (length bs) (literalsFrom (offeredText bs) 13) ≡ bs
   offered-values = sym (values-unique (length bs) spots (literals-named (offeredText bs) 13) offered-fit bs completes)
-
-  pub offered-none : unnamedCount (length bs) (literalsFrom (offeredText bs) 13) ≡ 0
-  offered-none = omega (arith, unnamed-rest (length bs) spots (literals-named (offeredText bs) 13) offered-fit, spots-length)

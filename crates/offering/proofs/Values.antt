@@ -27,7 +27,7 @@ use Rattle.assigning.specs.Assign.{valueOf as byteOf, nobody, literalAt, variab
 use Rattle.assigning.proofs.Steps.{AllNamed, byte-kept, byte-given, rest-kept}
 use Rattle.assigning.specs.Rows.{AllFit}
 use Rattle.assigning.proofs.Rows.{done-assigned, named-or-not}
-use Rattle.offering.specs.Offered.{valueBytes, isPositive, valuesOf, EachTrue, Completes}
+use Rattle.offering.specs.Offered.{valueBytes, isPositive, valuesOf, LiteralsTrue, Completes}
 
 -- ---- the bytes behind the first n
 
@@ -162,7 +162,7 @@ module _ (n : ℕ) (xs : List Spotted) (named : AllNamed xs) where
             getD-map completedByte alone 0 0 i (subst (λ (m : ℕ). i < m) (sym alone-length) h) ∙ value i h (named-or-not xs (suc i))
             ∙ sym (getD-map (λ b. cond b 1 0) bs false 0 i (subst (λ (m : ℕ). i < m) (sym (C .sized)) h))
 
-    values-true : EachTrue xs (valuesOf n xs)
+    values-true : LiteralsTrue xs (valuesOf n xs)
     values-true k h = go (literalAt xs k) refl
       where
         is : (v : ℕ) → variableAt xs k ≡ v → valueOf (valuesOf n xs) v ≡ any (λ (x : Spotted). isPositive v (x .literal)) xs

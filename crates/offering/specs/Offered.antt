@@ -7,7 +7,7 @@
 --   offeredText bs      its text
 --   isPositive v l      l is the positive literal of variable v
 --   valuesOf n xs       the values of variables 1 to n by the literals xs: v has the value true if its positive literal is one of them
---   EachTrue xs bs      each literal of xs is true where the variables have the values bs
+--   LiteralsTrue xs bs  each literal of xs is true where the variables have the values bs
 --   Completes n xs bs   bs are n values that make each literal of xs true, and a variable that no literal of xs names is false: the completed assignment
 -- Assumes nothing.
 use Prim.Native.Nat.{ℕ, _≤_, _<_}
@@ -50,10 +50,10 @@ isPositive v (− u) = false
 unfoldable pub valuesOf : ℕ → List Spotted → List Bool
 valuesOf n xs = tab n (λ v. any (λ (x : Spotted). isPositive v (x .literal)) xs)
 
-abbrev pub EachTrue : List Spotted → List Bool → Type 0
-EachTrue xs bs = (k : ℕ) → k < length xs → So (literalTrue (valueOf bs) (literalAt xs k))
+abbrev pub LiteralsTrue : List Spotted → List Bool → Type 0
+LiteralsTrue xs bs = (k : ℕ) → k < length xs → So (literalTrue (valueOf bs) (literalAt xs k))
 
 pub record Completes (n : ℕ) (xs : List Spotted) (bs : List Bool) : Type 0 where
   pub sized : length bs ≡ n
-  pub each-true : EachTrue xs bs
+  pub each-true : LiteralsTrue xs bs
   pub unnamed-false : (v : ℕ) → 0 < v → v ≤ n → Unnamed xs v → valueOf bs v ≡ false
