@@ -8,68 +8,47 @@ use Rattle.answer_reader.proofs.Numbers.{digit-from, number-begins, num
 use borrow.Author.Needs.{needs}
 use Rattle.answer_reader.proofs.literal_at.Statement.{statement}
 use Rattle.answer_reader.proofs.literal_at.Tie as tie
-use Rattle.answer_reader.proofs.literal_at.Reads as reads
-use Rattle.answer_reader.proofs.literal_at.Lts as lts
-use Rattle.form.proofs.is_digit.Reads as is-digit-reads
-use Rattle.answer_reader.proofs.minus_at.Reads as minus-at-reads
-use Rattle.answer_reader.proofs.number_at.Reads as number-at-reads
-use Rattle.answer_reader.proofs.positive.Reads as positive-reads
-use Rattle.answer_reader.proofs.with_digit.Reads as with-digit-reads
 
--- src/lib.rt:268:9
 returns : tie.Need-returns
 returns c = literal-short (now (c .before .before .args .answer)) _ (c .if1 .taken)
 
--- src/lib.rt:270:13
 shared-slice-read-b : tie.Need-shared-slice-read-b
 shared-slice-read-b c = search needs
 
--- src/lib.rt:272:33
 add-minus-at : tie.Need-add-minus-at
 add-minus-at c = search needs
 
--- src/lib.rt:272:9
 minus-at-requires : tie.Need-minus-at-requires
 minus-at-requires c κs = search needs
 
--- src/lib.rt:272:9
 returns-2 : tie.Need-returns-2
 returns-2 c = literal-minus (now (c .before .before .before .before .before .args .answer)) _ (c .before .before .before .if1 .left) (c .before .if2 .taken) _ (c .minus-at .ensures)
 
--- src/lib.rt:275:27
 add-t10 : tie.Need-add-t10
 add-t10 c = search needs
 
--- src/lib.rt:275:9
 returns-3 : tie.Need-returns-3
 returns-3 c = literal-zero (now (c .before .before .before .before .before .args .answer)) _ (c .before .before .before .if1 .left) (c .before .if2 .left) (c .if3 .taken)
 
--- src/lib.rt:277:8
 is-digit-requires : tie.Need-is-digit-requires
 is-digit-requires c κs = search needs
 
--- src/lib.rt:278:35
 add-number-at : tie.Need-add-number-at
 add-number-at c = search needs
 
--- src/lib.rt:278:43
 with-digit-requires : tie.Need-with-digit-requires
 with-digit-requires c κs = digit-from _ _ (c .before .is-digit .ensures) (ap not (c .if4 .taken))
 
--- src/lib.rt:278:13
 number-at-requires : tie.Need-number-at-requires
 number-at-requires c κs = search needs
 
--- src/lib.rt:279:30
 positive-requires : tie.Need-positive-requires
 positive-requires c κs = let n = number-begins (now (c .before .before .before .before .before .before .before .before .before .args .answer)) _ (c .before .before .before .before .before .before .before .if1 .left) _ (c .before .before .before .is-digit .ensures) (c .before .before .if4 .taken) _ (c .before .with-digit .ensures) _ _ (c .number-at .ensures) in number-small _ _ (n .0)
 
--- src/lib.rt:279:9
 returns-4 : tie.Need-returns-4
 returns-4 c = let n = number-begins (now (c .before .before .before .before .before .before .before .before .before .before .args .answer)) _ (c .before .before .before .before .before .before .before .before .if1 .left) _ (c .before .before .before .before .is-digit .ensures) (c .before .before .before .if4 .taken) _ (c .before .before .with-digit .ensures) _ _ (c .before .number-at .ensures) in
     literal-here (now (c .before .before .before .before .before .before .before .before .before .before .args .answer)) _ (c .before .before .before .before .before .before .before .before .if1 .left) (c .before .before .before .before .before .before .if2 .left) (c .before .before .before .before .before .if3 .left) _ (c .before .before .before .before .is-digit .ensures) (c .before .before .before .if4 .taken) _ (n .0) _ (toZ-ofZ (sfits-of {w = w32} (c .positive .ok)) ∙ c .positive .ensures) _ (n .1)
 
--- src/lib.rt:264:1
 returns-5 : tie.Need-returns-5
 returns-5 c = literal-other (now (c .before .before .before .before .before .before .before .args .answer)) _ (c .before .before .before .before .before .if1 .left) (c .before .before .before .if2 .left) (c .before .before .if3 .left) _ (c .before .is-digit .ensures) (c .if4 .left)
 

@@ -8,55 +8,38 @@ use Rattle.answer_reader.proofs.Numbers.{digit-from, number-begins, num
 use borrow.Author.Needs.{needs}
 use Rattle.answer_reader.proofs.minus_at.Statement.{statement}
 use Rattle.answer_reader.proofs.minus_at.Tie as tie
-use Rattle.answer_reader.proofs.minus_at.Reads as reads
-use Rattle.answer_reader.proofs.minus_at.Lts as lts
-use Rattle.form.proofs.is_digit.Reads as is-digit-reads
-use Rattle.answer_reader.proofs.negative.Reads as negative-reads
-use Rattle.answer_reader.proofs.number_at.Reads as number-at-reads
-use Rattle.answer_reader.proofs.with_digit.Reads as with-digit-reads
 
--- src/lib.rt:250:9
 returns : tie.Need-returns
 returns c = minus-short (now (c .before .before .args .answer)) _ (c .if1 .taken)
 
--- src/lib.rt:252:13
 shared-slice-read-b : tie.Need-shared-slice-read-b
 shared-slice-read-b c = search needs
 
--- src/lib.rt:254:9
 returns-2 : tie.Need-returns-2
 returns-2 c = minus-zero (now (c .before .before .before .before .args .answer)) _ (c .before .before .if1 .left) (c .if2 .taken)
 
--- src/lib.rt:256:8
 is-digit-requires : tie.Need-is-digit-requires
 is-digit-requires c κs = search needs
 
--- src/lib.rt:257:35
 add-number-at : tie.Need-add-number-at
 add-number-at c = search needs
 
--- src/lib.rt:257:43
 with-digit-requires : tie.Need-with-digit-requires
 with-digit-requires c κs = digit-from _ _ (c .before .is-digit .ensures) (ap not (c .if3 .taken))
 
--- src/lib.rt:257:13
 number-at-requires : tie.Need-number-at-requires
 number-at-requires c κs = search needs
 
--- src/lib.rt:258:30
 negative-requires : tie.Need-negative-requires
 negative-requires c κs = let n = number-begins (now (c .before .before .before .before .before .before .before .before .args .answer)) _ (c .before .before .before .before .before .before .if1 .left) _ (c .before .before .before .is-digit .ensures) (c .before .before .if3 .taken) _ (c .before .with-digit .ensures) _ _ (c .number-at .ensures) in number-small _ _ (n .0)
 
--- src/lib.rt:258:49
 sub-t10 : tie.Need-sub-t10
 sub-t10 c = search needs
 
--- src/lib.rt:258:9
 returns-3 : tie.Need-returns-3
 returns-3 c = let n = number-begins (now (c .before .before .before .before .before .before .before .before .before .args .answer)) _ (c .before .before .before .before .before .before .before .if1 .left) _ (c .before .before .before .before .is-digit .ensures) (c .before .before .before .if3 .taken) _ (c .before .before .with-digit .ensures) _ _ (c .before .number-at .ensures) in
     minus-here (now (c .before .before .before .before .before .before .before .before .before .args .answer)) _ (c .before .before .before .before .before .before .before .if1 .left) (c .before .before .before .before .before .if2 .left) _ (c .before .before .before .before .is-digit .ensures) (c .before .before .before .if3 .taken) _ (n .0) _ (toZ-ofZ (sfits-of {w = w32} (c .negative .ok)) ∙ c .negative .ensures) _ (n .1)
 
--- src/lib.rt:245:1
 returns-4 : tie.Need-returns-4
 returns-4 c = minus-other (now (c .before .before .before .before .before .before .args .answer)) _ (c .before .before .before .before .if1 .left) (c .before .before .if2 .left) _ (c .before .is-digit .ensures) (c .if3 .left)
 

@@ -3,32 +3,22 @@ use Rattle.answer_reader.proofs.Turns.{next-behind, next-lost}
 use borrow.Author.Needs.{needs}
 use Rattle.answer_reader.proofs.next_literal.Statement.{statement}
 use Rattle.answer_reader.proofs.next_literal.Tie as tie
-use Rattle.answer_reader.proofs.next_literal.Reads as reads
-use Rattle.answer_reader.proofs.next_literal.Lts as lts
-use Rattle.answer_reader.proofs.literal_at.Reads as literal-at-reads
-use Rattle.answer_reader.proofs.space_from.Reads as space-from-reads
 
--- src/lib.rt:347:9
 space-from-requires : tie.Need-space-from-requires
 space-from-requires c κs = search needs
 
--- src/lib.rt:349:23
 enum-known-s : tie.Need-enum-known-s
 enum-known-s c = search needs
 
--- src/lib.rt:349:29
 literal-at-requires : tie.Need-literal-at-requires
 literal-at-requires c κs = search needs
 
--- src/lib.rt:350:21
 enum-known-s-2 : tie.Need-enum-known-s-2
 enum-known-s-2 c = search needs
 
--- src/lib.rt:344:1
 returns : tie.Need-returns
 returns c = next-behind (now (c .before .before .before .before .before .before .args .answer)) _ _ (c .before .before .before .before .space-from .ensures) _ (c .before .before .s .given .1) _ (c .literal-at .ensures)
 
--- src/lib.rt:344:1
 returns-2 : tie.Need-returns-2
 returns-2 c = next-lost (now (c .before .before .before .before .before .args .answer)) _ _ (c .before .before .before .space-from .ensures) _ (c .before .s2 .given .1)
 

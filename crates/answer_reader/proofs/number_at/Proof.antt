@@ -8,10 +8,6 @@ use Rattle.answer_reader.specs.Results.{mostNumber}
 use Rattle.answer_reader.proofs.Numbers.{digit-from, number-goes, number-ends, number-stops}
 use Rattle.answer_reader.proofs.number_at.Statement.{statement}
 use Rattle.answer_reader.proofs.number_at.Tie as tie
-use Rattle.answer_reader.proofs.number_at.Reads as reads
-use Rattle.answer_reader.proofs.number_at.Lts as lts
-use Rattle.form.proofs.is_digit.Reads as is-digit-reads
-use Rattle.answer_reader.proofs.with_digit.Reads as with-digit-reads
 
 abbrev Inv-loop : tie.InvT-loop
 Inv-loop answer at value v₀ i₀ v i = (cappedValue mostNumber v (drop i answer) ≡ cappedValue mostNumber value (drop at answer)) × (behindDigits i (drop i answer) ≡ behindDigits at (drop at answer))
@@ -19,39 +15,30 @@ Inv-loop answer at value v₀ i₀ v i = (cappedValue mostNumber v (drop i answe
 abbrev μ-loop : tie.MeasureT-loop
 μ-loop answer at value v₀ i₀ v i = length answer - i
 
--- src/lib.rt:227:5
 loop-holds : tie.Need-loop-holds Inv-loop μ-loop
 loop-holds c = (refl, refl)
 
--- src/lib.rt:228:17
 shared-slice-read-b : tie.Need-shared-slice-read-b Inv-loop μ-loop
 shared-slice-read-b c = search needs
 
--- src/lib.rt:229:13
 is-digit-requires : tie.Need-is-digit-requires Inv-loop μ-loop
 is-digit-requires c κs = search needs
 
--- src/lib.rt:230:13
 returns : tie.Need-returns Inv-loop μ-loop
 returns c = number-ends (now (c .before .before .before .before .before .before .args .answer)) _ _ _ _ (c .before .before .before .before .loop .inv) _ (c .before .before .before .loop-test .taken) (c .before .is-digit .ensures) (c .if1 .taken)
 
--- src/lib.rt:235:9
 with-digit-requires : tie.Need-with-digit-requires Inv-loop μ-loop
 with-digit-requires c κs = digit-from _ _ (c .before .is-digit .ensures) (c .if1 .left)
 
--- src/lib.rt:236:9
 add-i : tie.Need-add-i Inv-loop μ-loop
 add-i c = search needs
 
--- src/lib.rt:227:5
 loop-less : tie.Need-loop-less Inv-loop μ-loop
 loop-less c = search needs
 
--- src/lib.rt:227:5
 loop-again : tie.Need-loop-again Inv-loop μ-loop
 loop-again c = number-goes (now (c .before .before .before .before .before .before .before .args .answer)) _ _ _ _ (c .before .before .before .before .before .loop .inv) _ _ (c .before .before .before .before .loop-test .taken) (c .before .before .is-digit .ensures) (c .before .if1 .left) (c .with-digit .ensures)
 
--- src/lib.rt:222:1
 returns-2 : tie.Need-returns-2 Inv-loop μ-loop
 returns-2 c = number-stops (now (c .before .before .before .args .answer)) _ _ _ _ (c .before .loop .inv) (c .loop-test .left)
 

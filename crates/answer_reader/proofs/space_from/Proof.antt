@@ -7,9 +7,6 @@ use Rattle.answer_reader.specs.Results.{spaceFrom}
 use Rattle.answer_reader.proofs.Turns.{space-here, space-behind, space-dies, space-goes, space-short}
 use Rattle.answer_reader.proofs.space_from.Statement.{statement}
 use Rattle.answer_reader.proofs.space_from.Tie as tie
-use Rattle.answer_reader.proofs.space_from.Reads as reads
-use Rattle.answer_reader.proofs.space_from.Lts as lts
-use Rattle.answer_reader.proofs.seek_step.Reads as seek-step-reads
 
 abbrev Inv-loop : tie.InvT-loop
 Inv-loop answer at q₀ i₀ q i = spaceFrom q i (drop i answer) ≡ spaceFrom 35 at (drop at answer)
@@ -17,55 +14,42 @@ Inv-loop answer at q₀ i₀ q i = spaceFrom q i (drop i answer) ≡ spaceFrom 3
 abbrev μ-loop : tie.MeasureT-loop
 μ-loop answer at q₀ i₀ q i = length answer - i
 
--- src/lib.rt:323:12
 shared-slice-read-if2 : tie.Need-shared-slice-read-if2 Inv-loop μ-loop
 shared-slice-read-if2 c = search needs
 
--- src/lib.rt:324:34
 add-t11 : tie.Need-add-t11 Inv-loop μ-loop
 add-t11 c = search needs
 
--- src/lib.rt:324:13
 returns : tie.Need-returns Inv-loop μ-loop
 returns c = space-here (now (c .before .before .before .before .args .answer)) _ (c .before .before .if1 .taken) (c .if2 .taken)
 
--- src/lib.rt:329:5
 loop-holds : tie.Need-loop-holds Inv-loop μ-loop
 loop-holds c = refl
 
--- src/lib.rt:330:30
 shared-slice-read-seek-step : tie.Need-shared-slice-read-seek-step Inv-loop μ-loop
 shared-slice-read-seek-step c = search needs
 
--- src/lib.rt:330:13
 seek-step-requires : tie.Need-seek-step-requires Inv-loop μ-loop
 seek-step-requires c κs = search needs
 
--- src/lib.rt:332:34
 add-t16 : tie.Need-add-t16 Inv-loop μ-loop
 add-t16 c = search needs
 
--- src/lib.rt:332:13
 returns-2 : tie.Need-returns-2 Inv-loop μ-loop
 returns-2 c = space-behind (now (c .before .before .before .before .before .before .before .args .answer)) _ _ _ (c .before .before .before .before .loop .inv) _ (c .before .before .before .loop-test .taken) (c .before .seek-step .ensures) (c .if3 .taken)
 
--- src/lib.rt:335:13
 returns-3 : tie.Need-returns-3 Inv-loop μ-loop
 returns-3 c = space-dies (now (c .before .before .before .before .before .before .before .before .args .answer)) _ _ _ (c .before .before .before .before .before .loop .inv) _ (c .before .before .before .before .loop-test .taken) (c .before .before .seek-step .ensures) (c .before .if3 .left) (c .if4 .taken)
 
--- src/lib.rt:338:9
 add-i : tie.Need-add-i Inv-loop μ-loop
 add-i c = search needs
 
--- src/lib.rt:329:5
 loop-less : tie.Need-loop-less Inv-loop μ-loop
 loop-less c = search needs
 
--- src/lib.rt:329:5
 loop-again : tie.Need-loop-again Inv-loop μ-loop
 loop-again c = space-goes (now (c .before .before .before .before .before .before .before .before .args .answer)) _ _ _ (c .before .before .before .before .before .loop .inv) _ (c .before .before .before .before .loop-test .taken) (c .before .before .seek-step .ensures) (c .before .if3 .left) (c .if4 .left)
 
--- src/lib.rt:319:1
 returns-4 : tie.Need-returns-4 Inv-loop μ-loop
 returns-4 c = space-short (now (c .before .before .before .before .args .answer)) _ _ _ (c .before .loop .inv) (c .loop-test .left)
 

@@ -1,14 +1,10 @@
 use Rattle.assigning.proofs.Turns.{completed-none, completed-some}
 use Rattle.assigning.proofs.completed_value.Statement.{statement}
 use Rattle.assigning.proofs.completed_value.Tie as tie
-use Rattle.assigning.proofs.completed_value.Reads as reads
-use Rattle.assigning.proofs.completed_value.Lts as lts
 
--- src/lib.rt:54:9
 returns : tie.Need-returns
 returns c = completed-none _ (c .if1 .taken)
 
--- src/lib.rt:50:1
 returns-2 : tie.Need-returns-2
 returns-2 c = completed-some _ (c .if1 .left)
 

@@ -9,9 +9,6 @@ use denote.Ref.{now}
 use Prim.Native.Nat.{_-_, _≤_}
 use Rattle.assigning.proofs.copy_completed.Statement.{statement}
 use Rattle.assigning.proofs.copy_completed.Tie as tie
-use Rattle.assigning.proofs.copy_completed.Reads as reads
-use Rattle.assigning.proofs.copy_completed.Lts as lts
-use Rattle.assigning.proofs.completed_value.Reads as completed-value-reads
 
 abbrev Inv-loop : tie.InvT-loop
 Inv-loop from n buf₀ i₀ buf i = (i ≤ n) × (length buf ≡ length buf₀) × (buf ≡ completed (take i from) ++ drop i buf₀)
@@ -19,39 +16,30 @@ Inv-loop from n buf₀ i₀ buf i = (i ≤ n) × (length buf ≡ length buf₀) 
 abbrev μ-loop : tie.MeasureT-loop
 μ-loop from n buf₀ i₀ buf i = n - i
 
--- src/lib.rt:65:5
 loop-holds : tie.Need-loop-holds Inv-loop μ-loop
 loop-holds c = (search needs, refl, refl)
 
--- src/lib.rt:66:34
 shared-slice-read-completed-value : tie.Need-shared-slice-read-completed-value Inv-loop μ-loop
 shared-slice-read-completed-value c = search needs
 
--- src/lib.rt:66:18
 completed-value-requires : tie.Need-completed-value-requires Inv-loop μ-loop
 completed-value-requires c κs = search needs
 
--- src/lib.rt:66:9
 slice-write-buf : tie.Need-slice-write-buf Inv-loop μ-loop
 slice-write-buf c = omega (arith, c .before .before .before .loop .inv .1, c .before .before .loop-test .taken, c .before .before .before .before .before .before .pre .1)
 
--- src/lib.rt:67:9
 add-i : tie.Need-add-i Inv-loop μ-loop
 add-i c = search needs
 
--- src/lib.rt:65:5
 loop-less : tie.Need-loop-less Inv-loop μ-loop
 loop-less c = search needs
 
--- src/lib.rt:65:5
 loop-again : tie.Need-loop-again Inv-loop μ-loop
 loop-again c = (search needs, length-set (c .before .before .before .loop .buf) (c .before .before .before .loop .i) _ ∙ c .before .before .before .loop .inv .1, copy-goes (now (c .before .before .before .before .before .before .args .from)) _ _ _ _ (omega (arith, c .before .before .before .before .before .before .pre .0, c .before .before .loop-test .taken)) (omega (arith, c .before .before .before .before .before .before .pre .1, c .before .before .loop-test .taken)) (c .before .before .before .loop .inv .2) (c .completed-value .ensures))
 
--- src/lib.rt:60:1
 same-length : tie.Need-same-length Inv-loop μ-loop
 same-length c = c .before .loop .inv .1
 
--- src/lib.rt:60:1
 returns : tie.Need-returns Inv-loop μ-loop
 returns c = copy-all (now (c .before .before .before .before .args .from)) _ _ _ _ (c .before .loop .inv .0) (c .loop-test .left) (c .before .loop .inv .2)
 

@@ -7,8 +7,6 @@ use mathlib.Core.Path.{_≡_, refl, _∙_}
 use Prim.Native.Nat.{_-_, _≤_}
 use Rattle.assigning.proofs.fill.Statement.{statement}
 use Rattle.assigning.proofs.fill.Tie as tie
-use Rattle.assigning.proofs.fill.Reads as reads
-use Rattle.assigning.proofs.fill.Lts as lts
 
 abbrev Inv-loop : tie.InvT-loop
 Inv-loop buf₀ n value i₀ buf i = (i ≤ n) × (length buf ≡ length buf₀) × (buf ≡ filledWith i value buf₀)
@@ -16,31 +14,24 @@ Inv-loop buf₀ n value i₀ buf i = (i ≤ n) × (length buf ≡ length buf₀)
 abbrev μ-loop : tie.MeasureT-loop
 μ-loop buf₀ n value i₀ buf i = n - i
 
--- src/lib.rt:27:5
 loop-holds : tie.Need-loop-holds Inv-loop μ-loop
 loop-holds c = (search needs, refl, fill-none _ _)
 
--- src/lib.rt:28:9
 slice-write-buf : tie.Need-slice-write-buf Inv-loop μ-loop
 slice-write-buf c = search needs
 
--- src/lib.rt:29:9
 add-i : tie.Need-add-i Inv-loop μ-loop
 add-i c = search needs
 
--- src/lib.rt:27:5
 loop-less : tie.Need-loop-less Inv-loop μ-loop
 loop-less c = search needs
 
--- src/lib.rt:27:5
 loop-again : tie.Need-loop-again Inv-loop μ-loop
 loop-again c = (search needs, length-set (c .before .loop .buf) (c .before .loop .i) (c .before .before .args .value) ∙ c .before .loop .inv .1, fill-goes _ _ _ _ (omega (arith, c .before .before .pre, c .loop-test .taken)) (c .before .loop .inv .2))
 
--- src/lib.rt:22:1
 same-length : tie.Need-same-length Inv-loop μ-loop
 same-length c = c .before .loop .inv .1
 
--- src/lib.rt:22:1
 returns : tie.Need-returns Inv-loop μ-loop
 returns c = fill-all _ _ _ _ _ (c .before .loop .inv .0) (c .loop-test .left) (c .before .loop .inv .2)
 

@@ -1,14 +1,10 @@
 use borrow.Author.Tests.{eq-eqb, ne-eqb}
 use Rattle.assigning.proofs.one_unset.Statement.{statement}
 use Rattle.assigning.proofs.one_unset.Tie as tie
-use Rattle.assigning.proofs.one_unset.Reads as reads
-use Rattle.assigning.proofs.one_unset.Lts as lts
 
--- src/lib.rt:64:9
 returns : tie.Need-returns
 returns c = simp (eq-eqb _ _ (c .if1 .taken))
 
--- src/lib.rt:60:1
 returns-2 : tie.Need-returns-2
 returns-2 c = simp (ne-eqb _ _ (c .if1 .left))
 

@@ -8,52 +8,37 @@ use mir.Facts.{toZ-ofZ}
 use borrow.Author.Needs.{needs}
 use Rattle.assigning.proofs.put_value.Statement.{statement}
 use Rattle.assigning.proofs.put_value.Tie as tie
-use Rattle.assigning.proofs.put_value.Reads as reads
-use Rattle.assigning.proofs.put_value.Lts as lts
-use Rattle.assigning.proofs.value_of.Reads as value-of-reads
-use Rattle.literals.proofs.magnitude.Reads as magnitude-reads
 
--- src/lib.rt:63:13
 magnitude-requires : tie.Need-magnitude-requires
 magnitude-requires c κs = subst (λ (x : ℤ). natAbs x < 2 ^ 31) (sym (toZ-ofZ (c .before .fits .x))) (c .before .pre .1)
 
--- src/lib.rt:63:13
 cast-k : tie.Need-cast-k
 cast-k c = search needs
 
--- src/lib.rt:65:9
 returns : tie.Need-returns
 returns c = put-stray _ _ _ (numberValue (c .before .before .before .args .x)) _ _ (c .before .magnitude .ensures ∙ ap natAbs (toZ-ofZ (c .before .before .before .fits .x))) (c .if1 .taken)
 
--- src/lib.rt:67:19
 sub-if2 : tie.Need-sub-if2
 sub-if2 c = omega (arith, c .before .magnitude .ensures ∙ ap natAbs (toZ-ofZ (c .before .before .before .fits .x)), c .before .before .before .pre .0)
 
--- src/lib.rt:67:8
 slice-read-if2 : tie.Need-slice-read-if2
 slice-read-if2 c = omega (arith, c .before .before .magnitude .ensures ∙ ap natAbs (toZ-ofZ (c .before .before .before .before .fits .x)), c .before .before .before .before .pre .0, c .before .before .before .before .pre .2, c .before .if1 .left)
 
--- src/lib.rt:68:9
 returns-2 : tie.Need-returns-2
 returns-2 c = put-repeated _ _ _ (numberValue (c .before .before .before .before .before .args .x)) _ _ (c .before .before .before .magnitude .ensures ∙ ap natAbs (toZ-ofZ (c .before .before .before .before .before .fits .x))) (c .before .before .if1 .left) (c .if2 .taken)
 
--- src/lib.rt:70:25
 value-of-requires : tie.Need-value-of-requires
 value-of-requires c κs = search needs
 
--- src/lib.rt:70:16
 sub-assignment : tie.Need-sub-assignment
 sub-assignment c = omega (arith, c .before .before .before .before .magnitude .ensures ∙ ap natAbs (toZ-ofZ (c .before .before .before .before .before .before .fits .x)), c .before .before .before .before .before .before .pre .0)
 
--- src/lib.rt:70:5
 slice-write-assignment : tie.Need-slice-write-assignment
 slice-write-assignment c = omega (arith, c .before .before .before .before .magnitude .ensures ∙ ap natAbs (toZ-ofZ (c .before .before .before .before .before .before .fits .x)), c .before .before .before .before .before .before .pre .0, c .before .before .before .before .before .before .pre .2, c .before .before .before .if1 .left)
 
--- src/lib.rt:59:1
 same-length : tie.Need-same-length
 same-length c = search needs
 
--- src/lib.rt:59:1
 returns-3 : tie.Need-returns-3
 returns-3 c = put-done _ _ _ (numberValue (c .before .before .before .before .before .before .args .x)) _ _ (c .before .before .before .before .magnitude .ensures ∙ ap natAbs (toZ-ofZ (c .before .before .before .before .before .before .fits .x))) (c .before .before .before .if1 .left) (c .before .if2 .left) _ (c .value-of .ensures ∙ ap numberValue (toZ-ofZ (c .before .before .before .before .before .before .fits .x)))
 

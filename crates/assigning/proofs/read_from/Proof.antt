@@ -11,13 +11,6 @@ use native.Mathlib.Omega.{arith}
 use borrow.Author.Needs.{needs}
 use Rattle.assigning.proofs.read_from.Statement.{statement}
 use Rattle.assigning.proofs.read_from.Tie as tie
-use Rattle.assigning.proofs.read_from.Reads as reads
-use Rattle.assigning.proofs.read_from.Lts as lts
-use Rattle.answer_reader.proofs.close.Reads as close-reads
-use Rattle.answer_reader.proofs.closed_form.Reads as closed-form-reads
-use Rattle.answer_reader.proofs.next_from.Reads as next-from-reads
-use Rattle.assigning.proofs.assumed_of.Reads as assumed-of-reads
-use Rattle.assigning.proofs.put_next.Reads as put-next-reads
 
 abbrev Inv-loop : tie.InvT-loop
 Inv-loop answer from v assignment₀ p₀ o₀ assignment p o = (length assignment ≡ length assignment₀) × (p ≤ length answer) × (modelFrom from p answer ≡ modelFrom from from answer)
@@ -27,67 +20,52 @@ Inv-loop answer from v assignment₀ p₀ o₀ assignment p o = (length assignme
 abbrev μ-loop : tie.MeasureT-loop
 μ-loop answer from v assignment₀ p₀ o₀ assignment p o = length answer - p
 
--- src/lib.rt:155:5
 loop-holds : tie.Need-loop-holds Inv-loop μ-loop
 loop-holds c = (refl, c .before .before .pre .0, refl, refl, refl)
 
--- src/lib.rt:156:13
 next-from-requires : tie.Need-next-from-requires Inv-loop μ-loop
 next-from-requires c κs = search needs
 
--- src/lib.rt:158:27
 enum-known-n : tie.Need-enum-known-n Inv-loop μ-loop
 enum-known-n c = search needs
 
--- src/lib.rt:159:17
 put-next-requires : tie.Need-put-next-requires Inv-loop μ-loop
 put-next-requires c κs = let w = given-took (now (c .before .before .before .before .before .before .before .before .args .answer)) _ _ (c .before .before .before .before .next-from .ensures) _ _ _ (c .before .before .n .given .1) in (took-positive (now (c .before .before .before .before .before .before .before .before .args .answer)) _ _ _ _ w, took-small (now (c .before .before .before .before .before .before .before .before .args .answer)) _ _ _ _ w, omega (arith, c .before .before .before .before .before .loop .inv .0, c .before .before .before .before .before .before .before .before .pre .1))
 
--- src/lib.rt:155:5
 loop-less : tie.Need-loop-less Inv-loop μ-loop
 loop-less c = let w = given-took (now (c .before .before .before .before .before .before .before .before .before .before .before .args .answer)) _ _ (c .before .before .before .before .before .before .before .next-from .ensures) _ _ _ (c .before .before .before .before .before .n .given .1) in omega (arith, w .place .further, w .place .within)
 
--- src/lib.rt:155:5
 loop-again : tie.Need-loop-again Inv-loop μ-loop
 loop-again c = let w = given-took (now (c .before .before .before .before .before .before .before .before .before .before .before .args .answer)) _ _ (c .before .before .before .before .before .before .before .next-from .ensures) _ _ _ (c .before .before .before .before .before .n .given .1) in
     let m = model-goes (now (c .before .before .before .before .before .before .before .before .before .before .before .args .answer)) (c .before .before .before .before .before .before .before .before .before .before .before .args .from) _ (c .before .before .before .before .before .before .before .before .loop .inv .1) _ (c .before .before .before .before .before .before .before .next-from .ensures) _ _ _ (c .before .before .before .before .before .n .given .1) in
     let g = pass-goes (now (c .before .before .before .before .before .before .before .before .before .before .before .args .answer)) _ _ _ _ w (c .before .before .before .before .before .before .before .before .before .before .before .args .v) (c .before .before .before .before .before .before .before .before .before .before .before .pre .2) (c .before .before .before .before .before .before .before .before .loop .assignment) _ _ (c .before .before .before .before .before .before .before .before .loop .o) (c .before .before .put-next .ensures) in
     (c .before .before .put-next .kept .1 .1 .1 .1 .0 ∙ c .before .before .before .before .before .before .before .before .loop .inv .0, m .1, m .2 ∙ c .before .before .before .before .before .before .before .before .loop .inv .2, g .0 ∙ c .before .before .before .before .before .before .before .before .loop .inv .3, g .1 ∙ c .before .before .before .before .before .before .before .before .loop .inv .4)
 
--- src/lib.rt:162:24
 enum-known-n-2 : tie.Need-enum-known-n-2 Inv-loop μ-loop
 enum-known-n-2 c = search needs
 
--- src/lib.rt:163:21
 close-requires : tie.Need-close-requires Inv-loop μ-loop
 close-requires c κs = search needs
 
--- src/lib.rt:164:21
 closed-form-requires : tie.Need-closed-form-requires Inv-loop μ-loop
 closed-form-requires c κs = search needs
 
--- src/lib.rt:165:21
 assumed-of-requires : tie.Need-assumed-of-requires Inv-loop μ-loop
 assumed-of-requires c κs = omega (arith, c .before .before .before .before .before .before .before .loop .inv .0, c .before .before .before .before .before .before .before .before .before .before .pre .1)
 
--- src/lib.rt:166:17
 same-length : tie.Need-same-length Inv-loop μ-loop
 same-length c = c .before .before .before .before .before .before .before .before .loop .inv .0
 
--- src/lib.rt:166:17
 returns : tie.Need-returns Inv-loop μ-loop
 returns c = let g = pass-ends (now (c .before .before .before .before .before .before .before .before .before .before .before .args .answer)) _ (c .before .before .before .before .before .before .before .before .before .before .before .args .v) (c .before .before .before .before .before .before .before .before .loop .assignment) (last-none (now (c .before .before .before .before .before .before .before .before .before .before .before .args .answer)) _ _ (c .before .before .before .before .before .before .before .next-from .ensures) _ (c .before .before .before .before .before .n2 .given .1)) (c .before .before .before .before .before .before .before .before .loop .o) in
     (model-ends (now (c .before .before .before .before .before .before .before .before .before .before .before .args .answer)) (c .before .before .before .before .before .before .before .before .before .before .before .args .from) _ _ (c .before .before .before .before .before .before .before .next-from .ensures) _ (c .before .before .before .before .before .n2 .given .1) _ (c .before .before .before .close .ensures) _ (c .before .before .closed-form .ensures) ∙ c .before .before .before .before .before .before .before .before .loop .inv .2, g .0 ∙ c .before .before .before .before .before .before .before .before .loop .inv .3, g .1 ∙ c .before .before .before .before .before .before .before .before .loop .inv .4, c .assumed-of .ensures)
 
--- src/lib.rt:172:24
 enum-known-n-3 : tie.Need-enum-known-n-3 Inv-loop μ-loop
 enum-known-n-3 c = search needs
 
--- src/lib.rt:173:17
 same-length-2 : tie.Need-same-length-2 Inv-loop μ-loop
 same-length-2 c = c .before .before .before .before .loop .inv .0
 
--- src/lib.rt:173:17
 returns-2 : tie.Need-returns-2 Inv-loop μ-loop
 returns-2 c = let g = pass-ends (now (c .before .before .before .before .before .before .before .args .answer)) _ (c .before .before .before .before .before .before .before .args .v) (c .before .before .before .before .loop .assignment) (left-none (now (c .before .before .before .before .before .before .before .args .answer)) _ _ (c .before .before .before .next-from .ensures) _ (c .before .n3 .given .1)) (c .before .before .before .before .loop .o) in
     (model-breaks (now (c .before .before .before .before .before .before .before .args .answer)) (c .before .before .before .before .before .before .before .args .from) _ _ (c .before .before .before .next-from .ensures) _ (c .before .n3 .given .1) ∙ c .before .before .before .before .loop .inv .2, g .0 ∙ c .before .before .before .before .loop .inv .3, g .1 ∙ c .before .before .before .before .loop .inv .4, refl)

@@ -4,19 +4,13 @@ use mir.Facts.{toZ-ofZ}
 use borrow.Author.Needs.{needs}
 use Rattle.assigning.proofs.value_of.Statement.{statement}
 use Rattle.assigning.proofs.value_of.Tie as tie
-use Rattle.assigning.proofs.value_of.Reads as reads
-use Rattle.assigning.proofs.value_of.Lts as lts
-use Rattle.literals.proofs.is_negative.Reads as is-negative-reads
 
--- src/lib.rt:52:8
 is-negative-requires : tie.Need-is-negative-requires
 is-negative-requires c κs = search needs
 
--- src/lib.rt:53:9
 returns : tie.Need-returns
 returns c = value-positive _ _ _ (toZ-ofZ (c .before .before .fits .x)) (c .before .is-negative .ensures) (not-true _ (c .if1 .taken))
 
--- src/lib.rt:49:1
 returns-2 : tie.Need-returns-2
 returns-2 c = value-negative _ _ _ (toZ-ofZ (c .before .before .fits .x)) (c .before .is-negative .ensures) (not-false _ (c .if1 .left))
 

@@ -3,65 +3,46 @@ use Rattle.checking.proofs.Rows.{assigned-judged, assigned-stray, assig
 use borrow.Author.Needs.{needs}
 use Rattle.checking.proofs.assigned.Statement.{statement}
 use Rattle.checking.proofs.assigned.Tie as tie
-use Rattle.checking.proofs.assigned.Reads as reads
-use Rattle.checking.proofs.assigned.Lts as lts
-use Rattle.assigning.proofs.copy_completed.Reads as copy-completed-reads
-use Rattle.checking.proofs.judge.Reads as judge-reads
-use Rattle.checking.proofs.zeroed.Reads as zeroed-reads
 
--- src/lib.rt:114:44
 enum-told : tie.Need-enum-told
 enum-told c = search needs
 
--- src/lib.rt:114:13
 copy-completed-requires : tie.Need-copy-completed-requires
 copy-completed-requires c κs = search needs
 
--- src/lib.rt:115:13
 judge-requires : tie.Need-judge-requires
 judge-requires c κs = search needs
 
--- src/lib.rt:128:25
 enum-known-o : tie.Need-enum-known-o
 enum-known-o c = search needs
 
--- src/lib.rt:128:33
 zeroed-requires : tie.Need-zeroed-requires
 zeroed-requires c κs = search needs
 
--- src/lib.rt:129:28
 enum-known-o-2 : tie.Need-enum-known-o-2
 enum-known-o-2 c = search needs
 
--- src/lib.rt:130:13
 zeroed-requires-2 : tie.Need-zeroed-requires-2
 zeroed-requires-2 c κs = search needs
 
--- src/lib.rt:95:1
 same-length : tie.Need-same-length
 same-length c = search needs
 
--- src/lib.rt:95:1
 same-length-2 : tie.Need-same-length-2
 same-length-2 c = search needs
 
--- src/lib.rt:95:1
 returns : tie.Need-returns
 returns c = assigned-judged (c .before .before .before .before .before .before .before .before .before .before .before .before .before .before .before .before .before .before .before .before .before .before .pre .0) (c .before .before .before .before .before .before .before .before .before .before .before .before .before .before .before .before .before .before .before .before .before .before .args .x .assumed) (now (c .before .before .before .before .before .before .before .before .before .before .before .before .before .before .before .before .before .before .before .before .before .before .args .values)) (now (c .before .before .before .before .before .before .before .before .before .before .before .before .before .before .before .before .before .before .before .before .before .before .args .assignment)) (now (c .before .before .before .before .before .before .before .before .before .before .before .before .before .before .before .before .before .before .before .before .before .before .args .levels)) (c .before .before .before .before .before .before .before .before .before .before .before .enum-told .given .1) (c .before .before .before .before .before .before .before .before .before .before .before .before .before .before .before .before .before .before .before .before .before .before .pre .1) (c .before .before .before .before .before .before .before .before .before .copy-completed .ensures) (c .before .before .before .before .judge .ensures)
 
--- src/lib.rt:95:1
 same-length-3 : tie.Need-same-length-3
 same-length-3 c = search needs
 
--- src/lib.rt:95:1
 returns-2 : tie.Need-returns-2
 returns-2 c = assigned-stray (c .before .before .before .before .before .before .before .before .before .before .before .before .before .before .before .before .pre .0) (c .before .before .before .before .before .before .before .before .before .before .before .before .before .before .before .before .args .x .assumed) (now (c .before .before .before .before .before .before .before .before .before .before .before .before .before .before .before .before .args .values)) (now (c .before .before .before .before .before .before .before .before .before .before .before .before .before .before .before .before .args .assignment)) (now (c .before .before .before .before .before .before .before .before .before .before .before .before .before .before .before .before .args .levels)) (c .before .before .before .before .before .o .given .1) (c .before .before .zeroed .ensures)
 
--- src/lib.rt:95:1
 same-length-4 : tie.Need-same-length-4
 same-length-4 c = search needs
 
--- src/lib.rt:95:1
 returns-3 : tie.Need-returns-3
 returns-3 c = assigned-repeated (c .before .before .before .before .before .before .before .before .before .before .before .before .before .before .before .before .pre .0) (c .before .before .before .before .before .before .before .before .before .before .before .before .before .before .before .before .args .x .assumed) (now (c .before .before .before .before .before .before .before .before .before .before .before .before .before .before .before .before .args .values)) (now (c .before .before .before .before .before .before .before .before .before .before .before .before .before .before .before .before .args .assignment)) (now (c .before .before .before .before .before .before .before .before .before .before .before .before .before .before .before .before .args .levels)) (c .before .before .before .before .before .o2 .given .1) (c .before .before .zeroed2 .ensures)
 

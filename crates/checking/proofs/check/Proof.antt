@@ -4,28 +4,19 @@ use Rattle.lines.proofs.Open.{accepted-stored}
 use borrow.Author.Needs.{needs}
 use Rattle.checking.proofs.check.Statement.{statement}
 use Rattle.checking.proofs.check.Tie as tie
-use Rattle.checking.proofs.check.Reads as reads
-use Rattle.checking.proofs.check.Lts as lts
-use Rattle.checking.proofs.check_read.Reads as check-read-reads
-use Rattle.program.proofs.read.Reads as read-reads
 
--- src/lib.rt:242:9
 read-requires : tie.Need-read-requires
 read-requires c κs = search needs
 
--- src/lib.rt:243:5
 check-read-requires : tie.Need-check-read-requires
 check-read-requires c κs = accepted-stored (now (c .before .before .before .before .before .before .before .args .text)) (c .before .before .read .ensures)
 
--- src/lib.rt:234:1
 same-length : tie.Need-same-length
 same-length c = search needs
 
--- src/lib.rt:234:1
 same-length-2 : tie.Need-same-length-2
 same-length-2 c = search needs
 
--- src/lib.rt:234:1
 returns : tie.Need-returns
 returns c = check-whole (now (c .before .before .before .before .before .before .before .before .before .before .before .before .args .text)) (now (c .before .before .before .before .before .before .before .before .before .before .before .before .args .answer)) (now (c .before .before .before .before .before .before .before .before .before .before .before .before .args .assignment)) (now (c .before .before .before .before .before .before .before .before .before .before .before .before .args .levels)) (c .before .before .before .before .before .before .before .read .ensures) (c .before .before .before .before .check-read .ensures)
 

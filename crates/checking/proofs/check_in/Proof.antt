@@ -5,72 +5,52 @@ use Rattle.checking.proofs.Rows.{short-assignment, short-levels, overlo
 use borrow.Author.Needs.{needs}
 use Rattle.checking.proofs.check_in.Statement.{statement}
 use Rattle.checking.proofs.check_in.Tie as tie
-use Rattle.checking.proofs.check_in.Reads as reads
-use Rattle.checking.proofs.check_in.Lts as lts
-use Rattle.assigning.proofs.read_form.Reads as read-form-reads
-use Rattle.checking.proofs.assigned.Reads as assigned-reads
 
--- src/lib.rt:154:9
 returns : tie.Need-returns
 returns c = short-assignment (c .before .before .before .before .before .before .before .before .before .before .before .pre) (now (c .before .before .before .before .before .before .before .before .before .before .before .args .answer)) (c .before .before .before .before .before .before .before .before .before .before .before .args .total) (now (c .before .before .before .before .before .before .before .before .before .before .before .args .assignment)) (now (c .before .before .before .before .before .before .before .before .before .before .before .args .levels)) (c .if1 .taken)
 
--- src/lib.rt:156:13
 cast-n : tie.Need-cast-n
 cast-n c = search needs
 
--- src/lib.rt:158:9
 returns-2 : tie.Need-returns-2
 returns-2 c = short-levels (c .before .before .before .before .before .before .before .before .before .before .before .before .before .pre) (now (c .before .before .before .before .before .before .before .before .before .before .before .before .before .args .answer)) (c .before .before .before .before .before .before .before .before .before .before .before .before .before .args .total) (now (c .before .before .before .before .before .before .before .before .before .before .before .before .before .args .assignment)) (now (c .before .before .before .before .before .before .before .before .before .before .before .before .before .args .levels)) (c .before .before .if1 .left) (c .if2 .taken)
 
--- src/lib.rt:161:9
 returns-3 : tie.Need-returns-3
 returns-3 c = overlong (c .before .before .before .before .before .before .before .before .before .before .before .before .before .before .pre) (now (c .before .before .before .before .before .before .before .before .before .before .before .before .before .before .args .answer)) (c .before .before .before .before .before .before .before .before .before .before .before .before .before .before .args .total) (now (c .before .before .before .before .before .before .before .before .before .before .before .before .before .before .args .assignment)) (now (c .before .before .before .before .before .before .before .before .before .before .before .before .before .before .args .levels)) (c .before .before .before .if1 .left) (c .before .if2 .left) (c .if3 .taken)
 
--- src/lib.rt:164:39
 slice-aggregate-read-form : tie.Need-slice-aggregate-read-form
 slice-aggregate-read-form c = search needs
 
--- src/lib.rt:164:9
 read-form-requires : tie.Need-read-form-requires
 read-form-requires c κs = (vars-few (c .before .before .before .before .before .before .before .before .before .before .before .before .before .before .before .pre), vars-few (c .before .before .before .before .before .before .before .before .before .before .before .before .before .before .before .pre))
 
--- src/lib.rt:167:27
 enum-known-f : tie.Need-enum-known-f
 enum-known-f c = search needs
 
--- src/lib.rt:168:50
 enum-told : tie.Need-enum-told
 enum-told c = search needs
 
--- src/lib.rt:169:23
 enum-known-f-2 : tie.Need-enum-known-f-2
 enum-known-f-2 c = search needs
 
--- src/lib.rt:178:13
 slice-aggregate-assigned : tie.Need-slice-aggregate-assigned
 slice-aggregate-assigned c = search needs
 
--- src/lib.rt:169:29
 assigned-requires : tie.Need-assigned-requires
 assigned-requires c κs = (c .before .before .before .before .before .before .before .before .before .before .before .before .before .before .before .before .before .before .before .before .before .before .before .pre, subst (λ (k : ℕ). c .before .before .before .before .before .before .before .before .before .before .before .before .before .before .before .before .before .before .before .before .before .before .before .args .t .vars ≤ k) (sym (c .before .before .before .before .before .before .before .read-form .kept .1 .1 .0)) (vars-few (c .before .before .before .before .before .before .before .before .before .before .before .before .before .before .before .before .before .before .before .before .before .before .before .pre)), c .before .before .before .before .before .before .before .before .before .before .before .before .if1 .left, c .before .before .before .before .before .before .before .before .before .before .if2 .left)
 
--- src/lib.rt:137:1
 returns-4 : tie.Need-returns-4
 returns-4 c = form-malformed (c .before .before .before .before .before .before .before .before .before .before .before .before .before .before .before .before .before .before .before .before .pre) (now (c .before .before .before .before .before .before .before .before .before .before .before .before .before .before .before .before .before .before .before .before .args .answer)) (c .before .before .before .before .before .before .before .before .before .before .before .before .before .before .before .before .before .before .before .before .args .total) (now (c .before .before .before .before .before .before .before .before .before .before .before .before .before .before .before .before .before .before .before .before .args .assignment)) (now (c .before .before .before .before .before .before .before .before .before .before .before .before .before .before .before .before .before .before .before .before .args .levels)) (c .before .before .before .before .before .before .before .before .before .if1 .left) (c .before .before .before .before .before .before .before .if2 .left) (c .before .before .before .before .before .before .if3 .left) (c .before .before .before .before .read-form .ensures .0) (c .before .f .given .1)
 
--- src/lib.rt:137:1
 returns-5 : tie.Need-returns-5
 returns-5 c = form-none (c .before .before .before .before .before .before .before .before .before .before .before .before .before .before .before .before .before .before .before .pre) (now (c .before .before .before .before .before .before .before .before .before .before .before .before .before .before .before .before .before .before .before .args .answer)) (c .before .before .before .before .before .before .before .before .before .before .before .before .before .before .before .before .before .before .before .args .total) (now (c .before .before .before .before .before .before .before .before .before .before .before .before .before .before .before .before .before .before .before .args .assignment)) (now (c .before .before .before .before .before .before .before .before .before .before .before .before .before .before .before .before .before .before .before .args .levels)) (c .before .before .before .before .before .before .before .before .if1 .left) (c .before .before .before .before .before .before .if2 .left) (c .before .before .before .before .before .if3 .left) (c .before .before .before .read-form .ensures .0) (c .enum-told .given .1)
 
--- src/lib.rt:137:1
 same-length : tie.Need-same-length
 same-length c = search needs
 
--- src/lib.rt:137:1
 same-length-2 : tie.Need-same-length-2
 same-length-2 c = search needs
 
--- src/lib.rt:137:1
 returns-6 : tie.Need-returns-6
 returns-6 c = form-model (c .before .before .before .before .before .before .before .before .before .before .before .before .before .before .before .before .before .before .before .before .before .before .before .before .before .before .before .before .pre) (now (c .before .before .before .before .before .before .before .before .before .before .before .before .before .before .before .before .before .before .before .before .before .before .before .before .before .before .before .before .args .answer)) (c .before .before .before .before .before .before .before .before .before .before .before .before .before .before .before .before .before .before .before .before .before .before .before .before .before .before .before .before .args .total) (now (c .before .before .before .before .before .before .before .before .before .before .before .before .before .before .before .before .before .before .before .before .before .before .before .before .before .before .before .before .args .assignment)) (now (c .before .before .before .before .before .before .before .before .before .before .before .before .before .before .before .before .before .before .before .before .before .before .before .before .before .before .before .before .args .levels)) (c .before .before .before .before .before .before .before .before .before .before .before .before .before .before .before .before .before .if1 .left) (c .before .before .before .before .before .before .before .before .before .before .before .before .before .before .before .if2 .left) (c .before .before .before .before .before .before .before .before .before .before .before .before .before .before .if3 .left) (c .before .before .before .before .before .before .before .before .before .before .before .before .read-form .ensures .0) (c .before .before .before .before .before .before .before .before .before .f2 .given .1) 9890 (vars-few (c .before .before .before .before .before .before .before .before .before .before .before .before .before .before .before .before .before .before .before .before .before .before .before .before .before .before .before .before .pre)) (c .before .before .before .before .before .before .before .before .before .before .before .before .read-form .ensures .1) (c .before .before .before .before .before .before .before .before .before .before .before .before .read-form .ensures .2) (c .before .before .before .before .before .before .before .before .before .before .before .before .read-form .ensures .3) (c .before .before .before .before .assigned .ensures)
 

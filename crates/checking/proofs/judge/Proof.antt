@@ -3,51 +3,34 @@ use denote.Ref.{now}
 use borrow.Author.Needs.{needs}
 use Rattle.checking.proofs.judge.Statement.{statement}
 use Rattle.checking.proofs.judge.Tie as tie
-use Rattle.checking.proofs.judge.Reads as reads
-use Rattle.checking.proofs.judge.Lts as lts
-use Rattle.checking.proofs.zeroed.Reads as zeroed-reads
-use Rattle.results.proofs.highest_of.Reads as highest-of-reads
-use Rattle.results.proofs.put_counters.Reads as put-counters-reads
-use Rattle.results.proofs.true_count.Reads as true-count-reads
-use Rattle.truth.proofs.first_false.Reads as first-false-reads
 
--- src/lib.rt:76:9
 first-false-requires : tie.Need-first-false-requires
 first-false-requires c κs = search needs
 
--- src/lib.rt:87:9
 zeroed-requires : tie.Need-zeroed-requires
 zeroed-requires c κs = search needs
 
--- src/lib.rt:87:9
 same-length : tie.Need-same-length
 same-length c = search needs
 
--- src/lib.rt:87:9
 returns : tie.Need-returns
 returns c = judged-false (c .before .before .before .before .before .before .before .before .before .before .before .before .before .before .before .pre .0) (now (c .before .before .before .before .before .before .before .before .before .before .before .before .before .before .before .args .assignment)) (now (c .before .before .before .before .before .before .before .before .before .before .before .before .before .before .before .args .levels)) (c .before .before .before .before .before .before .before .before .before .before .before .before .before .before .before .args .assumed) (c .before .before .before .before .before .first-false .ensures) (c .before .before .before .before .if1 .taken) (c .before .before .zeroed .ensures)
 
--- src/lib.rt:89:5
 put-counters-requires : tie.Need-put-counters-requires
 put-counters-requires c κs = counters-asks (c .before .before .before .before .before .before .before .before .before .before .before .before .before .pre .0) (c .before .before .before .before .before .before .before .before .before .before .before .before .before .pre .1) (c .before .before .before .before .before .before .before .before .before .before .before .before .before .pre .2)
 
--- src/lib.rt:91:25
 true-count-requires : tie.Need-true-count-requires
 true-count-requires c κs = atoms-room (c .before .before .before .before .before .before .before .before .before .before .before .before .before .before .before .before .before .pre .0) (c .before .before .before .before .before .before .before .before .before .before .before .before .before .before .before .before .before .pre .1)
 
--- src/lib.rt:91:54
 highest-of-requires : tie.Need-highest-of-requires
 highest-of-requires c κs = search needs
 
--- src/lib.rt:61:1
 same-length-2 : tie.Need-same-length-2
 same-length-2 c = search needs
 
--- src/lib.rt:61:1
 same-length-3 : tie.Need-same-length-3
 same-length-3 c = search needs
 
--- src/lib.rt:61:1
 returns-2 : tie.Need-returns-2
 returns-2 c = judged-accepted (c .before .before .before .before .before .before .before .before .before .before .before .before .before .before .before .before .before .before .before .before .pre .0) (now (c .before .before .before .before .before .before .before .before .before .before .before .before .before .before .before .before .before .before .before .before .args .assignment)) (now (c .before .before .before .before .before .before .before .before .before .before .before .before .before .before .before .before .before .before .before .before .args .levels)) (c .before .before .before .before .before .before .before .before .before .before .before .before .before .before .before .before .before .before .before .before .args .assumed) (c .before .before .before .before .before .before .before .before .before .before .first-false .ensures) (c .before .before .before .before .before .before .before .before .before .if1 .left) (c .before .before .before .before .before .before .put-counters .ensures) (c .before .before .true-count .ensures) (c .highest-of .ensures)
 

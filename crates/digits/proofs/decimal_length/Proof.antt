@@ -3,8 +3,6 @@ use Rattle.digits.proofs.Lengths.{length-small, decimal-length}
 use mathlib.Core.Path.{sym}
 use Rattle.digits.proofs.decimal_length.Statement.{statement}
 use Rattle.digits.proofs.decimal_length.Tie as tie
-use Rattle.digits.proofs.decimal_length.Reads as reads
-use Rattle.digits.proofs.decimal_length.Lts as lts
 
 returns : tie.Need-returns
 returns c = sym (length-small _ (c .if1 .taken))

@@ -9,11 +9,6 @@ use Rattle.digits.proofs.Writing.{text-positive, text-negative}
 use borrow.Author.Needs.{needs}
 use Rattle.digits.proofs.literal_length.Statement.{statement}
 use Rattle.digits.proofs.literal_length.Tie as tie
-use Rattle.digits.proofs.literal_length.Reads as reads
-use Rattle.digits.proofs.literal_length.Lts as lts
-use Rattle.digits.proofs.decimal_length.Reads as decimal-length-reads
-use Rattle.literals.proofs.is_negative.Reads as is-negative-reads
-use Rattle.literals.proofs.magnitude.Reads as magnitude-reads
 
 magnitude-requires : tie.Need-magnitude-requires
 magnitude-requires c κs = search needs

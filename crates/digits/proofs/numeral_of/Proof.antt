@@ -2,32 +2,22 @@ use Rattle.digits.proofs.NumeralLaws.{numeral-digits}
 use borrow.Author.Needs.{needs}
 use Rattle.digits.proofs.numeral_of.Statement.{statement}
 use Rattle.digits.proofs.numeral_of.Tie as tie
-use Rattle.digits.proofs.numeral_of.Reads as reads
-use Rattle.digits.proofs.numeral_of.Lts as lts
-use Rattle.digits.proofs.byte.Reads as byte-reads
-use Rattle.digits.proofs.size_of.Reads as size-of-reads
 
--- src/lib.rt:135:12
 byte-requires : tie.Need-byte-requires
 byte-requires c κs = search needs
 
--- src/lib.rt:136:12
 byte-requires-2 : tie.Need-byte-requires-2
 byte-requires-2 c κs = search needs
 
--- src/lib.rt:137:12
 byte-requires-3 : tie.Need-byte-requires-3
 byte-requires-3 c κs = search needs
 
--- src/lib.rt:138:12
 byte-requires-4 : tie.Need-byte-requires-4
 byte-requires-4 c κs = search needs
 
--- src/lib.rt:139:15
 size-of-requires : tie.Need-size-of-requires
 size-of-requires c κs = search needs
 
--- src/lib.rt:128:1
 returns : tie.Need-returns
 returns c = numeral-digits _ (c .before .before .before .before .byte .ensures) (c .before .before .before .byte2 .ensures) (c .before .before .byte3 .ensures) (c .before .byte4 .ensures) (c .size-of .ensures)
 

@@ -12,11 +12,6 @@ use Rattle.digits.proofs.Writing.{text-positive, text-negative}
 use borrow.Author.Needs.{needs}
 use Rattle.digits.proofs.put_literal.Statement.{statement}
 use Rattle.digits.proofs.put_literal.Tie as tie
-use Rattle.digits.proofs.put_literal.Reads as reads
-use Rattle.digits.proofs.put_literal.Lts as lts
-use Rattle.digits.proofs.put_number.Reads as put-number-reads
-use Rattle.literals.proofs.is_negative.Reads as is-negative-reads
-use Rattle.literals.proofs.magnitude.Reads as magnitude-reads
 
 -- the literal's text with its space, where the sign test succeeds and where it fails
 negative : (c : tie.Then1) → literalText (c .before .before .before .before .args .x) ++ (32 ∷ []) ≡ 45 ∷ (decimal (c .before .before .magnitude .result) ++ (32 ∷ []))

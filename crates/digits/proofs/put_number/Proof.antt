@@ -7,9 +7,6 @@ use Rattle.digits.proofs.Begins.{begins-word, begins-byte, begins-sum, 
 use borrow.Author.Needs.{needs}
 use Rattle.digits.proofs.put_number.Statement.{statement}
 use Rattle.digits.proofs.put_number.Tie as tie
-use Rattle.digits.proofs.put_number.Reads as reads
-use Rattle.digits.proofs.put_number.Lts as lts
-use Rattle.digits.proofs.put_decimal.Reads as put-decimal-reads
 
 put-decimal-requires : tie.Need-put-decimal-requires
 put-decimal-requires c κs = front-fits (decimal (c .before .before .args .n)) (c .before .before .args .end ∷ []) (c .before .before .pre)

@@ -5,94 +5,70 @@ use denote.Ref.{now}
 use borrow.Author.Needs.{needs}
 use Rattle.digits.proofs.put_numeral.Statement.{statement}
 use Rattle.digits.proofs.put_numeral.Tie as tie
-use Rattle.digits.proofs.put_numeral.Reads as reads
-use Rattle.digits.proofs.put_numeral.Lts as lts
 
--- src/lib.rt:149:9
 slice-write-buf : tie.Need-slice-write-buf
 slice-write-buf c = search (needs, room-at 0 (now (c .before .before .args .buf)) (omega arith) (four-room (c .before .before .args .x) (now (c .before .before .args .buf)) (c .before .before .pre) (c .if1 .taken)))
 
--- src/lib.rt:150:9
 slice-write-buf-2 : tie.Need-slice-write-buf-2
 slice-write-buf-2 c = search (needs, room-at 1 (now (c .before .before .args .buf)) (omega arith) (four-room (c .before .before .args .x) (now (c .before .before .args .buf)) (c .before .before .pre) (c .if1 .taken)))
 
--- src/lib.rt:151:9
 slice-write-buf-3 : tie.Need-slice-write-buf-3
 slice-write-buf-3 c = search (needs, room-at 2 (now (c .before .before .args .buf)) (omega arith) (four-room (c .before .before .args .x) (now (c .before .before .args .buf)) (c .before .before .pre) (c .if1 .taken)))
 
--- src/lib.rt:152:9
 slice-write-buf-4 : tie.Need-slice-write-buf-4
 slice-write-buf-4 c = search (needs, room-at 3 (now (c .before .before .args .buf)) (omega arith) (four-room (c .before .before .args .x) (now (c .before .before .args .buf)) (c .before .before .pre) (c .if1 .taken)))
 
--- src/lib.rt:153:9
 slice-write-buf-5 : tie.Need-slice-write-buf-5
 slice-write-buf-5 c = search (needs, room-at 4 (now (c .before .before .args .buf)) (omega arith) (four-room (c .before .before .args .x) (now (c .before .before .args .buf)) (c .before .before .pre) (c .if1 .taken)))
 
--- src/lib.rt:154:9
 same-length : tie.Need-same-length
 same-length c = search needs
 
--- src/lib.rt:154:9
 returns : tie.Need-returns
 returns c = begins-whole (four-stores (c .before .before .args .x) (now (c .before .before .args .buf)) (c .before .before .pre) (c .if1 .taken))
 
--- src/lib.rt:157:9
 slice-write-buf-6 : tie.Need-slice-write-buf-6
 slice-write-buf-6 c = search (needs, room-at 0 (now (c .before .before .before .before .args .buf)) (omega arith) (three-room (c .before .before .before .before .args .x) (now (c .before .before .before .before .args .buf)) (c .before .before .before .before .pre) (c .before .before .if1 .left) (c .if2 .taken)))
 
--- src/lib.rt:158:9
 slice-write-buf-7 : tie.Need-slice-write-buf-7
 slice-write-buf-7 c = search (needs, room-at 1 (now (c .before .before .before .before .args .buf)) (omega arith) (three-room (c .before .before .before .before .args .x) (now (c .before .before .before .before .args .buf)) (c .before .before .before .before .pre) (c .before .before .if1 .left) (c .if2 .taken)))
 
--- src/lib.rt:159:9
 slice-write-buf-8 : tie.Need-slice-write-buf-8
 slice-write-buf-8 c = search (needs, room-at 2 (now (c .before .before .before .before .args .buf)) (omega arith) (three-room (c .before .before .before .before .args .x) (now (c .before .before .before .before .args .buf)) (c .before .before .before .before .pre) (c .before .before .if1 .left) (c .if2 .taken)))
 
--- src/lib.rt:160:9
 slice-write-buf-9 : tie.Need-slice-write-buf-9
 slice-write-buf-9 c = search (needs, room-at 3 (now (c .before .before .before .before .args .buf)) (omega arith) (three-room (c .before .before .before .before .args .x) (now (c .before .before .before .before .args .buf)) (c .before .before .before .before .pre) (c .before .before .if1 .left) (c .if2 .taken)))
 
--- src/lib.rt:161:9
 same-length-2 : tie.Need-same-length-2
 same-length-2 c = search needs
 
--- src/lib.rt:161:9
 returns-2 : tie.Need-returns-2
 returns-2 c = begins-whole (three-stores (c .before .before .before .before .args .x) (now (c .before .before .before .before .args .buf)) (c .before .before .before .before .pre) (c .before .before .if1 .left) (c .if2 .taken))
 
--- src/lib.rt:164:9
 slice-write-buf-10 : tie.Need-slice-write-buf-10
 slice-write-buf-10 c = search (needs, room-at 0 (now (c .before .before .before .before .before .before .args .buf)) (omega arith) (two-room (c .before .before .before .before .before .before .args .x) (now (c .before .before .before .before .before .before .args .buf)) (c .before .before .before .before .before .before .pre) (c .before .before .before .before .if1 .left) (c .before .before .if2 .left) (c .if3 .taken)))
 
--- src/lib.rt:165:9
 slice-write-buf-11 : tie.Need-slice-write-buf-11
 slice-write-buf-11 c = search (needs, room-at 1 (now (c .before .before .before .before .before .before .args .buf)) (omega arith) (two-room (c .before .before .before .before .before .before .args .x) (now (c .before .before .before .before .before .before .args .buf)) (c .before .before .before .before .before .before .pre) (c .before .before .before .before .if1 .left) (c .before .before .if2 .left) (c .if3 .taken)))
 
--- src/lib.rt:166:9
 slice-write-buf-12 : tie.Need-slice-write-buf-12
 slice-write-buf-12 c = search (needs, room-at 2 (now (c .before .before .before .before .before .before .args .buf)) (omega arith) (two-room (c .before .before .before .before .before .before .args .x) (now (c .before .before .before .before .before .before .args .buf)) (c .before .before .before .before .before .before .pre) (c .before .before .before .before .if1 .left) (c .before .before .if2 .left) (c .if3 .taken)))
 
--- src/lib.rt:167:9
 same-length-3 : tie.Need-same-length-3
 same-length-3 c = search needs
 
--- src/lib.rt:167:9
 returns-3 : tie.Need-returns-3
 returns-3 c = begins-whole (two-stores (c .before .before .before .before .before .before .args .x) (now (c .before .before .before .before .before .before .args .buf)) (c .before .before .before .before .before .before .pre) (c .before .before .before .before .if1 .left) (c .before .before .if2 .left) (c .if3 .taken))
 
--- src/lib.rt:169:5
 slice-write-buf-13 : tie.Need-slice-write-buf-13
 slice-write-buf-13 c = search (needs, room-at 0 (now (c .before .before .before .before .before .before .args .buf)) (omega arith) (one-room (c .before .before .before .before .before .before .args .x) (now (c .before .before .before .before .before .before .args .buf)) (c .before .before .before .before .before .before .pre) (c .before .before .before .before .if1 .left) (c .before .before .if2 .left) (c .if3 .left)))
 
--- src/lib.rt:170:5
 slice-write-buf-14 : tie.Need-slice-write-buf-14
 slice-write-buf-14 c = search (needs, room-at 1 (now (c .before .before .before .before .before .before .args .buf)) (omega arith) (one-room (c .before .before .before .before .before .before .args .x) (now (c .before .before .before .before .before .before .args .buf)) (c .before .before .before .before .before .before .pre) (c .before .before .before .before .if1 .left) (c .before .before .if2 .left) (c .if3 .left)))
 
--- src/lib.rt:144:1
 same-length-4 : tie.Need-same-length-4
 same-length-4 c = search needs
 
--- src/lib.rt:144:1
 returns-4 : tie.Need-returns-4
 returns-4 c = begins-whole (one-stores (c .before .before .before .before .before .before .args .x) (now (c .before .before .before .before .before .before .args .buf)) (c .before .before .before .before .before .before .pre) (c .before .before .before .before .if1 .left) (c .before .before .if2 .left) (c .if3 .left))
 

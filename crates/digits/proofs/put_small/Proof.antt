@@ -7,9 +7,6 @@ use Rattle.digits.proofs.Writing.{digits-room, first-digit, next-digit}
 use borrow.Author.Needs.{needs}
 use Rattle.digits.proofs.put_small.Statement.{statement}
 use Rattle.digits.proofs.put_small.Tie as tie
-use Rattle.digits.proofs.put_small.Reads as reads
-use Rattle.digits.proofs.put_small.Lts as lts
-use Rattle.digits.proofs.digit.Reads as digit-reads
 
 digit-requires : tie.Need-digit-requires
 digit-requires c κs = search needs

@@ -2,22 +2,16 @@ use borrow.Author.Needs.{needs}
 use Rattle.digits.proofs.NumeralLaws.{size-four, size-three, size-two, size-one}
 use Rattle.digits.proofs.size_of.Statement.{statement}
 use Rattle.digits.proofs.size_of.Tie as tie
-use Rattle.digits.proofs.size_of.Reads as reads
-use Rattle.digits.proofs.size_of.Lts as lts
 
--- src/lib.rt:116:9
 returns : tie.Need-returns
 returns c = size-four _ (c .if1 .taken)
 
--- src/lib.rt:119:9
 returns-2 : tie.Need-returns-2
 returns-2 c = size-three _ (c .before .if1 .left) (c .if2 .taken)
 
--- src/lib.rt:122:9
 returns-3 : tie.Need-returns-3
 returns-3 c = size-two _ (c .before .before .if1 .left) (c .before .if2 .left) (c .if3 .taken)
 
--- src/lib.rt:112:1
 returns-4 : tie.Need-returns-4
 returns-4 c = size-one _ (c .before .before .if1 .left) (c .before .if2 .left) (c .if3 .left)
 

@@ -3,42 +3,28 @@ use Rattle.exports.specs.Replies.{ofCheck}
 use borrow.Author.Needs.{needs}
 use Rattle.exports.proofs.of_check.Statement.{statement}
 use Rattle.exports.proofs.of_check.Tie as tie
-use Rattle.exports.proofs.of_check.Reads as reads
-use Rattle.exports.proofs.of_check.Lts as lts
-use Rattle.checking.proofs.check_number_of.Reads as check-number-of-reads
-use Rattle.checking.proofs.check_spot_of.Reads as check-spot-of-reads
-use Rattle.exports.proofs.accepted.Reads as accepted-reads
-use Rattle.exports.proofs.refused.Reads as refused-reads
 
--- src/lib.rt:95:29
 enum-known-v : tie.Need-enum-known-v
 enum-known-v c = search needs
 
--- src/lib.rt:95:38
 accepted-requires : tie.Need-accepted-requires
 accepted-requires c κs = search needs
 
--- src/lib.rt:96:31
 enum-known-v-2 : tie.Need-enum-known-v-2
 enum-known-v-2 c = search needs
 
--- src/lib.rt:96:45
 check-number-of-requires : tie.Need-check-number-of-requires
 check-number-of-requires c κs = search needs
 
--- src/lib.rt:96:65
 check-spot-of-requires : tie.Need-check-spot-of-requires
 check-spot-of-requires c κs = search needs
 
--- src/lib.rt:96:37
 refused-requires : tie.Need-refused-requires
 refused-requires c κs = search needs
 
--- src/lib.rt:91:1
 returns : tie.Need-returns
 returns c = told ofCheck (c .before .before .v .given .1) (c .accepted .ensures)
 
--- src/lib.rt:91:1
 returns-2 : tie.Need-returns-2
 returns-2 c = told ofCheck (c .before .before .before .before .v2 .given .1) (numbered (c .before .before .check-number-of .ensures) (c .before .check-spot-of .ensures) (c .refused .ensures))
 

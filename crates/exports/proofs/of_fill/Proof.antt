@@ -3,42 +3,28 @@ use Rattle.exports.specs.Replies.{ofFill}
 use borrow.Author.Needs.{needs}
 use Rattle.exports.proofs.of_fill.Statement.{statement}
 use Rattle.exports.proofs.of_fill.Tie as tie
-use Rattle.exports.proofs.of_fill.Reads as reads
-use Rattle.exports.proofs.of_fill.Lts as lts
-use Rattle.exports.proofs.accepted.Reads as accepted-reads
-use Rattle.exports.proofs.refused.Reads as refused-reads
-use Rattle.filling_out.proofs.fill_number_of.Reads as fill-number-of-reads
-use Rattle.filling_out.proofs.fill_spot_of.Reads as fill-spot-of-reads
 
--- src/lib.rt:104:29
 enum-known-v : tie.Need-enum-known-v
 enum-known-v c = search needs
 
--- src/lib.rt:104:38
 accepted-requires : tie.Need-accepted-requires
 accepted-requires c κs = search needs
 
--- src/lib.rt:105:30
 enum-known-v-2 : tie.Need-enum-known-v-2
 enum-known-v-2 c = search needs
 
--- src/lib.rt:105:44
 fill-number-of-requires : tie.Need-fill-number-of-requires
 fill-number-of-requires c κs = search needs
 
--- src/lib.rt:105:63
 fill-spot-of-requires : tie.Need-fill-spot-of-requires
 fill-spot-of-requires c κs = search needs
 
--- src/lib.rt:105:36
 refused-requires : tie.Need-refused-requires
 refused-requires c κs = search needs
 
--- src/lib.rt:100:1
 returns : tie.Need-returns
 returns c = told ofFill (c .before .before .v .given .1) (c .accepted .ensures)
 
--- src/lib.rt:100:1
 returns-2 : tie.Need-returns-2
 returns-2 c = told ofFill (c .before .before .before .before .v2 .given .1) (numbered (c .before .before .fill-number-of .ensures) (c .before .fill-spot-of .ensures) (c .refused .ensures))
 

@@ -4,10 +4,6 @@ use mathlib.Core.Path.{_≡_}
 use lib.ListN.{length}
 use Rattle.files.proofs.rest_length.Statement.{statement}
 use Rattle.files.proofs.rest_length.Tie as tie
-use Rattle.files.proofs.rest_length.Reads as reads
-use Rattle.files.proofs.rest_length.Lts as lts
-use Rattle.io.proofs.large_buffer.Reads as large-buffer-reads
-use Rattle.io.proofs.read_full.Reads as read-full-reads
 
 abbrev Inv-loop : tie.InvT-loop
 Inv-loop fd buf₀ turns₀ total₀ buf turns total = (length buf ≡ 65536) × (total + 65536 * turns ≤ 65536 * 1000000000000)
@@ -15,43 +11,33 @@ Inv-loop fd buf₀ turns₀ total₀ buf turns total = (length buf ≡ 65536) ×
 abbrev μ-loop : tie.MeasureT-loop
 μ-loop fd buf₀ turns₀ total₀ buf turns total = turns
 
--- src/lib.rt:16:19
 large-buffer-requires : tie.Need-large-buffer-requires Inv-loop μ-loop
 large-buffer-requires c κs = search needs
 
--- src/lib.rt:19:5
 loop-holds : tie.Need-loop-holds Inv-loop μ-loop
 loop-holds c = search needs
 
--- src/lib.rt:20:35
 slice-aggregate-read-full : tie.Need-slice-aggregate-read-full Inv-loop μ-loop
 slice-aggregate-read-full c = search needs
 
--- src/lib.rt:20:13
 read-full-requires : tie.Need-read-full-requires Inv-loop μ-loop
 read-full-requires c κs = search needs
 
--- src/lib.rt:22:13
 returns : tie.Need-returns Inv-loop μ-loop
 returns c = search needs
 
--- src/lib.rt:24:9
 add-total : tie.Need-add-total Inv-loop μ-loop
 add-total c = search needs
 
--- src/lib.rt:25:9
 sub-turns : tie.Need-sub-turns Inv-loop μ-loop
 sub-turns c = search needs
 
--- src/lib.rt:19:5
 loop-less : tie.Need-loop-less Inv-loop μ-loop
 loop-less c = search needs
 
--- src/lib.rt:19:5
 loop-again : tie.Need-loop-again Inv-loop μ-loop
 loop-again c = search needs
 
--- src/lib.rt:13:1
 returns-2 : tie.Need-returns-2 Inv-loop μ-loop
 returns-2 c = search needs
 

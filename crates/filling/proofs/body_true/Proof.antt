@@ -5,24 +5,16 @@ use Rattle.filling.proofs.Families.{body-unmet, body-is}
 use borrow.Author.Needs.{needs}
 use Rattle.filling.proofs.body_true.Statement.{statement}
 use Rattle.filling.proofs.body_true.Tie as tie
-use Rattle.filling.proofs.body_true.Reads as reads
-use Rattle.filling.proofs.body_true.Lts as lts
-use Rattle.stages.proofs.negatives_out.Reads as negatives-out-reads
-use Rattle.stages.proofs.positives_in.Reads as positives-in-reads
 
--- src/lib.rt:155:9
 positives-in-requires : tie.Need-positives-in-requires
 positives-in-requires c κs = search needs
 
--- src/lib.rt:166:9
 returns : tie.Need-returns
 returns c = body-unmet (rule-atoms (c .before .before .before .before .before .before .before .before .before .pre .0) (c .before .before .before .before .before .before .before .before .before .args .r) (c .before .before .before .before .before .before .before .before .before .pre .1) (c .before .before .before .before .before .before .before .before .before .pre .2)) (now (c .before .before .before .before .before .before .before .before .before .args .set)) (c .before .positives-in .ensures) (not-true _ (c .if1 .taken))
 
--- src/lib.rt:168:5
 negatives-out-requires : tie.Need-negatives-out-requires
 negatives-out-requires c κs = search needs
 
--- src/lib.rt:141:1
 returns-2 : tie.Need-returns-2
 returns-2 c = body-is (rule-atoms (c .before .before .before .before .before .before .before .before .before .before .pre .0) (c .before .before .before .before .before .before .before .before .before .before .args .r) (c .before .before .before .before .before .before .before .before .before .before .pre .1) (c .before .before .before .before .before .before .before .before .before .before .pre .2)) (now (c .before .before .before .before .before .before .before .before .before .before .args .set)) (c .before .before .positives-in .ensures) (not-false _ (c .before .if1 .left)) (c .negatives-out .ensures)
 

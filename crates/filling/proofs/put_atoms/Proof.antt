@@ -10,10 +10,6 @@ use Rattle.filling.proofs.Families.{atom-row}
 use Rattle.filling.proofs.Writes.{put-room, put-next, put-all}
 use Rattle.filling.proofs.put_atoms.Statement.{statement}
 use Rattle.filling.proofs.put_atoms.Tie as tie
-use Rattle.filling.proofs.put_atoms.Reads as reads
-use Rattle.filling.proofs.put_atoms.Lts as lts
-use Rattle.filling.proofs.as_byte.Reads as as-byte-reads
-use Rattle.numbers.proofs.wide.Reads as wide-reads
 
 abbrev Inv-loop : tie.InvT-loop
 Inv-loop n set buf₀ a₀ buf a = (a ≤ n) × Begins buf₀ buf (truthBytes a (setIn n set)) a
@@ -21,43 +17,33 @@ Inv-loop n set buf₀ a₀ buf a = (a ≤ n) × Begins buf₀ buf (truthBytes a 
 abbrev μ-loop : tie.MeasureT-loop
 μ-loop n set buf₀ a₀ buf a = n - a
 
--- src/lib.rt:118:5
 loop-holds : tie.Need-loop-holds Inv-loop μ-loop
 loop-holds c = (search needs, begins-none (now (c .before .before .args .buf)))
 
--- src/lib.rt:118:15
 wide-requires : tie.Need-wide-requires Inv-loop μ-loop
 wide-requires c κs = search needs
 
--- src/lib.rt:119:26
 shared-slice-read-as-byte : tie.Need-shared-slice-read-as-byte Inv-loop μ-loop
 shared-slice-read-as-byte c = omega (arith, c .before .before .before .before .before .before .pre .0, c .before .if1 .taken, c .before .before .wide .ensures)
 
--- src/lib.rt:119:18
 as-byte-requires : tie.Need-as-byte-requires Inv-loop μ-loop
 as-byte-requires c κs = search needs
 
--- src/lib.rt:119:9
 slice-write-buf : tie.Need-slice-write-buf Inv-loop μ-loop
 slice-write-buf c = omega (arith, put-room (now (c .before .before .before .before .before .before .before .args .buf)) (setIn (c .before .before .before .before .before .before .before .args .n) (now (c .before .before .before .before .before .before .before .args .set))) (c .before .before .before .before .before .before .before .args .n) (c .before .before .before .before .loop .a) (omega (arith, c .before .before .if1 .taken, c .before .before .before .wide .ensures)) (c .before .before .before .before .before .before .before .pre .1), c .before .before .before .before .loop .inv .1 .same)
 
--- src/lib.rt:120:9
 add-a : tie.Need-add-a Inv-loop μ-loop
 add-a c = search needs
 
--- src/lib.rt:118:5
 loop-less : tie.Need-loop-less Inv-loop μ-loop
 loop-less c = omega (arith, c .before .before .if1 .taken, c .before .before .before .wide .ensures)
 
--- src/lib.rt:118:5
 loop-again : tie.Need-loop-again Inv-loop μ-loop
 loop-again c = (omega (arith, c .before .before .if1 .taken, c .before .before .before .wide .ensures), put-next (now (c .before .before .before .before .before .before .before .args .buf)) (setIn (c .before .before .before .before .before .before .before .args .n) (now (c .before .before .before .before .before .before .before .args .set))) (c .before .before .before .before .before .before .before .args .n) (omega (arith, c .before .before .if1 .taken, c .before .before .before .wide .ensures)) (c .before .before .before .before .before .before .before .pre .1) refl (atom-row (c .before .before .before .before .before .before .before .args .n) (now (c .before .before .before .before .before .before .before .args .set)) (c .before .before .before .before .loop .a) (omega (arith, c .before .before .if1 .taken, c .before .before .before .wide .ensures)) (c .as-byte .ensures)) (c .before .before .before .before .loop .inv .1))
 
--- src/lib.rt:113:1
 same-length : tie.Need-same-length Inv-loop μ-loop
 same-length c = c .before .before .loop .inv .1 .same
 
--- src/lib.rt:113:1
 returns : tie.Need-returns Inv-loop μ-loop
 returns c = put-all (now (c .before .before .before .before .before .args .buf)) (setIn (c .before .before .before .before .before .args .n) (now (c .before .before .before .before .before .args .set))) (c .before .before .before .before .before .args .n) (c .before .before .loop .inv .0) (omega (arith, c .if1 .left, c .before .wide .ensures)) refl (c .before .before .loop .inv .1)
 

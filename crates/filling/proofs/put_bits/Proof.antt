@@ -10,8 +10,6 @@ use Rattle.filling.proofs.Steps.{rest-start, rest-next, bit-is}
 use Rattle.filling.proofs.Writes.{put-room, put-next, put-all}
 use Rattle.filling.proofs.put_bits.Statement.{statement}
 use Rattle.filling.proofs.put_bits.Tie as tie
-use Rattle.filling.proofs.put_bits.Reads as reads
-use Rattle.filling.proofs.put_bits.Lts as lts
 
 abbrev Inv-loop : tie.InvT-loop
 Inv-loop w x buf₀ rest₀ i₀ buf rest i = (i ≤ w) × (rest ≡ x / 2 ^ i) × Begins buf₀ buf (truthBytes i (bit x)) i
@@ -19,35 +17,27 @@ Inv-loop w x buf₀ rest₀ i₀ buf rest i = (i ≤ w) × (rest ≡ x / 2 ^ i) 
 abbrev μ-loop : tie.MeasureT-loop
 μ-loop w x buf₀ rest₀ i₀ buf rest i = w - i
 
--- src/lib.rt:64:5
 loop-holds : tie.Need-loop-holds Inv-loop μ-loop
 loop-holds c = (search needs, rest-start (c .args .x), begins-none (now (c .args .buf)))
 
--- src/lib.rt:65:18
 cast-buf : tie.Need-cast-buf Inv-loop μ-loop
 cast-buf c = search needs
 
--- src/lib.rt:65:9
 slice-write-buf : tie.Need-slice-write-buf Inv-loop μ-loop
 slice-write-buf c = omega (arith, put-room (now (c .before .before .args .buf)) (bit (c .before .before .args .x)) (c .before .before .args .w) (c .before .loop .i) (c .loop-test .taken) (c .before .before .pre), c .before .loop .inv .2 .same)
 
--- src/lib.rt:67:9
 add-i : tie.Need-add-i Inv-loop μ-loop
 add-i c = search needs
 
--- src/lib.rt:64:5
 loop-less : tie.Need-loop-less Inv-loop μ-loop
 loop-less c = search needs
 
--- src/lib.rt:64:5
 loop-again : tie.Need-loop-again Inv-loop μ-loop
 loop-again c = (search needs, rest-next (c .before .before .args .x) (c .before .loop .i) (c .before .loop .inv .1), put-next (now (c .before .before .args .buf)) (bit (c .before .before .args .x)) (c .before .before .args .w) (c .loop-test .taken) (c .before .before .pre) refl (bit-is (c .before .before .args .x) (c .before .loop .i) (c .before .loop .inv .1)) (c .before .loop .inv .2))
 
--- src/lib.rt:58:1
 same-length : tie.Need-same-length Inv-loop μ-loop
 same-length c = c .before .loop .inv .2 .same
 
--- src/lib.rt:58:1
 returns : tie.Need-returns Inv-loop μ-loop
 returns c = put-all (now (c .before .before .args .buf)) (bit (c .before .before .args .x)) (c .before .before .args .w) (c .before .loop .inv .0) (c .loop-test .left) refl (c .before .loop .inv .2)
 

@@ -12,11 +12,6 @@ use Rattle.filling.proofs.Families.{inside, partner-asks, partner-fits,
 use Rattle.filling.proofs.Writes.{rows-fit, rows-next, rows-all}
 use Rattle.filling.proofs.put_chains.Statement.{statement}
 use Rattle.filling.proofs.put_chains.Tie as tie
-use Rattle.filling.proofs.put_chains.Reads as reads
-use Rattle.filling.proofs.put_chains.Lts as lts
-use Rattle.layout.proofs.entry.Reads as entry-reads
-use Rattle.filling.proofs.level_of.Reads as level-of-reads
-use Rattle.filling.proofs.put_pair.Reads as put-pair-reads
 
 abbrev Inv-loop : tie.InvT-loop
 Inv-loop t heads starts bodies before partners owners w levels buf₀ to₀ k₀ buf to k = (k ≤ t .pairs) × Begins buf₀ buf (each k (pairAtBytes (programIn (t .sizes) heads starts bodies) w (levelAt levels))) to
@@ -24,71 +19,54 @@ Inv-loop t heads starts bodies before partners owners w levels buf₀ to₀ k₀
 abbrev μ-loop : tie.MeasureT-loop
 μ-loop t heads starts bodies before partners owners w levels buf₀ to₀ k₀ buf to k = t .pairs - k
 
--- src/lib.rt:316:5
 loop-holds : tie.Need-loop-holds Inv-loop μ-loop
 loop-holds c = (search needs, begins-none (now (c .before .before .before .before .before .before .before .before .args .buf)))
 
--- src/lib.rt:317:50
 add-entry : tie.Need-add-entry Inv-loop μ-loop
 add-entry c = search needs
 
--- src/lib.rt:317:34
 entry-requires : tie.Need-entry-requires Inv-loop μ-loop
 entry-requires c κs = partner-asks (c .before .before .before .before .before .before .before .before .before .before .before .pre .0) (c .before .before .loop .k) (c .if1 .taken)
 
--- src/lib.rt:317:13
 level-of-requires : tie.Need-level-of-requires Inv-loop μ-loop
 level-of-requires c κs = partner-fits (c .before .before .before .before .before .before .before .before .before .before .before .before .pre .0) (c .before .before .before .loop .k) (c .before .if1 .taken) (now (c .before .before .before .before .before .before .before .before .before .before .before .before .args .levels)) (c .before .before .before .before .before .before .before .before .before .before .before .before .pre .1) (c .entry .ensures)
 
--- src/lib.rt:318:48
 add-entry-2 : tie.Need-add-entry-2 Inv-loop μ-loop
 add-entry-2 c = search needs
 
--- src/lib.rt:318:34
 entry-requires-2 : tie.Need-entry-requires-2 Inv-loop μ-loop
 entry-requires-2 c κs = owner-asks (c .before .before .before .before .before .before .before .before .before .before .before .before .before .pre .0) (c .before .before .before .before .loop .k) (c .before .before .if1 .taken)
 
--- src/lib.rt:318:13
 level-of-requires-2 : tie.Need-level-of-requires-2 Inv-loop μ-loop
 level-of-requires-2 c κs = owner-fits (c .before .before .before .before .before .before .before .before .before .before .before .before .before .before .pre .0) (c .before .before .before .before .before .loop .k) (c .before .before .before .if1 .taken) (now (c .before .before .before .before .before .before .before .before .before .before .before .before .before .before .args .levels)) (c .before .before .before .before .before .before .before .before .before .before .before .before .before .before .pre .1) (c .entry2 .ensures)
 
--- src/lib.rt:319:33
 sub-put-pair : tie.Need-sub-put-pair Inv-loop μ-loop
 sub-put-pair c = begins-room (c .before .before .before .before .before .before .loop .inv .1) (pairBytes (c .before .before .before .before .before .before .before .before .before .before .before .before .before .before .before .args .w) (c .before .before .level-of .result) (c .level-of2 .result)) (rows-fit (now (c .before .before .before .before .before .before .before .before .before .before .before .before .before .before .before .args .buf)) (pairAtBytes (programIn (c .before .before .before .before .before .before .before .before .before .before .before .before .before .before .before .args .t .sizes) (now (c .before .before .before .before .before .before .before .before .before .before .before .before .before .before .before .args .heads)) (now (c .before .before .before .before .before .before .before .before .before .before .before .before .before .before .before .args .starts)) (now (c .before .before .before .before .before .before .before .before .before .before .before .before .before .before .before .args .bodies))) (c .before .before .before .before .before .before .before .before .before .before .before .before .before .before .before .args .w) (levelAt (now (c .before .before .before .before .before .before .before .before .before .before .before .before .before .before .before .args .levels)))) (pairCount (programIn (c .before .before .before .before .before .before .before .before .before .before .before .before .before .before .before .args .t .sizes) (now (c .before .before .before .before .before .before .before .before .before .before .before .before .before .before .before .args .heads)) (now (c .before .before .before .before .before .before .before .before .before .before .before .before .before .before .before .args .starts)) (now (c .before .before .before .before .before .before .before .before .before .before .before .before .before .before .before .args .bodies)))) (c .before .before .before .before .before .before .loop .k) (pair-row (c .before .before .before .before .before .before .before .before .before .before .before .before .before .before .before .pre .0) (c .before .before .before .before .before .before .loop .k) (c .before .before .before .before .if1 .taken) (c .before .before .before .before .before .before .before .before .before .before .before .before .before .before .before .args .w) (now (c .before .before .before .before .before .before .before .before .before .before .before .before .before .before .before .args .levels)) (c .before .before .before .entry .ensures) (c .before .before .level-of .ensures .0) (c .before .entry2 .ensures) (c .level-of2 .ensures .0)) (inside (c .before .before .before .before .before .before .before .before .before .before .before .before .before .before .before .pre .0) (c .before .before .before .before .before .before .loop .k) (c .before .before .before .before .if1 .taken)) (c .before .before .before .before .before .before .before .before .before .before .before .before .before .before .before .pre .2))
 
--- src/lib.rt:319:33
 part-put-pair-start : tie.Need-part-put-pair-start Inv-loop μ-loop
 part-put-pair-start c = begins-room (c .before .before .before .before .before .before .loop .inv .1) (pairBytes (c .before .before .before .before .before .before .before .before .before .before .before .before .before .before .before .args .w) (c .before .before .level-of .result) (c .level-of2 .result)) (rows-fit (now (c .before .before .before .before .before .before .before .before .before .before .before .before .before .before .before .args .buf)) (pairAtBytes (programIn (c .before .before .before .before .before .before .before .before .before .before .before .before .before .before .before .args .t .sizes) (now (c .before .before .before .before .before .before .before .before .before .before .before .before .before .before .before .args .heads)) (now (c .before .before .before .before .before .before .before .before .before .before .before .before .before .before .before .args .starts)) (now (c .before .before .before .before .before .before .before .before .before .before .before .before .before .before .before .args .bodies))) (c .before .before .before .before .before .before .before .before .before .before .before .before .before .before .before .args .w) (levelAt (now (c .before .before .before .before .before .before .before .before .before .before .before .before .before .before .before .args .levels)))) (pairCount (programIn (c .before .before .before .before .before .before .before .before .before .before .before .before .before .before .before .args .t .sizes) (now (c .before .before .before .before .before .before .before .before .before .before .before .before .before .before .before .args .heads)) (now (c .before .before .before .before .before .before .before .before .before .before .before .before .before .before .before .args .starts)) (now (c .before .before .before .before .before .before .before .before .before .before .before .before .before .before .before .args .bodies)))) (c .before .before .before .before .before .before .loop .k) (pair-row (c .before .before .before .before .before .before .before .before .before .before .before .before .before .before .before .pre .0) (c .before .before .before .before .before .before .loop .k) (c .before .before .before .before .if1 .taken) (c .before .before .before .before .before .before .before .before .before .before .before .before .before .before .before .args .w) (now (c .before .before .before .before .before .before .before .before .before .before .before .before .before .before .before .args .levels)) (c .before .before .before .entry .ensures) (c .before .before .level-of .ensures .0) (c .before .entry2 .ensures) (c .level-of2 .ensures .0)) (inside (c .before .before .before .before .before .before .before .before .before .before .before .before .before .before .before .pre .0) (c .before .before .before .before .before .before .loop .k) (c .before .before .before .before .if1 .taken)) (c .before .before .before .before .before .before .before .before .before .before .before .before .before .before .before .pre .2))
 
--- src/lib.rt:319:33
 part-put-pair-end : tie.Need-part-put-pair-end Inv-loop μ-loop
 part-put-pair-end c = search needs
 
--- src/lib.rt:319:15
 put-pair-requires : tie.Need-put-pair-requires Inv-loop μ-loop
 put-pair-requires c κs = (c .before .before .before .level-of .ensures .1, begins-tail (c .before .before .before .before .before .before .before .loop .inv .1) (pairBytes (c .before .before .before .before .before .before .before .before .before .before .before .before .before .before .before .before .args .w) (c .before .before .before .level-of .result) (c .before .level-of2 .result)) (rows-fit (now (c .before .before .before .before .before .before .before .before .before .before .before .before .before .before .before .before .args .buf)) (pairAtBytes (programIn (c .before .before .before .before .before .before .before .before .before .before .before .before .before .before .before .before .args .t .sizes) (now (c .before .before .before .before .before .before .before .before .before .before .before .before .before .before .before .before .args .heads)) (now (c .before .before .before .before .before .before .before .before .before .before .before .before .before .before .before .before .args .starts)) (now (c .before .before .before .before .before .before .before .before .before .before .before .before .before .before .before .before .args .bodies))) (c .before .before .before .before .before .before .before .before .before .before .before .before .before .before .before .before .args .w) (levelAt (now (c .before .before .before .before .before .before .before .before .before .before .before .before .before .before .before .before .args .levels)))) (pairCount (programIn (c .before .before .before .before .before .before .before .before .before .before .before .before .before .before .before .before .args .t .sizes) (now (c .before .before .before .before .before .before .before .before .before .before .before .before .before .before .before .before .args .heads)) (now (c .before .before .before .before .before .before .before .before .before .before .before .before .before .before .before .before .args .starts)) (now (c .before .before .before .before .before .before .before .before .before .before .before .before .before .before .before .before .args .bodies)))) (c .before .before .before .before .before .before .before .loop .k) (pair-row (c .before .before .before .before .before .before .before .before .before .before .before .before .before .before .before .before .pre .0) (c .before .before .before .before .before .before .before .loop .k) (c .before .before .before .before .before .if1 .taken) (c .before .before .before .before .before .before .before .before .before .before .before .before .before .before .before .before .args .w) (now (c .before .before .before .before .before .before .before .before .before .before .before .before .before .before .before .before .args .levels)) (c .before .before .before .before .entry .ensures) (c .before .before .before .level-of .ensures .0) (c .before .before .entry2 .ensures) (c .before .level-of2 .ensures .0)) (inside (c .before .before .before .before .before .before .before .before .before .before .before .before .before .before .before .before .pre .0) (c .before .before .before .before .before .before .before .loop .k) (c .before .before .before .before .before .if1 .taken)) (c .before .before .before .before .before .before .before .before .before .before .before .before .before .before .before .before .pre .2)))
 
--- src/lib.rt:319:9
 add-to : tie.Need-add-to Inv-loop μ-loop
 add-to c = omega (arith, c .before .before .before .before .before .before .before .before .before .before .before .before .before .before .before .before .before .before .before .good .1 .1 .1 .1 .1 .1 .1 .1 .1 .0, begins-sum (c .before .before .before .before .before .before .before .before .before .before .loop .inv .1) (pairBytes (c .before .before .before .before .before .before .before .before .before .before .before .before .before .before .before .before .before .before .before .args .w) (c .before .before .before .before .before .before .level-of .result) (c .before .before .before .before .level-of2 .result)) (c .before .before .put-pair .ensures .0) (rows-fit (now (c .before .before .before .before .before .before .before .before .before .before .before .before .before .before .before .before .before .before .before .args .buf)) (pairAtBytes (programIn (c .before .before .before .before .before .before .before .before .before .before .before .before .before .before .before .before .before .before .before .args .t .sizes) (now (c .before .before .before .before .before .before .before .before .before .before .before .before .before .before .before .before .before .before .before .args .heads)) (now (c .before .before .before .before .before .before .before .before .before .before .before .before .before .before .before .before .before .before .before .args .starts)) (now (c .before .before .before .before .before .before .before .before .before .before .before .before .before .before .before .before .before .before .before .args .bodies))) (c .before .before .before .before .before .before .before .before .before .before .before .before .before .before .before .before .before .before .before .args .w) (levelAt (now (c .before .before .before .before .before .before .before .before .before .before .before .before .before .before .before .before .before .before .before .args .levels)))) (pairCount (programIn (c .before .before .before .before .before .before .before .before .before .before .before .before .before .before .before .before .before .before .before .args .t .sizes) (now (c .before .before .before .before .before .before .before .before .before .before .before .before .before .before .before .before .before .before .before .args .heads)) (now (c .before .before .before .before .before .before .before .before .before .before .before .before .before .before .before .before .before .before .before .args .starts)) (now (c .before .before .before .before .before .before .before .before .before .before .before .before .before .before .before .before .before .before .before .args .bodies)))) (c .before .before .before .before .before .before .before .before .before .before .loop .k) (pair-row (c .before .before .before .before .before .before .before .before .before .before .before .before .before .before .before .before .before .before .before .pre .0) (c .before .before .before .before .before .before .before .before .before .before .loop .k) (c .before .before .before .before .before .before .before .before .if1 .taken) (c .before .before .before .before .before .before .before .before .before .before .before .before .before .before .before .before .before .before .before .args .w) (now (c .before .before .before .before .before .before .before .before .before .before .before .before .before .before .before .before .before .before .before .args .levels)) (c .before .before .before .before .before .before .before .entry .ensures) (c .before .before .before .before .before .before .level-of .ensures .0) (c .before .before .before .before .before .entry2 .ensures) (c .before .before .before .before .level-of2 .ensures .0)) (inside (c .before .before .before .before .before .before .before .before .before .before .before .before .before .before .before .before .before .before .before .pre .0) (c .before .before .before .before .before .before .before .before .before .before .loop .k) (c .before .before .before .before .before .before .before .before .if1 .taken)) (c .before .before .before .before .before .before .before .before .before .before .before .before .before .before .before .before .before .before .before .pre .2)))
 
--- src/lib.rt:320:9
 add-k : tie.Need-add-k Inv-loop μ-loop
 add-k c = search needs
 
--- src/lib.rt:316:5
 loop-less : tie.Need-loop-less Inv-loop μ-loop
 loop-less c = search needs
 
--- src/lib.rt:316:5
 loop-again : tie.Need-loop-again Inv-loop μ-loop
 loop-again c = (search needs, rows-next (now (c .before .before .before .before .before .before .before .before .before .before .before .before .before .before .before .before .before .before .before .args .buf)) (pairAtBytes (programIn (c .before .before .before .before .before .before .before .before .before .before .before .before .before .before .before .before .before .before .before .args .t .sizes) (now (c .before .before .before .before .before .before .before .before .before .before .before .before .before .before .before .before .before .before .before .args .heads)) (now (c .before .before .before .before .before .before .before .before .before .before .before .before .before .before .before .before .before .before .before .args .starts)) (now (c .before .before .before .before .before .before .before .before .before .before .before .before .before .before .before .before .before .before .before .args .bodies))) (c .before .before .before .before .before .before .before .before .before .before .before .before .before .before .before .before .before .before .before .args .w) (levelAt (now (c .before .before .before .before .before .before .before .before .before .before .before .before .before .before .before .before .before .before .before .args .levels)))) (c .before .before .before .before .before .before .before .before .before .before .loop .k) (pair-row (c .before .before .before .before .before .before .before .before .before .before .before .before .before .before .before .before .before .before .before .pre .0) (c .before .before .before .before .before .before .before .before .before .before .loop .k) (c .before .before .before .before .before .before .before .before .if1 .taken) (c .before .before .before .before .before .before .before .before .before .before .before .before .before .before .before .before .before .before .before .args .w) (now (c .before .before .before .before .before .before .before .before .before .before .before .before .before .before .before .before .before .before .before .args .levels)) (c .before .before .before .before .before .before .before .entry .ensures) (c .before .before .before .before .before .before .level-of .ensures .0) (c .before .before .before .before .before .entry2 .ensures) (c .before .before .before .before .level-of2 .ensures .0)) (begins-more (c .before .before .before .before .before .before .before .before .before .before .loop .inv .1) (pairBytes (c .before .before .before .before .before .before .before .before .before .before .before .before .before .before .before .before .before .before .before .args .w) (c .before .before .before .before .before .before .level-of .result) (c .before .before .before .before .level-of2 .result)) (c .before .before .put-pair .kept .1 .1 .1 .0) (c .before .before .put-pair .ensures)))
 
--- src/lib.rt:299:1
 same-length : tie.Need-same-length Inv-loop μ-loop
 same-length c = c .before .before .loop .inv .1 .same
 
--- src/lib.rt:299:1
 returns : tie.Need-returns Inv-loop μ-loop
 returns c = let q = pairs-done (c .before .before .before .before .before .before .before .before .before .before .before .pre .0) (c .before .before .loop .k) (c .before .before .loop .inv .0) (c .if1 .left) in rows-all (now (c .before .before .before .before .before .before .before .before .before .before .before .args .buf)) (pairAtBytes (programIn (c .before .before .before .before .before .before .before .before .before .before .before .args .t .sizes) (now (c .before .before .before .before .before .before .before .before .before .before .before .args .heads)) (now (c .before .before .before .before .before .before .before .before .before .before .before .args .starts)) (now (c .before .before .before .before .before .before .before .before .before .before .before .args .bodies))) (c .before .before .before .before .before .before .before .before .before .before .before .args .w) (levelAt (now (c .before .before .before .before .before .before .before .before .before .before .before .args .levels)))) (pairCount (programIn (c .before .before .before .before .before .before .before .before .before .before .before .args .t .sizes) (now (c .before .before .before .before .before .before .before .before .before .before .before .args .heads)) (now (c .before .before .before .before .before .before .before .before .before .before .before .args .starts)) (now (c .before .before .before .before .before .before .before .before .before .before .before .args .bodies)))) (c .before .before .loop .k) (q .0) (q .1) (c .before .before .loop .inv .1)
 

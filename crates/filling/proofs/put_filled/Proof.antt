@@ -8,19 +8,13 @@ use Rattle.filling.proofs.Families.{levels-long, filled-is}
 use borrow.Author.Needs.{needs}
 use Rattle.filling.proofs.put_filled.Statement.{statement}
 use Rattle.filling.proofs.put_filled.Tie as tie
-use Rattle.filling.proofs.put_filled.Reads as reads
-use Rattle.filling.proofs.put_filled.Lts as lts
-use Rattle.filling.proofs.put_values.Reads as put-values-reads
 
--- src/lib.rt:400:5
 put-values-requires : tie.Need-put-values-requires
 put-values-requires c κs = (c .before .before .before .before .before .before .before .before .before .before .pre .0, c .before .before .before .before .before .before .before .before .before .before .pre .1, levels-long (c .before .before .before .before .before .before .before .before .before .before .pre .0) (now (c .before .before .before .before .before .before .before .before .before .before .args .set)) (drop (c .before .before .before .before .before .before .before .before .before .before .args .t .sizes .n) (now (c .before .before .before .before .before .before .before .before .before .before .args .levels))) (c .before .before .before .before .before .before .before .before .before .before .pre .2), c .before .before .before .before .before .before .before .before .before .before .pre .3)
 
--- src/lib.rt:385:1
 same-length : tie.Need-same-length
 same-length c = search needs
 
--- src/lib.rt:385:1
 returns : tie.Need-returns
 returns c = c .before .before .put-values .ensures .1 ∙ ap (λ (v : List Bool). valueBytes v ++ drop (c .before .before .before .before .before .before .before .before .before .before .before .before .before .args .t .vars) (now (c .before .before .before .before .before .before .before .before .before .before .before .before .before .args .assignment))) (filled-is (c .before .before .before .before .before .before .before .before .before .before .before .before .before .pre .0) (now (c .before .before .before .before .before .before .before .before .before .before .before .before .before .args .set)) (drop (c .before .before .before .before .before .before .before .before .before .before .before .before .before .args .t .sizes .n) (now (c .before .before .before .before .before .before .before .before .before .before .before .before .before .args .levels))) (c .before .before .before .before .before .before .before .before .before .before .before .before .before .pre .2))
 

@@ -10,9 +10,6 @@ use Rattle.filling.proofs.Steps.{rest-start, less-start, less-next, les
 use Rattle.filling.proofs.Writes.{put-room, put-next, put-all}
 use Rattle.filling.proofs.put_less.Statement.{statement}
 use Rattle.filling.proofs.put_less.Tie as tie
-use Rattle.filling.proofs.put_less.Reads as reads
-use Rattle.filling.proofs.put_less.Lts as lts
-use Rattle.filling.proofs.less_with.Reads as less-with-reads
 
 abbrev Inv-loop : tie.InvT-loop
 Inv-loop w x y buf₀ p₀ q₀ less₀ i₀ buf p q less i = (i ≤ w) × (p ≡ x / 2 ^ i) × (q ≡ y / 2 ^ i) × (less ≡ byteOf (lessAt x y i)) × Begins buf₀ buf (truthBytes i (lessAt x y)) i
@@ -20,35 +17,27 @@ Inv-loop w x y buf₀ p₀ q₀ less₀ i₀ buf p q less i = (i ≤ w) × (p �
 abbrev μ-loop : tie.MeasureT-loop
 μ-loop w x y buf₀ p₀ q₀ less₀ i₀ buf p q less i = w - i
 
--- src/lib.rt:92:5
 loop-holds : tie.Need-loop-holds Inv-loop μ-loop
 loop-holds c = (search needs, rest-start (c .before .args .x), rest-start (c .before .args .y), less-start (c .before .args .x) (c .before .args .y), begins-none (now (c .before .args .buf)))
 
--- src/lib.rt:93:9
 less-with-requires : tie.Need-less-with-requires Inv-loop μ-loop
 less-with-requires c κs = search needs
 
--- src/lib.rt:94:9
 slice-write-buf : tie.Need-slice-write-buf Inv-loop μ-loop
 slice-write-buf c = omega (arith, put-room (now (c .before .before .before .before .args .buf)) (lessAt (c .before .before .before .before .args .x) (c .before .before .before .before .args .y)) (c .before .before .before .before .args .w) (c .before .before .loop .i) (c .before .loop-test .taken) (c .before .before .before .before .pre), c .before .before .loop .inv .4 .same)
 
--- src/lib.rt:97:9
 add-i : tie.Need-add-i Inv-loop μ-loop
 add-i c = search needs
 
--- src/lib.rt:92:5
 loop-less : tie.Need-loop-less Inv-loop μ-loop
 loop-less c = search needs
 
--- src/lib.rt:92:5
 loop-again : tie.Need-loop-again Inv-loop μ-loop
 loop-again c = let s = less-goes (c .before .before .before .before .args .x) (c .before .before .before .before .args .y) (c .before .before .loop .i) (c .before .before .loop .inv .1) (c .before .before .loop .inv .2) (c .before .before .loop .inv .3) (c .less-with .ensures) in (search needs, s .0, s .1, s .2, put-next (now (c .before .before .before .before .args .buf)) (lessAt (c .before .before .before .before .args .x) (c .before .before .before .before .args .y)) (c .before .before .before .before .args .w) (c .before .loop-test .taken) (c .before .before .before .before .pre) refl (less-next (c .before .before .before .before .args .x) (c .before .before .before .before .args .y) (c .before .before .loop .i) (c .before .before .loop .inv .1) (c .before .before .loop .inv .2) (c .before .before .loop .inv .3) (c .less-with .ensures)) (c .before .before .loop .inv .4))
 
--- src/lib.rt:84:1
 same-length : tie.Need-same-length Inv-loop μ-loop
 same-length c = c .before .loop .inv .4 .same
 
--- src/lib.rt:84:1
 returns : tie.Need-returns Inv-loop μ-loop
 returns c = put-all (now (c .before .before .before .args .buf)) (lessAt (c .before .before .before .args .x) (c .before .before .before .args .y)) (c .before .before .before .args .w) (c .before .loop .inv .0) (c .loop-test .left) refl (c .before .loop .inv .4)
 

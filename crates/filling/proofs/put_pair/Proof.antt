@@ -5,43 +5,31 @@ use Rattle.filling.specs.Values.{lessBytes}
 use borrow.Author.Needs.{needs}
 use Rattle.filling.proofs.put_pair.Statement.{statement}
 use Rattle.filling.proofs.put_pair.Tie as tie
-use Rattle.filling.proofs.put_pair.Reads as reads
-use Rattle.filling.proofs.put_pair.Lts as lts
-use Rattle.filling.proofs.put_less.Reads as put-less-reads
 
--- src/lib.rt:107:9
 put-less-requires : tie.Need-put-less-requires
 put-less-requires c κs = front-fits (lessBytes (c .before .before .args .w) (c .before .before .args .x) (c .before .before .args .y)) (lessBytes (c .before .before .args .w) (c .before .before .args .x + 1) (c .before .before .args .y)) (c .before .before .pre .1)
 
--- src/lib.rt:108:23
 add-put-less : tie.Need-add-put-less
 add-put-less c = search needs
 
--- src/lib.rt:108:33
 sub-put-less : tie.Need-sub-put-less
 sub-put-less c = let p1 = begins-word (lessBytes (c .before .before .before .before .before .args .w) (c .before .before .before .before .before .args .x) (c .before .before .before .before .before .args .y)) (c .before .before .put-less .kept .1 .1 .1 .0) (c .before .before .put-less .ensures) in begins-room p1 (lessBytes (c .before .before .before .before .before .args .w) (c .before .before .before .before .before .args .x + 1) (c .before .before .before .before .before .args .y)) (c .before .before .before .before .before .pre .1)
 
--- src/lib.rt:108:33
 part-put-less-start : tie.Need-part-put-less-start
 part-put-less-start c = let p1 = begins-word (lessBytes (c .before .before .before .before .before .args .w) (c .before .before .before .before .before .args .x) (c .before .before .before .before .before .args .y)) (c .before .before .put-less .kept .1 .1 .1 .0) (c .before .before .put-less .ensures) in begins-room p1 (lessBytes (c .before .before .before .before .before .args .w) (c .before .before .before .before .before .args .x + 1) (c .before .before .before .before .before .args .y)) (c .before .before .before .before .before .pre .1)
 
--- src/lib.rt:108:33
 part-put-less-end : tie.Need-part-put-less-end
 part-put-less-end c = search needs
 
--- src/lib.rt:108:11
 put-less-requires-2 : tie.Need-put-less-requires-2
 put-less-requires-2 c κs = let p1 = begins-word (lessBytes (c .before .before .before .before .before .before .args .w) (c .before .before .before .before .before .before .args .x) (c .before .before .before .before .before .before .args .y)) (c .before .before .before .put-less .kept .1 .1 .1 .0) (c .before .before .before .put-less .ensures) in begins-tail p1 (lessBytes (c .before .before .before .before .before .before .args .w) (c .before .before .before .before .before .before .args .x + 1) (c .before .before .before .before .before .before .args .y)) (c .before .before .before .before .before .before .pre .1)
 
--- src/lib.rt:108:5
 add-to : tie.Need-add-to
 add-to c = let p1 = begins-word (lessBytes (c .before .before .before .before .before .before .before .before .before .args .w) (c .before .before .before .before .before .before .before .before .before .args .x) (c .before .before .before .before .before .before .before .before .before .args .y)) (c .before .before .before .before .before .before .put-less .kept .1 .1 .1 .0) (c .before .before .before .before .before .before .put-less .ensures) in omega (arith, c .before .before .before .before .before .before .before .before .before .good .1 .1 .1 .0, begins-sum p1 (lessBytes (c .before .before .before .before .before .before .before .before .before .args .w) (c .before .before .before .before .before .before .before .before .before .args .x + 1) (c .before .before .before .before .before .before .before .before .before .args .y)) (c .before .before .put-less2 .ensures .0) (c .before .before .before .before .before .before .before .before .before .pre .1))
 
--- src/lib.rt:103:1
 same-length : tie.Need-same-length
 same-length c = search needs
 
--- src/lib.rt:103:1
 returns : tie.Need-returns
 returns c = let p1 = begins-word (lessBytes (c .before .before .before .before .before .before .before .before .before .args .w) (c .before .before .before .before .before .before .before .before .before .args .x) (c .before .before .before .before .before .before .before .before .before .args .y)) (c .before .before .before .before .before .before .put-less .kept .1 .1 .1 .0) (c .before .before .before .before .before .before .put-less .ensures) in begins-whole (begins-more p1 (lessBytes (c .before .before .before .before .before .before .before .before .before .args .w) (c .before .before .before .before .before .before .before .before .before .args .x + 1) (c .before .before .before .before .before .before .before .before .before .args .y)) (c .before .before .put-less2 .kept .1 .1 .1 .0) (c .before .before .put-less2 .ensures))
 

@@ -8,34 +8,22 @@ use Rattle.filling.proofs.Families.{founds-unmet, founds-is}
 use borrow.Author.Needs.{needs}
 use Rattle.filling.proofs.rule_founds.Statement.{statement}
 use Rattle.filling.proofs.rule_founds.Tie as tie
-use Rattle.filling.proofs.rule_founds.Reads as reads
-use Rattle.filling.proofs.rule_founds.Lts as lts
-use Rattle.filling.proofs.body_true.Reads as body-true-reads
-use Rattle.program.proofs.head.Reads as head-reads
-use Rattle.stages.proofs.byte_of.Reads as byte-of-reads
-use Rattle.stages.proofs.positives_below.Reads as positives-below-reads
 
--- src/lib.rt:197:9
 body-true-requires : tie.Need-body-true-requires
 body-true-requires c κs = search needs
 
--- src/lib.rt:208:9
 returns : tie.Need-returns
 returns c = founds-unmet (setIn (c .before .before .before .before .before .before .before .before .before .before .args .t .sizes .n) (now (c .before .before .before .before .before .before .before .before .before .before .args .set))) (now (c .before .before .before .before .before .before .before .before .before .before .args .levels)) (ruleAt ((programIn (c .before .before .before .before .before .before .before .before .before .before .args .t .sizes) (now (c .before .before .before .before .before .before .before .before .before .before .args .heads)) (now (c .before .before .before .before .before .before .before .before .before .before .args .starts)) (now (c .before .before .before .before .before .before .before .before .before .before .args .bodies))) .rules) (c .before .before .before .before .before .before .before .before .before .before .args .r)) (c .before .body-true .ensures) (not-true _ (c .if1 .taken))
 
--- src/lib.rt:210:13
 head-requires : tie.Need-head-requires
 head-requires c κs = head-asks (c .before .before .before .before .before .before .before .before .before .before .pre .0) (c .before .before .before .before .before .before .before .before .before .before .args .r) (c .before .before .before .before .before .before .before .before .before .before .pre .1) (c .before .before .before .before .before .before .before .before .before .before .pre .2)
 
--- src/lib.rt:211:9
 byte-of-requires : tie.Need-byte-of-requires
 byte-of-requires c κs = head-fits (c .before .before .before .before .before .before .before .before .before .before .before .pre .0) (c .before .before .before .before .before .before .before .before .before .before .before .args .r) (c .before .before .before .before .before .before .before .before .before .before .before .pre .1) (c .before .before .before .before .before .before .before .before .before .before .before .pre .2) (now (c .before .before .before .before .before .before .before .before .before .before .before .args .levels)) (c .before .before .before .before .before .before .before .before .before .before .before .pre .4) (c .head .ensures)
 
--- src/lib.rt:212:5
 positives-below-requires : tie.Need-positives-below-requires
 positives-below-requires c κs = search needs
 
--- src/lib.rt:182:1
 returns-2 : tie.Need-returns-2
 returns-2 c = founds-is (setIn (c .before .before .before .before .before .before .before .before .before .before .before .before .before .args .t .sizes .n) (now (c .before .before .before .before .before .before .before .before .before .before .before .before .before .args .set))) (now (c .before .before .before .before .before .before .before .before .before .before .before .before .before .args .levels)) (ruleAt ((programIn (c .before .before .before .before .before .before .before .before .before .before .before .before .before .args .t .sizes) (now (c .before .before .before .before .before .before .before .before .before .before .before .before .before .args .heads)) (now (c .before .before .before .before .before .before .before .before .before .before .before .before .before .args .starts)) (now (c .before .before .before .before .before .before .before .before .before .before .before .before .before .args .bodies))) .rules) (c .before .before .before .before .before .before .before .before .before .before .before .before .before .args .r)) (c .before .before .before .before .body-true .ensures) (not-false _ (c .before .before .before .if1 .left)) (its-head-is (c .before .before .before .before .before .before .before .before .before .before .before .before .before .pre .0) (c .before .before .before .before .before .before .before .before .before .before .before .before .before .args .r) (c .before .before .before .before .before .before .before .before .before .before .before .before .before .pre .1) (c .before .before .before .before .before .before .before .before .before .before .before .before .before .pre .2) (c .before .before .head .ensures)) (c .before .byte-of .ensures) (c .positives-below .ensures)
 

@@ -6,55 +6,37 @@ use lib.ListN.{drop}
 use borrow.Author.Needs.{needs}
 use Rattle.filling_out.proofs.fill_found.Statement.{statement}
 use Rattle.filling_out.proofs.fill_found.Tie as tie
-use Rattle.filling_out.proofs.fill_found.Reads as reads
-use Rattle.filling_out.proofs.fill_found.Lts as lts
-use Rattle.filling.proofs.put_filled.Reads as put-filled-reads
-use Rattle.printing.proofs.put_word.Reads as put-word-reads
-use Rattle.results.proofs.highest_of.Reads as highest-of-reads
-use Rattle.results.proofs.true_count.Reads as true-count-reads
-use Rattle.stages.proofs.first_difference.Reads as first-difference-reads
 
--- src/lib.rt:74:9
 first-difference-requires : tie.Need-first-difference-requires
 first-difference-requires c κs = (c .before .before .before .before .before .before .before .before .before .before .pre .1, found-room (c .before .before .before .before .before .before .before .before .before .before .pre .0) (now (c .before .before .before .before .before .before .before .before .before .before .args .set)) (now (c .before .before .before .before .before .before .before .before .before .before .args .assignment)) (now (c .before .before .before .before .before .before .before .before .before .before .args .levels)) (drop (c .before .before .before .before .before .before .before .before .before .before .args .t .sizes .n) (now (c .before .before .before .before .before .before .before .before .before .before .args .found))) (c .before .before .before .before .before .before .before .before .before .before .pre .2))
 
--- src/lib.rt:76:9
 returns : tie.Need-returns
 returns c = founded-refused (c .before .before .before .before .before .before .before .before .before .before .before .before .pre .0) (now (c .before .before .before .before .before .before .before .before .before .before .before .before .args .set)) (now (c .before .before .before .before .before .before .before .before .before .before .before .before .args .assignment)) (now (c .before .before .before .before .before .before .before .before .before .before .before .before .args .levels)) (drop (c .before .before .before .before .before .before .before .before .before .before .before .before .args .t .sizes .n) (now (c .before .before .before .before .before .before .before .before .before .before .before .before .args .found))) (c .before .before .before .before .before .before .before .before .before .before .before .before .pre .2) (c .before .first-difference .ensures) (c .if1 .taken)
 
--- src/lib.rt:78:5
 put-filled-requires : tie.Need-put-filled-requires
 put-filled-requires c κs = search needs
 
--- src/lib.rt:90:23
 cast-put-word : tie.Need-cast-put-word
 cast-put-word c = search needs
 
--- src/lib.rt:90:14
 slice-aggregate-put-word : tie.Need-slice-aggregate-put-word
 slice-aggregate-put-word c = sym (length-take-le (c .before .before .before .before .before .before .before .before .before .before .before .before .before .before .before .before .before .args .t .sizes .n) (now (c .before .before .before .before .before .before .before .before .before .before .before .before .before .before .before .before .before .args .found)) (found-room (c .before .before .before .before .before .before .before .before .before .before .before .before .before .before .before .before .before .pre .0) (now (c .before .before .before .before .before .before .before .before .before .before .before .before .before .before .before .before .before .args .set)) (now (c .before .before .before .before .before .before .before .before .before .before .before .before .before .before .before .before .before .args .assignment)) (now (c .before .before .before .before .before .before .before .before .before .before .before .before .before .before .before .before .before .args .levels)) (drop (c .before .before .before .before .before .before .before .before .before .before .before .before .before .before .before .before .before .args .t .sizes .n) (now (c .before .before .before .before .before .before .before .before .before .before .before .before .before .before .before .before .before .args .found))) (c .before .before .before .before .before .before .before .before .before .before .before .before .before .before .before .before .before .pre .2)))
 
--- src/lib.rt:90:5
 put-word-requires : tie.Need-put-word-requires
 put-word-requires c κs = front-room (c .before .before .before .before .before .before .before .before .before .before .before .before .before .before .before .before .before .before .pre .0) (now (c .before .before .before .before .before .before .before .before .before .before .before .before .before .before .before .before .before .before .args .set)) (now (c .before .before .before .before .before .before .before .before .before .before .before .before .before .before .before .before .before .before .args .assignment)) (now (c .before .before .before .before .before .before .before .before .before .before .before .before .before .before .before .before .before .before .args .levels)) (drop (c .before .before .before .before .before .before .before .before .before .before .before .before .before .before .before .before .before .before .args .t .sizes .n) (now (c .before .before .before .before .before .before .before .before .before .before .before .before .before .before .before .before .before .before .args .found))) (c .before .before .before .before .before .before .before .before .before .before .before .before .before .before .before .before .before .before .pre .2) (c .before .before .before .before .before .before .before .before .before .before .before .before .before .before .before .before .before .before .pre .4)
 
--- src/lib.rt:91:25
 true-count-requires : tie.Need-true-count-requires
 true-count-requires c κs = filled-room (c .before .before .before .before .before .before .before .before .before .before .before .before .before .before .before .before .before .before .before .before .before .before .pre .0) (now (c .before .before .before .before .before .before .before .before .before .before .before .before .before .before .before .before .before .before .before .before .before .before .args .set)) (now (c .before .before .before .before .before .before .before .before .before .before .before .before .before .before .before .before .before .before .before .before .before .before .args .assignment)) (now (c .before .before .before .before .before .before .before .before .before .before .before .before .before .before .before .before .before .before .before .before .before .before .args .levels)) (drop (c .before .before .before .before .before .before .before .before .before .before .before .before .before .before .before .before .before .before .before .before .before .before .args .t .vars) (now (c .before .before .before .before .before .before .before .before .before .before .before .before .before .before .before .before .before .before .before .before .before .before .args .assignment))) (c .before .before .before .before .before .before .before .before .put-filled .ensures)
 
--- src/lib.rt:91:54
 highest-of-requires : tie.Need-highest-of-requires
 highest-of-requires c κs = search needs
 
--- src/lib.rt:57:1
 same-length : tie.Need-same-length
 same-length c = search needs
 
--- src/lib.rt:57:1
 same-length-2 : tie.Need-same-length-2
 same-length-2 c = search needs
 
--- src/lib.rt:57:1
 returns-2 : tie.Need-returns-2
 returns-2 c = founded-accepted (c .before .before .before .before .before .before .before .before .before .before .before .before .before .before .before .before .before .before .before .before .before .before .before .before .before .pre .0) (now (c .before .before .before .before .before .before .before .before .before .before .before .before .before .before .before .before .before .before .before .before .before .before .before .before .before .args .set)) (now (c .before .before .before .before .before .before .before .before .before .before .before .before .before .before .before .before .before .before .before .before .before .before .before .before .before .args .assignment)) (now (c .before .before .before .before .before .before .before .before .before .before .before .before .before .before .before .before .before .before .before .before .before .before .before .before .before .args .levels)) (drop (c .before .before .before .before .before .before .before .before .before .before .before .before .before .before .before .before .before .before .before .before .before .before .before .before .before .args .t .sizes .n) (now (c .before .before .before .before .before .before .before .before .before .before .before .before .before .before .before .before .before .before .before .before .before .before .before .before .before .args .found))) (c .before .before .before .before .before .before .before .before .before .before .before .before .before .before .before .before .before .before .before .before .before .before .before .before .before .pre .2) (c .before .before .before .before .before .before .before .before .before .before .before .before .before .before .first-difference .ensures) (c .before .before .before .before .before .before .before .before .before .before .before .before .before .if1 .left) (c .before .before .before .before .before .before .before .before .before .before .before .put-filled .ensures) (c .before .before .before .before .before .before .put-word .ensures) (c .before .before .true-count .ensures) (c .highest-of .ensures)
 

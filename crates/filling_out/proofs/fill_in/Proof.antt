@@ -4,52 +4,37 @@ use Rattle.filling_out.proofs.Steps.{short-assignment, short-levels, wr
 use borrow.Author.Needs.{needs}
 use Rattle.filling_out.proofs.fill_in.Statement.{statement}
 use Rattle.filling_out.proofs.fill_in.Tie as tie
-use Rattle.filling_out.proofs.fill_in.Reads as reads
-use Rattle.filling_out.proofs.fill_in.Lts as lts
-use Rattle.filling_out.proofs.fill_founded.Reads as fill-founded-reads
-use Rattle.filling_out.proofs.first_bad.Reads as first-bad-reads
 
--- src/lib.rt:154:9
 returns : tie.Need-returns
 returns c = short-assignment (c .before .before .before .before .before .before .before .before .before .before .before .pre) (now (c .before .before .before .before .before .before .before .before .before .before .before .args .set)) (now (c .before .before .before .before .before .before .before .before .before .before .before .args .assignment)) (now (c .before .before .before .before .before .before .before .before .before .before .before .args .levels)) (c .if1 .taken)
 
--- src/lib.rt:156:13
 cast-n : tie.Need-cast-n
 cast-n c = search needs
 
--- src/lib.rt:158:9
 returns-2 : tie.Need-returns-2
 returns-2 c = short-levels (c .before .before .before .before .before .before .before .before .before .before .before .before .before .pre) (now (c .before .before .before .before .before .before .before .before .before .before .before .before .before .args .set)) (now (c .before .before .before .before .before .before .before .before .before .before .before .before .before .args .assignment)) (now (c .before .before .before .before .before .before .before .before .before .before .before .before .before .args .levels)) (c .before .before .if1 .left) (c .if2 .taken)
 
--- src/lib.rt:161:9
 returns-3 : tie.Need-returns-3
 returns-3 c = wrong-size (c .before .before .before .before .before .before .before .before .before .before .before .before .before .before .pre) (now (c .before .before .before .before .before .before .before .before .before .before .before .before .before .before .args .set)) (now (c .before .before .before .before .before .before .before .before .before .before .before .before .before .before .args .assignment)) (now (c .before .before .before .before .before .before .before .before .before .before .before .before .before .before .args .levels)) (c .before .before .before .if1 .left) (c .before .if2 .left) (c .if3 .taken)
 
--- src/lib.rt:163:9
 first-bad-requires : tie.Need-first-bad-requires
 first-bad-requires c κs = search needs
 
--- src/lib.rt:165:57
 sub-t18 : tie.Need-sub-t18
 sub-t18 c = search needs
 
--- src/lib.rt:165:9
 returns-4 : tie.Need-returns-4
 returns-4 c = bad-at (c .before .before .before .before .before .before .before .before .before .before .before .before .before .before .before .before .pre) (now (c .before .before .before .before .before .before .before .before .before .before .before .before .before .before .before .before .args .set)) (now (c .before .before .before .before .before .before .before .before .before .before .before .before .before .before .before .before .args .assignment)) (now (c .before .before .before .before .before .before .before .before .before .before .before .before .before .before .before .before .args .levels)) (c .before .before .before .before .before .if1 .left) (c .before .before .before .if2 .left) (c .before .before .if3 .left) (c .before .first-bad .ensures) (c .if4 .taken)
 
--- src/lib.rt:167:5
 fill-founded-requires : tie.Need-fill-founded-requires
 fill-founded-requires c κs = (c .before .before .before .before .before .before .before .before .before .before .before .before .before .before .before .before .before .before .pre, omega (arith, c .before .before .before .before .if3 .left), c .before .before .before .before .before .before .before .if1 .left, c .before .before .before .before .before .if2 .left)
 
--- src/lib.rt:138:1
 same-length : tie.Need-same-length
 same-length c = search needs
 
--- src/lib.rt:138:1
 same-length-2 : tie.Need-same-length-2
 same-length-2 c = search needs
 
--- src/lib.rt:138:1
 returns-5 : tie.Need-returns-5
 returns-5 c = set-founded (c .before .before .before .before .before .before .before .before .before .before .before .before .before .before .before .before .before .before .before .before .before .before .before .pre) (now (c .before .before .before .before .before .before .before .before .before .before .before .before .before .before .before .before .before .before .before .before .before .before .before .args .set)) (now (c .before .before .before .before .before .before .before .before .before .before .before .before .before .before .before .before .before .before .before .before .before .before .before .args .assignment)) (now (c .before .before .before .before .before .before .before .before .before .before .before .before .before .before .before .before .before .before .before .before .before .before .before .args .levels)) (c .before .before .before .before .before .before .before .before .before .before .before .before .if1 .left) (c .before .before .before .before .before .before .before .before .before .before .if2 .left) (c .before .before .before .before .before .before .before .before .before .if3 .left) (c .before .before .before .before .before .before .before .before .first-bad .ensures) (c .before .before .before .before .before .before .before .if4 .left) (c .before .before .before .before .fill-founded .ensures)
 

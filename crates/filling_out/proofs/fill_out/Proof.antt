@@ -4,40 +4,28 @@ use Rattle.lines.proofs.Open.{accepted-stored}
 use borrow.Author.Needs.{needs}
 use Rattle.filling_out.proofs.fill_out.Statement.{statement}
 use Rattle.filling_out.proofs.fill_out.Tie as tie
-use Rattle.filling_out.proofs.fill_out.Reads as reads
-use Rattle.filling_out.proofs.fill_out.Lts as lts
-use Rattle.filling_out.proofs.fill_program.Reads as fill-program-reads
-use Rattle.program.proofs.read.Reads as read-reads
 
--- src/lib.rt:207:9
 read-requires : tie.Need-read-requires
 read-requires c κs = search needs
 
--- src/lib.rt:210:63
 enum-told : tie.Need-enum-told
 enum-told c = search needs
 
--- src/lib.rt:210:34
 fill-program-requires : tie.Need-fill-program-requires
 fill-program-requires c κs = accepted-stored (now (c .before .before .before .before .before .before .before .before .before .args .text)) (c .before .before .before .before .read .ensures) (c .before .before .enum-told .given .1)
 
--- src/lib.rt:211:30
 enum-known-v : tie.Need-enum-known-v
 enum-known-v c = search needs
 
--- src/lib.rt:204:1
 same-length : tie.Need-same-length
 same-length c = search needs
 
--- src/lib.rt:204:1
 same-length-2 : tie.Need-same-length-2
 same-length-2 c = search needs
 
--- src/lib.rt:204:1
 returns : tie.Need-returns
 returns c = read-accepted (now (c .before .before .before .before .before .before .before .before .before .before .before .before .before .before .args .text)) (now (c .before .before .before .before .before .before .before .before .before .before .before .before .before .before .args .set)) (now (c .before .before .before .before .before .before .before .before .before .before .before .before .before .before .args .assignment)) (now (c .before .before .before .before .before .before .before .before .before .before .before .before .before .before .args .levels)) (c .before .before .before .before .before .before .before .before .before .read .ensures) (c .before .before .before .before .before .before .before .enum-told .given .1) (c .before .before .before .before .fill-program .ensures)
 
--- src/lib.rt:204:1
 returns-2 : tie.Need-returns-2
 returns-2 c = read-refused (now (c .before .before .before .before .before .before .before .before .args .text)) (now (c .before .before .before .before .before .before .before .before .args .set)) (now (c .before .before .before .before .before .before .before .before .args .assignment)) (now (c .before .before .before .before .before .before .before .before .args .levels)) (c .before .before .before .read .ensures) (c .before .v .given .1)
 

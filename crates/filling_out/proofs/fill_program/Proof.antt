@@ -4,33 +4,22 @@ use Rattle.lines.proofs.Open.{totals-asks, ready-of, program-is}
 use borrow.Author.Needs.{needs}
 use Rattle.filling_out.proofs.fill_program.Statement.{statement}
 use Rattle.filling_out.proofs.fill_program.Tie as tie
-use Rattle.filling_out.proofs.fill_program.Reads as reads
-use Rattle.filling_out.proofs.fill_program.Lts as lts
-use Rattle.filling_out.proofs.fill_in.Reads as fill-in-reads
-use Rattle.tabling.proofs.pairs_of.Reads as pairs-of-reads
-use Rattle.tabling.proofs.totals_of.Reads as totals-of-reads
 
--- src/lib.rt:186:13
 pairs-of-requires : tie.Need-pairs-of-requires
 pairs-of-requires c κs = search needs
 
--- src/lib.rt:187:9
 totals-of-requires : tie.Need-totals-of-requires
 totals-of-requires c κs = totals-asks (c .before .before .before .before .pre) (c .pairs-of .ensures)
 
--- src/lib.rt:188:5
 fill-in-requires : tie.Need-fill-in-requires
 fill-in-requires c κs = ready-of (c .before .before .before .before .before .before .before .before .before .before .before .before .before .before .before .before .before .before .before .before .before .pre) (c .before .before .before .before .before .before .before .before .before .before .before .before .before .before .before .before .before .pairs-of .ensures) (c .before .before .before .before .before .before .before .before .before .before .before .before .before .before .before .before .totals-of .ensures)
 
--- src/lib.rt:182:1
 same-length : tie.Need-same-length
 same-length c = search needs
 
--- src/lib.rt:182:1
 same-length-2 : tie.Need-same-length-2
 same-length-2 c = search needs
 
--- src/lib.rt:182:1
 returns : tie.Need-returns
 returns c = same-program (now (c .before .before .before .before .before .before .before .before .before .before .before .before .before .before .before .before .before .before .before .before .before .before .before .before .before .before .args .set)) (now (c .before .before .before .before .before .before .before .before .before .before .before .before .before .before .before .before .before .before .before .before .before .before .before .before .before .before .args .assignment)) (now (c .before .before .before .before .before .before .before .before .before .before .before .before .before .before .before .before .before .before .before .before .before .before .before .before .before .before .args .levels)) (program-is (c .before .before .before .before .before .before .before .before .before .before .before .before .before .before .before .before .before .before .before .before .before .before .before .before .before .before .args .t1) (c .before .before .before .before .before .before .before .before .before .before .before .before .before .before .before .before .before .before .before .before .before .totals-of .ensures)) (c .before .before .before .before .fill-in .ensures)
 

@@ -6,8 +6,6 @@ use native.Mathlib.Omega.{arith}
 use Rattle.filling_out.proofs.Steps.{NoneTo, none-more, first-here, first-nowhere}
 use Rattle.filling_out.proofs.first_bad.Statement.{statement}
 use Rattle.filling_out.proofs.first_bad.Tie as tie
-use Rattle.filling_out.proofs.first_bad.Reads as reads
-use Rattle.filling_out.proofs.first_bad.Lts as lts
 
 abbrev Inv-loop : tie.InvT-loop
 Inv-loop set i₀ i = (i ≤ length set) × NoneTo set i
@@ -15,35 +13,27 @@ Inv-loop set i₀ i = (i ≤ length set) × NoneTo set i
 abbrev μ-loop : tie.MeasureT-loop
 μ-loop set i₀ i = length set - i
 
--- src/lib.rt:47:5
 loop-holds : tie.Need-loop-holds Inv-loop μ-loop
 loop-holds c = (omega arith, λ k h. absurd (omega (arith, h)))
 
--- src/lib.rt:48:16
 shared-slice-read-if1 : tie.Need-shared-slice-read-if1 Inv-loop μ-loop
 shared-slice-read-if1 c = search needs
 
--- src/lib.rt:49:20
 add-result : tie.Need-add-result Inv-loop μ-loop
 add-result c = search needs
 
--- src/lib.rt:49:13
 returns : tie.Need-returns Inv-loop μ-loop
 returns c = first-here (now (c .before .before .before .before .args .set)) (c .before .before .before .loop .i) (c .before .before .before .loop .inv .1) (c .before .before .loop-test .taken) (c .if1 .taken)
 
--- src/lib.rt:51:9
 add-i : tie.Need-add-i Inv-loop μ-loop
 add-i c = search needs
 
--- src/lib.rt:47:5
 loop-less : tie.Need-loop-less Inv-loop μ-loop
 loop-less c = search needs
 
--- src/lib.rt:47:5
 loop-again : tie.Need-loop-again Inv-loop μ-loop
 loop-again c = (omega (arith, c .before .before .loop-test .taken), none-more (now (c .before .before .before .before .args .set)) (c .before .before .before .loop .i) (c .before .before .before .loop .inv .1) (c .if1 .left))
 
--- src/lib.rt:43:1
 returns-2 : tie.Need-returns-2 Inv-loop μ-loop
 returns-2 c = first-nowhere (now (c .before .before .args .set)) (c .before .loop .i) (c .before .loop .inv .1) (c .loop-test .left)
 

@@ -7,32 +7,22 @@ use Prim.Native.Nat.{_+_}
 use borrow.Author.Needs.{needs}
 use Rattle.finding.proofs.atoms_size.Statement.{statement}
 use Rattle.finding.proofs.atoms_size.Tie as tie
-use Rattle.finding.proofs.atoms_size.Reads as reads
-use Rattle.finding.proofs.atoms_size.Lts as lts
-use Rattle.finding.proofs.low_count.Reads as low-count-reads
-use Rattle.numbers.proofs.wide.Reads as wide-reads
 
--- src/lib.rt:82:20
 slice-aggregate-low-count : tie.Need-slice-aggregate-low-count
 slice-aggregate-low-count c = sym (length-take-le (c .before .before .args .m) (now (c .before .before .args .heads)) (c .before .before .pre .1))
 
--- src/lib.rt:82:10
 low-count-requires : tie.Need-low-count-requires
 low-count-requires c κs = front-fits (now (c .before .before .args .heads)) (c .before .before .args .m) (c .before .before .pre .1) (c .before .before .pre .0)
 
--- src/lib.rt:82:5
 wide-requires : tie.Need-wide-requires
 wide-requires c κs = search needs
 
--- src/lib.rt:82:48
 wide-requires-2 : tie.Need-wide-requires-2
 wide-requires-2 c κs = search needs
 
--- src/lib.rt:82:5
 add-result : tie.Need-add-result
 add-result c = search needs
 
--- src/lib.rt:78:1
 returns : tie.Need-returns
 returns c = ap₂ _+_ (c .before .wide .ensures ∙ c .before .before .low-count .ensures ∙ count-front (c .before .before .before .before .before .args .m) (now (c .before .before .before .before .before .args .heads)) (c .before .before .before .before .before .args .a) (c .before .before .before .before .before .pre .1)) (c .wide2 .ensures)
 

@@ -7,39 +7,28 @@ use native.Mathlib.Omega.{arith}
 use borrow.Author.Needs.{needs}
 use Rattle.finding.proofs.bodies_size.Statement.{statement}
 use Rattle.finding.proofs.bodies_size.Tie as tie
-use Rattle.finding.proofs.bodies_size.Reads as reads
-use Rattle.finding.proofs.bodies_size.Lts as lts
-use Rattle.numbers.proofs.wide.Reads as wide-reads
 
--- src/lib.rt:90:19
 wide-requires : tie.Need-wide-requires
 wide-requires c κs = search needs
 
--- src/lib.rt:90:15
 mul-end : tie.Need-mul-end
 mul-end c = search needs
 
--- src/lib.rt:91:10
 mul-wide : tie.Need-mul-wide
 mul-wide c = search needs
 
--- src/lib.rt:91:10
 shared-slice-read-wide : tie.Need-shared-slice-read-wide
 shared-slice-read-wide c = search needs
 
--- src/lib.rt:91:5
 wide-requires-2 : tie.Need-wide-requires-2
 wide-requires-2 c κs = search needs
 
--- src/lib.rt:91:25
 wide-requires-3 : tie.Need-wide-requires-3
 wide-requires-3 c κs = search needs
 
--- src/lib.rt:91:5
 add-result : tie.Need-add-result
 add-result c = omega (arith, element-fits (now (c .before .before .before .before .before .args .starts)) _ (c .before .before .shared-slice-known2 .given) (c .before .wide2 .ensures), c .wide3 .ensures)
 
--- src/lib.rt:86:1
 returns : tie.Need-returns
 returns c = ap₂ _+_ (c .before .wide2 .ensures ∙ ap (λ (k : ℕ). getD (now (c .before .before .before .before .before .args .starts)) (2 * k) 0) (c .before .before .before .wide .ensures)) (c .wide3 .ensures)
 

@@ -8,9 +8,6 @@ use native.Mathlib.Omega.{arith}
 use Prim.Native.Nat.{_-_}
 use Rattle.finding.proofs.find_atom.Statement.{statement}
 use Rattle.finding.proofs.find_atom.Tie as tie
-use Rattle.finding.proofs.find_atom.Reads as reads
-use Rattle.finding.proofs.find_atom.Lts as lts
-use Rattle.finding.proofs.atoms_size.Reads as atoms-size-reads
 
 abbrev Inv-loop : tie.InvT-loop
 Inv-loop t heads starts bodies before partners owners left low₀ high₀ low high = Between (itemCount (programIn (t .sizes) heads starts bodies) 2) (itemSize (programIn (t .sizes) heads starts bodies) (t .sizes .w) 2) left low high
@@ -18,47 +15,36 @@ Inv-loop t heads starts bodies before partners owners left low₀ high₀ low hi
 abbrev μ-loop : tie.MeasureT-loop
 μ-loop t heads starts bodies before partners owners left low₀ high₀ low high = high - low
 
--- src/lib.rt:173:5
 loop-holds : tie.Need-loop-holds Inv-loop μ-loop
 loop-holds c = atoms-all (c .before .before .before .before .before .before .pre .0) (c .before .before .before .before .before .before .pre .1)
 
--- src/lib.rt:173:11
 add-loop : tie.Need-add-loop Inv-loop μ-loop
 add-loop c = omega (arith, atoms-fit (c .before .before .before .before .before .before .before .pre .0) (c .loop .inv), c .loop .inv .some)
 
--- src/lib.rt:174:23
 add-middle : tie.Need-add-middle Inv-loop μ-loop
 add-middle c = omega (arith, atoms-fit (c .before .before .before .before .before .before .before .before .pre .0) (c .before .loop .inv), c .before .loop .inv .some)
 
--- src/lib.rt:175:19
 atoms-size-requires : tie.Need-atoms-size-requires Inv-loop μ-loop
 atoms-size-requires c κs = heads-asks (c .before .before .before .before .before .before .before .before .pre .0)
 
--- src/lib.rt:173:5
 loop-less : tie.Need-loop-less Inv-loop μ-loop
 loop-less c = omega (arith, c .before .before .loop-test .taken)
 
--- src/lib.rt:173:5
 loop-again : tie.Need-loop-again Inv-loop μ-loop
 loop-again c = between-high (c .before .before .before .loop .inv) (omega (arith, c .before .before .loop-test .taken)) (omega (arith, c .before .before .loop-test .taken)) (atoms-before (c .before .before .before .before .before .before .before .before .before .before .pre .0) _ (c .before .atoms-size .ensures)) (c .if1 .taken)
 
--- src/lib.rt:173:5
 loop-less-2 : tie.Need-loop-less-2 Inv-loop μ-loop
 loop-less-2 c = omega (arith, c .before .before .loop-test .taken)
 
--- src/lib.rt:173:5
 loop-again-2 : tie.Need-loop-again-2 Inv-loop μ-loop
 loop-again-2 c = between-low (c .before .before .before .loop .inv) (omega (arith, c .before .before .loop-test .taken)) (atoms-before (c .before .before .before .before .before .before .before .before .before .before .pre .0) _ (c .before .atoms-size .ensures)) (c .if1 .left)
 
--- src/lib.rt:183:22
 atoms-size-requires-2 : tie.Need-atoms-size-requires-2 Inv-loop μ-loop
 atoms-size-requires-2 c κs = heads-asks (c .before .before .before .before .before .before .before .before .pre .0)
 
--- src/lib.rt:183:15
 sub-t16 : tie.Need-sub-t16 Inv-loop μ-loop
 sub-t16 c = omega (arith, c .before .before .loop .inv .low, atoms-before (c .before .before .before .before .before .before .before .before .before .pre .0) (c .before .before .loop .low) (c .atoms-size2 .ensures))
 
--- src/lib.rt:158:1
 returns : tie.Need-returns Inv-loop μ-loop
 returns c = falls-between (c .before .before .loop .inv) (c .before .loop-test .left) (atoms-before (c .before .before .before .before .before .before .before .before .before .pre .0) _ (c .atoms-size2 .ensures))
 

@@ -8,10 +8,6 @@ use native.Mathlib.Omega.{arith}
 use Prim.Native.Nat.{_-_}
 use Rattle.finding.proofs.find_group.Statement.{statement}
 use Rattle.finding.proofs.find_group.Tie as tie
-use Rattle.finding.proofs.find_group.Reads as reads
-use Rattle.finding.proofs.find_group.Lts as lts
-use Rattle.finding.proofs.group_size.Reads as group-size-reads
-use Rattle.numbers.proofs.wide.Reads as wide-reads
 
 abbrev Inv-loop : tie.InvT-loop
 Inv-loop t heads starts bodies before partners owners left last g₀ at₀ g at = Passed 6 (groupSize (programIn (t .sizes) heads starts bodies) (t .sizes .w)) left g at
@@ -19,43 +15,33 @@ Inv-loop t heads starts bodies before partners owners left last g₀ at₀ g at 
 abbrev μ-loop : tie.MeasureT-loop
 μ-loop t heads starts bodies before partners owners left last g₀ at₀ g at = 6 - g
 
--- src/lib.rt:152:28
 wide-requires : tie.Need-wide-requires Inv-loop μ-loop
 wide-requires c κs = search needs
 
--- src/lib.rt:152:16
 sub-last : tie.Need-sub-last Inv-loop μ-loop
 sub-last c = last-in (c .before .before .before .before .before .before .before .before .pre .0) (c .before .wide .ensures)
 
--- src/lib.rt:154:9
 returns : tie.Need-returns Inv-loop μ-loop
 returns c = in-last (c .before .before .before .before .before .before .before .before .before .pre .0) (c .before .before .wide .ensures) (c .if1 .taken) (c .before .before .before .before .before .before .before .before .before .pre .1)
 
--- src/lib.rt:161:5
 loop-holds : tie.Need-loop-holds Inv-loop μ-loop
 loop-holds c = passed-first (before-last (c .before .before .before .before .before .before .before .before .before .pre .0) (c .before .before .wide .ensures) (c .if1 .left))
 
--- src/lib.rt:162:13
 group-size-requires : tie.Need-group-size-requires Inv-loop μ-loop
 group-size-requires c κs = (c .before .before .before .before .before .before .before .before .before .before .before .pre .0, c .before .loop .inv .some, omega (arith, c .loop-test .taken))
 
--- src/lib.rt:164:13
 returns-2 : tie.Need-returns-2 Inv-loop μ-loop
 returns-2 c = falls-more (omega arith) (falls-here (c .before .before .before .loop .inv) (c .before .group-size .ensures) (c .if2 .taken))
 
--- src/lib.rt:170:9
 add-g : tie.Need-add-g Inv-loop μ-loop
 add-g c = search needs
 
--- src/lib.rt:161:5
 loop-less : tie.Need-loop-less Inv-loop μ-loop
 loop-less c = search needs
 
--- src/lib.rt:161:5
 loop-again : tie.Need-loop-again Inv-loop μ-loop
 loop-again c = passed-on (c .before .before .before .loop .inv) (c .before .before .loop-test .taken) (c .before .group-size .ensures) (c .if2 .left)
 
--- src/lib.rt:139:1
 returns-3 : tie.Need-returns-3 Inv-loop μ-loop
 returns-3 c = falls-more (omega arith) (falls-last (c .before .loop .inv) (c .loop-test .left) (before-last (c .before .before .before .before .before .before .before .before .before .before .before .pre .0) (c .before .before .before .before .wide .ensures) (c .before .before .if1 .left)))
 

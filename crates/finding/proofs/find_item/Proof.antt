@@ -4,59 +4,40 @@ use native.Mathlib.Omega.{arith}
 use borrow.Author.Needs.{needs}
 use Rattle.finding.proofs.find_item.Statement.{statement}
 use Rattle.finding.proofs.find_item.Tie as tie
-use Rattle.finding.proofs.find_item.Reads as reads
-use Rattle.finding.proofs.find_item.Lts as lts
-use Rattle.finding.proofs.find_atom.Reads as find-atom-reads
-use Rattle.finding.proofs.find_rule.Reads as find-rule-reads
-use Rattle.finding.proofs.fixed_size.Reads as fixed-size-reads
-use Rattle.finding.proofs.is_fixed.Reads as is-fixed-reads
-use Rattle.numbers.proofs.wide.Reads as wide-reads
 
--- src/lib.rt:237:8
 is-fixed-requires : tie.Need-is-fixed-requires
 is-fixed-requires c κs = search needs
 
--- src/lib.rt:238:28
 wide-requires : tie.Need-wide-requires
 wide-requires c κs = search needs
 
--- src/lib.rt:238:13
 fixed-size-requires : tie.Need-fixed-size-requires
 fixed-size-requires c κs = width-asks (c .before .before .before .before .before .before .before .before .before .pre .0) (c .wide .ensures)
 
--- src/lib.rt:239:17
 div-q : tie.Need-div-q
 div-q c = even-some (c .before .before .before .before .before .before .before .before .before .before .pre .0) (c .before .before .before .before .before .before .before .before .before .before .args .g) (c .before .before .before .before .before .before .before .before .before .before .pre .1) (c .before .before .before .before .before .before .before .before .before .before .pre .2) (sym (c .before .before .before .is-fixed .ensures) ∙ c .before .before .if1 .taken) (c .before .before .before .before .before .before .before .before .before .before .pre .3) (c .before .wide .ensures) (c .fixed-size .ensures)
 
--- src/lib.rt:241:21
 cast-t14 : tie.Need-cast-t14
 cast-t14 c = omega (arith, even-fits (c .before .before .before .before .before .before .before .before .before .before .pre .0) (c .before .before .before .before .before .before .before .before .before .before .args .g) (c .before .before .before .before .before .before .before .before .before .before .pre .1) (c .before .before .before .before .before .before .before .before .before .before .pre .2) (sym (c .before .before .before .is-fixed .ensures) ∙ c .before .before .if1 .taken) (c .before .before .before .before .before .before .before .before .before .before .pre .3) (c .before .wide .ensures) (c .fixed-size .ensures))
 
--- src/lib.rt:241:21
 add-t15 : tie.Need-add-t15
 add-t15 c = omega (arith, even-fits (c .before .before .before .before .before .before .before .before .before .before .pre .0) (c .before .before .before .before .before .before .before .before .before .before .args .g) (c .before .before .before .before .before .before .before .before .before .before .pre .1) (c .before .before .before .before .before .before .before .before .before .before .pre .2) (sym (c .before .before .before .is-fixed .ensures) ∙ c .before .before .if1 .taken) (c .before .before .before .before .before .before .before .before .before .before .pre .3) (c .before .wide .ensures) (c .fixed-size .ensures))
 
--- src/lib.rt:242:19
 rem-t13 : tie.Need-rem-t13
 rem-t13 c = even-some (c .before .before .before .before .before .before .before .before .before .before .pre .0) (c .before .before .before .before .before .before .before .before .before .before .args .g) (c .before .before .before .before .before .before .before .before .before .before .pre .1) (c .before .before .before .before .before .before .before .before .before .before .pre .2) (sym (c .before .before .before .is-fixed .ensures) ∙ c .before .before .if1 .taken) (c .before .before .before .before .before .before .before .before .before .before .pre .3) (c .before .wide .ensures) (c .fixed-size .ensures)
 
--- src/lib.rt:240:9
 returns : tie.Need-returns
 returns c = item-even (c .before .before .before .before .before .before .before .before .before .before .pre .0) (c .before .before .before .before .before .before .before .before .before .before .args .g) (c .before .before .before .before .before .before .before .before .before .before .pre .1) (c .before .before .before .before .before .before .before .before .before .before .pre .2) (sym (c .before .before .before .is-fixed .ensures) ∙ c .before .before .if1 .taken) (c .before .before .before .before .before .before .before .before .before .before .pre .3) (c .before .wide .ensures) (c .fixed-size .ensures)
 
--- src/lib.rt:246:9
 find-atom-requires : tie.Need-find-atom-requires
 find-atom-requires c κs = (c .before .before .before .before .before .before .before .before .before .pre .0, left-2 (c .before .before .before .before .before .before .before .before .before .pre .0) (c .if2 .taken) (c .before .before .before .before .before .before .before .before .before .pre .3))
 
--- src/lib.rt:246:9
 returns-2 : tie.Need-returns-2
 returns-2 c = falls-2 (c .before .before .before .before .before .before .before .before .before .before .pre .0) (c .before .if2 .taken) (c .find-atom .ensures)
 
--- src/lib.rt:248:5
 find-rule-requires : tie.Need-find-rule-requires
 find-rule-requires c κs = (c .before .before .before .before .before .before .before .before .before .pre .0, c .before .before .before .before .before .before .before .before .before .pre .1, c .before .before .before .before .before .before .before .before .before .pre .2, sym (c .before .before .is-fixed .ensures) ∙ c .before .if1 .left, c .if2 .left, c .before .before .before .before .before .before .before .before .before .pre .3)
 
--- src/lib.rt:223:1
 returns-3 : tie.Need-returns-3
 returns-3 c = c .find-rule .ensures
 

@@ -8,11 +8,6 @@ use mathlib.Core.Path.{_∙_}
 use Prim.Native.Nat.{_-_}
 use Rattle.finding.proofs.find_row.Statement.{statement}
 use Rattle.finding.proofs.find_row.Tie as tie
-use Rattle.finding.proofs.find_row.Reads as reads
-use Rattle.finding.proofs.find_row.Lts as lts
-use Rattle.numbers.proofs.wide.Reads as wide-reads
-use Rattle.layout.proofs.rows.Reads as rows-reads
-use Rattle.layout.proofs.size.Reads as size-reads
 
 abbrev Inv-loop : tie.InvT-loop
 Inv-loop t heads starts bodies before partners owners g a left n i₀ at₀ i at = Passed (rowCount (programIn (t .sizes) heads starts bodies) (t .sizes .w) g) (size (programIn (t .sizes) heads starts bodies) (t .sizes .w) g a) left i at
@@ -20,39 +15,30 @@ Inv-loop t heads starts bodies before partners owners g a left n i₀ at₀ i at
 abbrev μ-loop : tie.MeasureT-loop
 μ-loop t heads starts bodies before partners owners g a left n i₀ at₀ i at = n - i
 
--- src/lib.rt:255:9
 rows-requires : tie.Need-rows-requires Inv-loop μ-loop
 rows-requires c κs = sizes-in (c .before .before .before .before .before .before .pre .0)
 
--- src/lib.rt:258:5
 loop-holds : tie.Need-loop-holds Inv-loop μ-loop
 loop-holds c = passed-first (c .before .before .before .before .before .before .before .pre .5)
 
--- src/lib.rt:259:22
 size-requires : tie.Need-size-requires Inv-loop μ-loop
 size-requires c κs = (c .before .before .before .before .before .before .before .before .before .pre .0, row-here (c .before .before .before .before .before .before .before .before .before .pre .0) (c .before .before .before .before .before .before .before .before .before .pre .1) (c .before .before .before .before .before .before .before .before .before .pre .2) (c .before .before .before .before .before .before .before .before .before .pre .3) (c .before .before .before .before .before .before .before .before .before .pre .4) (c .before .loop .inv))
 
--- src/lib.rt:259:13
 wide-requires : tie.Need-wide-requires Inv-loop μ-loop
 wide-requires c κs = search needs
 
--- src/lib.rt:261:13
 returns : tie.Need-returns Inv-loop μ-loop
 returns c = falls-here (c .before .before .before .before .loop .inv) (c .before .wide .ensures ∙ c .before .before .size .ensures) (c .if1 .taken)
 
--- src/lib.rt:267:9
 add-i : tie.Need-add-i Inv-loop μ-loop
 add-i c = search needs
 
--- src/lib.rt:258:5
 loop-less : tie.Need-loop-less Inv-loop μ-loop
 loop-less c = search needs
 
--- src/lib.rt:258:5
 loop-again : tie.Need-loop-again Inv-loop μ-loop
 loop-again c = passed-on (c .before .before .before .before .loop .inv) (row-below (c .before .before .before .before .before .before .before .before .before .before .before .before .pre .0) (c .before .before .before .before .before .before .before .before .before .before .before .before .args .g) (c .before .before .before .before .before .rows .ensures) (c .before .before .before .loop-test .taken)) (c .before .wide .ensures ∙ c .before .before .size .ensures) (c .if1 .left)
 
--- src/lib.rt:240:1
 returns-2 : tie.Need-returns-2 Inv-loop μ-loop
 returns-2 c = falls-last (c .before .loop .inv) (rows-end (c .before .before .before .before .before .before .before .before .before .pre .0) (c .before .before .before .before .before .before .before .before .before .args .g) (c .before .before .rows .ensures) (c .loop-test .left)) (c .before .before .before .before .before .before .before .before .before .pre .5)
 

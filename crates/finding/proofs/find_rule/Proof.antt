@@ -8,11 +8,6 @@ use borrow.Author.Needs.{needs}
 use Prim.Native.Nat.{_-_}
 use Rattle.finding.proofs.find_rule.Statement.{statement}
 use Rattle.finding.proofs.find_rule.Tie as tie
-use Rattle.finding.proofs.find_rule.Reads as reads
-use Rattle.finding.proofs.find_rule.Lts as lts
-use Rattle.numbers.proofs.wide.Reads as wide-reads
-use Rattle.layout.proofs.items.Reads as items-reads
-use Rattle.layout.proofs.size.Reads as size-reads
 
 abbrev Inv-loop : tie.InvT-loop
 Inv-loop t heads starts bodies before partners owners g left n a₀ at₀ a at = Passed (itemCount (programIn (t .sizes) heads starts bodies) g) (itemSize (programIn (t .sizes) heads starts bodies) (t .sizes .w) g) left a at
@@ -20,39 +15,30 @@ Inv-loop t heads starts bodies before partners owners g left n a₀ at₀ a at =
 abbrev μ-loop : tie.MeasureT-loop
 μ-loop t heads starts bodies before partners owners g left n a₀ at₀ a at = n - a
 
--- src/lib.rt:202:9
 items-requires : tie.Need-items-requires Inv-loop μ-loop
 items-requires c κs = search needs
 
--- src/lib.rt:205:5
 loop-holds : tie.Need-loop-holds Inv-loop μ-loop
 loop-holds c = passed-first (c .before .before .before .before .before .before .before .pre .5)
 
--- src/lib.rt:206:22
 size-requires : tie.Need-size-requires Inv-loop μ-loop
 size-requires c κs = (c .before .before .before .before .before .before .before .before .before .pre .0, item-here (c .before .before .before .before .before .before .before .before .before .pre .0) (c .before .before .before .before .before .before .before .before .before .pre .1) (c .before .before .before .before .before .before .before .before .before .pre .2) (c .before .loop .inv))
 
--- src/lib.rt:206:13
 wide-requires : tie.Need-wide-requires Inv-loop μ-loop
 wide-requires c κs = search needs
 
--- src/lib.rt:208:13
 returns : tie.Need-returns Inv-loop μ-loop
 returns c = falls-here (c .before .before .before .before .loop .inv) (rule-size (c .before .before .before .before .before .before .before .before .before .before .before .before .pre .0) (c .before .before .before .before .before .before .before .before .before .before .before .before .args .g) (c .before .before .before .before .loop .a) (c .before .before .before .before .before .before .before .before .before .before .before .before .pre .1) (c .before .before .before .before .before .before .before .before .before .before .before .before .pre .2) (c .before .before .before .before .before .before .before .before .before .before .before .before .pre .3) (c .before .before .before .before .before .before .before .before .before .before .before .before .pre .4) (c .before .before .size .ensures) (c .before .wide .ensures)) (c .if1 .taken)
 
--- src/lib.rt:214:9
 add-a : tie.Need-add-a Inv-loop μ-loop
 add-a c = search needs
 
--- src/lib.rt:205:5
 loop-less : tie.Need-loop-less Inv-loop μ-loop
 loop-less c = search needs
 
--- src/lib.rt:205:5
 loop-again : tie.Need-loop-again Inv-loop μ-loop
 loop-again c = passed-on (c .before .before .before .before .loop .inv) (item-below (c .before .before .before .before .before .before .before .before .before .before .before .before .pre .0) (c .before .before .before .before .before .before .before .before .before .before .before .before .args .g) (c .before .before .before .before .before .items .ensures) (c .before .before .before .loop-test .taken)) (rule-size (c .before .before .before .before .before .before .before .before .before .before .before .before .pre .0) (c .before .before .before .before .before .before .before .before .before .before .before .before .args .g) (c .before .before .before .before .loop .a) (c .before .before .before .before .before .before .before .before .before .before .before .before .pre .1) (c .before .before .before .before .before .before .before .before .before .before .before .before .pre .2) (c .before .before .before .before .before .before .before .before .before .before .before .before .pre .3) (c .before .before .before .before .before .before .before .before .before .before .before .before .pre .4) (c .before .before .size .ensures) (c .before .wide .ensures)) (c .if1 .left)
 
--- src/lib.rt:188:1
 returns-2 : tie.Need-returns-2 Inv-loop μ-loop
 returns-2 c = falls-last (c .before .loop .inv) (items-end (c .before .before .before .before .before .before .before .before .before .pre .0) (c .before .before .before .before .before .before .before .before .before .args .g) (c .before .before .items .ensures) (c .loop-test .left)) (c .before .before .before .before .before .before .before .before .before .pre .5)
 

@@ -3,38 +3,28 @@ use native.Mathlib.Omega.{arith}
 use borrow.Author.Needs.{needs}
 use Rattle.finding.proofs.fixed_size.Statement.{statement}
 use Rattle.finding.proofs.fixed_size.Tie as tie
-use Rattle.finding.proofs.fixed_size.Reads as reads
-use Rattle.finding.proofs.fixed_size.Lts as lts
 
--- src/lib.rt:50:9
 returns : tie.Need-returns
 returns c = size-3 (c .before .args .g) (c .before .args .w) (c .if1 .taken)
 
--- src/lib.rt:53:21
 add-result : tie.Need-add-result
 add-result c = search needs
 
--- src/lib.rt:53:16
 mul-result : tie.Need-mul-result
 mul-result c = omega (arith, next-fits (c .before .before .args .g) (c .before .before .args .w) (c .before .before .pre .1))
 
--- src/lib.rt:53:9
 returns-2 : tie.Need-returns-2
 returns-2 c = size-4 (c .before .before .args .g) (c .before .before .args .w) (c .before .if1 .left) (c .if2 .taken)
 
--- src/lib.rt:56:16
 mul-result-2 : tie.Need-mul-result-2
 mul-result-2 c = search needs
 
--- src/lib.rt:56:16
 sub-result : tie.Need-sub-result
 sub-result c = search needs
 
--- src/lib.rt:56:9
 returns-3 : tie.Need-returns-3
 returns-3 c = size-5 (c .before .before .before .args .g) (c .before .before .before .args .w) (c .before .before .if1 .left) (c .before .if2 .left) (c .if3 .taken)
 
--- src/lib.rt:45:1
 returns-4 : tie.Need-returns-4
 returns-4 c = size-rest (c .before .before .before .args .g) (c .before .before .before .args .w) (c .before .before .if1 .left) (c .before .if2 .left) (c .if3 .left)
 

@@ -3,58 +3,40 @@ use native.Mathlib.Omega.{arith}
 use borrow.Author.Needs.{needs}
 use Rattle.finding.proofs.group_size.Statement.{statement}
 use Rattle.finding.proofs.group_size.Tie as tie
-use Rattle.finding.proofs.group_size.Reads as reads
-use Rattle.finding.proofs.group_size.Lts as lts
-use Rattle.finding.proofs.bodies_size.Reads as bodies-size-reads
-use Rattle.finding.proofs.fixed_size.Reads as fixed-size-reads
-use Rattle.numbers.proofs.wide.Reads as wide-reads
-use Rattle.layout.proofs.items.Reads as items-reads
 
--- src/lib.rt:130:9
 bodies-size-requires : tie.Need-bodies-size-requires
 bodies-size-requires c κs = bodies-asks (c .before .before .before .before .before .before .before .pre .0)
 
--- src/lib.rt:130:9
 returns : tie.Need-returns
 returns c = group-1 (c .before .before .before .before .before .before .before .before .pre .0) (c .before .before .before .before .before .before .before .before .args .g) (c .before .if1 .taken) (c .bodies-size .ensures)
 
--- src/lib.rt:133:16
 wide-requires : tie.Need-wide-requires
 wide-requires c κs = search needs
 
--- src/lib.rt:133:34
 wide-requires-2 : tie.Need-wide-requires-2
 wide-requires-2 c κs = search needs
 
--- src/lib.rt:133:16
 add-result : tie.Need-add-result
 add-result c = search needs
 
--- src/lib.rt:133:9
 returns-2 : tie.Need-returns-2
 returns-2 c = group-2 (c .before .before .before .before .before .before .before .before .before .before .pre .0) (c .before .before .before .before .before .before .before .before .before .before .args .g) (c .before .before .if2 .taken) (c .before .wide .ensures) (c .wide2 .ensures)
 
--- src/lib.rt:135:10
 items-requires : tie.Need-items-requires
 items-requires c κs = search needs
 
--- src/lib.rt:135:5
 wide-requires-3 : tie.Need-wide-requires-3
 wide-requires-3 c κs = search needs
 
--- src/lib.rt:135:36
 wide-requires-4 : tie.Need-wide-requires-4
 wide-requires-4 c κs = search needs
 
--- src/lib.rt:135:25
 fixed-size-requires : tie.Need-fixed-size-requires
 fixed-size-requires c κs = width-asks (c .before .before .before .before .before .before .before .before .before .before .before .pre .0) (c .wide4 .ensures)
 
--- src/lib.rt:135:5
 mul-result : tie.Need-mul-result
 mul-result c = omega (arith, product-fits (c .before .before .before .before .before .before .before .before .before .before .before .before .pre .0) (c .before .before .before .before .before .before .before .before .before .before .before .before .args .g) (c .before .before .before .items .ensures) (c .before .before .wide3 .ensures) (c .before .wide4 .ensures) (c .fixed-size .ensures))
 
--- src/lib.rt:116:1
 returns-3 : tie.Need-returns-3
 returns-3 c = group-rest (c .before .before .before .before .before .before .before .before .before .before .before .before .pre .0) (c .before .before .before .before .before .before .before .before .before .before .before .before .args .g) (c .before .before .before .items .ensures) (c .before .before .wide3 .ensures) (c .before .wide4 .ensures) (c .fixed-size .ensures) (c .before .before .before .before .before .before .before .before .before .before .before .before .pre .1) (c .before .before .before .before .before .before .before .before .before .before .before .before .pre .2) (c .before .before .before .before .before .if1 .left) (c .before .before .before .before .if2 .left)
 

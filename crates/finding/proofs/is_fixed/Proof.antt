@@ -1,18 +1,13 @@
 use Rattle.finding.proofs.Coded.{varied-1, varied-2, fixed-rest}
 use Rattle.finding.proofs.is_fixed.Statement.{statement}
 use Rattle.finding.proofs.is_fixed.Tie as tie
-use Rattle.finding.proofs.is_fixed.Reads as reads
-use Rattle.finding.proofs.is_fixed.Lts as lts
 
--- src/lib.rt:36:9
 returns : tie.Need-returns
 returns c = varied-1 (c .before .args .g) (c .if1 .taken)
 
--- src/lib.rt:39:9
 returns-2 : tie.Need-returns-2
 returns-2 c = varied-2 (c .before .before .args .g) (c .before .if1 .left) (c .if2 .taken)
 
--- src/lib.rt:32:1
 returns-3 : tie.Need-returns-3
 returns-3 c = fixed-rest (c .before .before .args .g) (c .before .if1 .left) (c .if2 .left)
 

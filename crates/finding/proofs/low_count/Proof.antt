@@ -10,8 +10,6 @@ use mathlib.Core.Path.{_≡_, refl, _∙_, ap}
 use Prim.Native.Nat.{_-_, _≤_}
 use Rattle.finding.proofs.low_count.Statement.{statement}
 use Rattle.finding.proofs.low_count.Tie as tie
-use Rattle.finding.proofs.low_count.Reads as reads
-use Rattle.finding.proofs.low_count.Lts as lts
 
 abbrev Inv-loop : tie.InvT-loop
 Inv-loop heads a n₀ i₀ n i = (i ≤ length heads) × (n ≡ lowCount i heads a)
@@ -19,35 +17,27 @@ Inv-loop heads a n₀ i₀ n i = (i ≤ length heads) × (n ≡ lowCount i heads
 abbrev μ-loop : tie.MeasureT-loop
 μ-loop heads a n₀ i₀ n i = length heads - i
 
--- src/lib.rt:68:5
 loop-holds : tie.Need-loop-holds Inv-loop μ-loop
 loop-holds c = (search needs, refl)
 
--- src/lib.rt:69:12
 mul-if1 : tie.Need-mul-if1 Inv-loop μ-loop
 mul-if1 c = search needs
 
--- src/lib.rt:69:12
 shared-slice-read-if1 : tie.Need-shared-slice-read-if1 Inv-loop μ-loop
 shared-slice-read-if1 c = search needs
 
--- src/lib.rt:70:13
 add-n : tie.Need-add-n Inv-loop μ-loop
 add-n c = omega (arith, c .before .before .before .loop .inv .1, count-fits (now (c .before .before .before .before .args .heads)) (c .before .before .before .before .args .a) (c .before .before .before .loop .i), c .before .before .before .loop .inv .0, c .before .before .before .before .pre)
 
--- src/lib.rt:72:9
 add-i : tie.Need-add-i Inv-loop μ-loop
 add-i c = search needs
 
--- src/lib.rt:68:5
 loop-less : tie.Need-loop-less Inv-loop μ-loop
 loop-less c = search needs
 
--- src/lib.rt:68:5
 loop-again : tie.Need-loop-again Inv-loop μ-loop
 loop-again c = (search needs, ⊎-elim (λ q. q .1 ∙ count-low (now (c .before .before .before .before .args .heads)) (c .before .before .before .before .args .a) (c .before .before .before .loop .i) (c .before .before .before .loop .inv .1) (q .0 .taken)) (λ q. q .1 ∙ count-high (now (c .before .before .before .before .args .heads)) (c .before .before .before .before .args .a) (c .before .before .before .loop .i) (c .before .before .before .loop .inv .1) (q .0 .left)) (c .if1 .came))
 
--- src/lib.rt:62:1
 returns : tie.Need-returns Inv-loop μ-loop
 returns c = c .before .loop .inv .1 ∙ ap (λ k. lowCount k (now (c .before .before .args .heads)) (c .before .before .args .a)) (le-antisymm (c .before .loop .inv .0) (c .loop-test .left))
 

@@ -4,51 +4,34 @@ use native.Mathlib.Omega.{arith}
 use borrow.Author.Needs.{needs}
 use Rattle.finding.proofs.place_of.Statement.{statement}
 use Rattle.finding.proofs.place_of.Tie as tie
-use Rattle.finding.proofs.place_of.Reads as reads
-use Rattle.finding.proofs.place_of.Lts as lts
-use Rattle.finding.proofs.find_group.Reads as find-group-reads
-use Rattle.finding.proofs.find_item.Reads as find-item-reads
-use Rattle.finding.proofs.find_row.Reads as find-row-reads
-use Rattle.finding.proofs.spot_at.Reads as spot-at-reads
-use Rattle.places.proofs.start.Reads as start-reads
 
--- src/lib.rt:318:9
 start-requires : tie.Need-start-requires
 start-requires c κs = search needs
 
--- src/lib.rt:318:9
 returns : tie.Need-returns
 returns c = first-place _ _ (c .before .before .before .before .before .before .before .before .args .j) (c .before .if1 .taken) (c .start .ensures)
 
--- src/lib.rt:320:76
 sub-find-group : tie.Need-sub-find-group
 sub-find-group c = search needs
 
--- src/lib.rt:320:9
 find-group-requires : tie.Need-find-group-requires
 find-group-requires c κs = search needs
 
--- src/lib.rt:321:9
 find-item-requires : tie.Need-find-item-requires
 find-item-requires c κs = (c .before .before .before .before .before .before .before .before .pre .0, c .find-group .ensures .at .some, c .find-group .ensures .at .within, c .find-group .ensures .inside)
 
--- src/lib.rt:322:9
 find-row-requires : tie.Need-find-row-requires
 find-row-requires c κs = (c .before .before .before .before .before .before .before .before .before .pre .0, c .before .find-group .ensures .at .some, c .before .find-group .ensures .at .within, c .find-item .ensures .at .some, c .find-item .ensures .at .within, c .find-item .ensures .inside)
 
--- src/lib.rt:347:13
 cast-spot-at : tie.Need-cast-spot-at
 cast-spot-at c = omega (arith, found-fits _ _ (c .before .before .before .find-group .ensures) (c .before .before .find-item .ensures) (c .before .find-row .ensures) (c .before .before .before .before .before .before .before .before .before .before .before .pre .0 .limits) (sizes-in (c .before .before .before .before .before .before .before .before .before .before .before .pre .0) .bits))
 
--- src/lib.rt:347:13
 add-spot-at : tie.Need-add-spot-at
 add-spot-at c = omega (arith, found-fits _ _ (c .before .before .before .find-group .ensures) (c .before .before .find-item .ensures) (c .before .find-row .ensures) (c .before .before .before .before .before .before .before .before .before .before .before .pre .0 .limits) (sizes-in (c .before .before .before .before .before .before .before .before .before .before .before .pre .0) .bits))
 
--- src/lib.rt:336:15
 spot-at-requires : tie.Need-spot-at-requires
 spot-at-requires c κs = (c .before .before .before .before .before .before .before .before .before .before .before .pre .0, found-at _ _ (c .before .before .before .find-group .ensures) (c .before .before .find-item .ensures) (c .before .find-row .ensures))
 
--- src/lib.rt:304:1
 returns-2 : tie.Need-returns-2
 returns-2 c = placed _ _ (c .before .before .before .before .before .before .before .before .before .before .before .before .args .j) (c .before .before .before .before .before .if1 .left) (c .before .before .before .before .find-group .ensures) (c .before .before .before .find-item .ensures) (c .before .before .find-row .ensures) (c .spot-at .ensures)
 

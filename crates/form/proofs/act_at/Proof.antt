@@ -2,25 +2,19 @@ use Rattle.form.specs.Automaton.{actAt}
 use borrow.Author.Tests.{eq-eqb, ne-eqb}
 use Rattle.form.proofs.act_at.Statement.{statement}
 use Rattle.form.proofs.act_at.Tie as tie
-use Rattle.form.proofs.act_at.Reads as reads
-use Rattle.form.proofs.act_at.Lts as lts
 
--- src/lib.rt:100:9
 returns : tie.Need-returns
 unfolding actAt
 returns c = simp (eq-eqb _ _ (c .if1 .taken))
 
--- src/lib.rt:103:9
 returns-2 : tie.Need-returns-2
 unfolding actAt
 returns-2 c = simp (ne-eqb _ _ (c .before .if1 .left), eq-eqb _ _ (c .if2 .taken))
 
--- src/lib.rt:106:9
 returns-3 : tie.Need-returns-3
 unfolding actAt
 returns-3 c = simp (ne-eqb _ _ (c .before .before .if1 .left), ne-eqb _ _ (c .before .if2 .left), eq-eqb _ _ (c .if3 .taken))
 
--- src/lib.rt:96:1
 returns-4 : tie.Need-returns-4
 unfolding actAt
 returns-4 c = simp (ne-eqb _ _ (c .before .before .if1 .left), ne-eqb _ _ (c .before .if2 .left), ne-eqb _ _ (c .if3 .left))

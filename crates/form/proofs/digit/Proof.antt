@@ -2,25 +2,19 @@ use Rattle.form.specs.Automaton.{digitOf}
 use borrow.Author.Tests.{eq-eqb, ne-eqb}
 use Rattle.form.proofs.digit.Statement.{statement}
 use Rattle.form.proofs.digit.Tie as tie
-use Rattle.form.proofs.digit.Reads as reads
-use Rattle.form.proofs.digit.Lts as lts
 
--- src/lib.rt:84:9
 returns : tie.Need-returns
 unfolding digitOf
 returns c = simp (eq-eqb _ _ (c .if1 .taken))
 
--- src/lib.rt:87:9
 returns-2 : tie.Need-returns-2
 unfolding digitOf
 returns-2 c = simp (ne-eqb _ _ (c .before .if1 .left), eq-eqb _ _ (c .if2 .taken))
 
--- src/lib.rt:90:9
 returns-3 : tie.Need-returns-3
 unfolding digitOf
 returns-3 c = simp (ne-eqb _ _ (c .before .before .if1 .left), ne-eqb _ _ (c .before .if2 .left), eq-eqb _ _ (c .if3 .taken))
 
--- src/lib.rt:80:1
 returns-4 : tie.Need-returns-4
 unfolding digitOf
 returns-4 c = simp (ne-eqb _ _ (c .before .before .if1 .left), ne-eqb _ _ (c .before .if2 .left), ne-eqb _ _ (c .if3 .left))

@@ -2,15 +2,11 @@ use Rattle.form.specs.Automaton.{digitTest}
 use borrow.Author.Tests.{lt-ltb, le-ltb}
 use Rattle.form.proofs.is_digit.Statement.{statement}
 use Rattle.form.proofs.is_digit.Tie as tie
-use Rattle.form.proofs.is_digit.Reads as reads
-use Rattle.form.proofs.is_digit.Lts as lts
 
--- src/lib.rt:34:9
 returns : tie.Need-returns
 unfolding digitTest
 returns c = simp (lt-ltb _ _ (c .if1 .taken))
 
--- src/lib.rt:30:1
 returns-2 : tie.Need-returns-2
 unfolding digitTest
 returns-2 c = simp (le-ltb _ _ (c .if1 .left))

@@ -3,30 +3,20 @@ use mathlib.Core.Path.{sym, _∙_}
 use borrow.Author.Needs.{needs}
 use Rattle.form.proofs.item.Statement.{statement}
 use Rattle.form.proofs.item.Tie as tie
-use Rattle.form.proofs.item.Reads as reads
-use Rattle.form.proofs.item.Lts as lts
-use Rattle.form.proofs.digit.Reads as digit-reads
-use Rattle.form.proofs.is_digit.Reads as is-digit-reads
-use Rattle.form.proofs.leave.Reads as leave-reads
 
--- src/lib.rt:101:8
 is-digit-requires : tie.Need-is-digit-requires
 is-digit-requires c κs = search needs
 
--- src/lib.rt:102:9
 digit-requires : tie.Need-digit-requires
 digit-requires c κs = search needs
 
--- src/lib.rt:102:9
 returns : tie.Need-returns
 unfolding itemOf
 returns c = simp (sym (c .before .before .is-digit .ensures) ∙ c .before .if1 .taken) (c .digit .ensures)
 
--- src/lib.rt:104:5
 leave-requires : tie.Need-leave-requires
 leave-requires c κs = search needs
 
--- src/lib.rt:97:1
 returns-2 : tie.Need-returns-2
 unfolding itemOf
 returns-2 c = simp (sym (c .before .before .is-digit .ensures) ∙ c .before .if1 .left) (c .leave .ensures)

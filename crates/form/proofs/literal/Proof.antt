@@ -3,34 +3,25 @@ use borrow.Author.Tests.{lt-ltb, le-ltb, eq-eqb, ne-eqb}
 use borrow.Author.Needs.{needs}
 use Rattle.form.proofs.literal.Statement.{statement}
 use Rattle.form.proofs.literal.Tie as tie
-use Rattle.form.proofs.literal.Reads as reads
-use Rattle.form.proofs.literal.Lts as lts
-use Rattle.form.proofs.form_at.Reads as form-at-reads
 
--- src/lib.rt:43:9
 form-at-requires : tie.Need-form-at-requires
 form-at-requires c κs = search needs
 
--- src/lib.rt:45:9
 returns : tie.Need-returns
 unfolding literalOf
 returns c = simp (← c .before .form-at .ensures, ne-eqb _ _ (c .if1 .taken))
 
--- src/lib.rt:48:9
 returns-2 : tie.Need-returns-2
 unfolding literalOf
 returns-2 c = simp (← c .before .before .form-at .ensures, eq-eqb _ _ (c .before .if1 .left), eq-eqb _ _ (c .if2 .taken))
 
--- src/lib.rt:51:26
 add-t6 : tie.Need-add-t6
 add-t6 c = search needs
 
--- src/lib.rt:51:9
 returns-3 : tie.Need-returns-3
 unfolding literalOf
 returns-3 c = simp (← c .before .before .before .form-at .ensures, eq-eqb _ _ (c .before .before .if1 .left), ne-eqb _ _ (c .before .if2 .left), lt-ltb _ _ (c .if3 .taken))
 
--- src/lib.rt:40:1
 returns-4 : tie.Need-returns-4
 unfolding literalOf
 returns-4 c = simp (← c .before .before .before .form-at .ensures, eq-eqb _ _ (c .before .before .if1 .left), ne-eqb _ _ (c .before .if2 .left), le-ltb _ _ (c .if3 .left))

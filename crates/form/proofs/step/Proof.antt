@@ -5,46 +5,32 @@ use borrow.Author.Tests.{eq-eqb, ne-eqb}
 use borrow.Author.Needs.{needs}
 use Rattle.form.proofs.step.Statement.{statement}
 use Rattle.form.proofs.step.Tie as tie
-use Rattle.form.proofs.step.Reads as reads
-use Rattle.form.proofs.step.Lts as lts
-use Rattle.form.proofs.act_at.Reads as act-at-reads
-use Rattle.form.proofs.form_at.Reads as form-at-reads
-use Rattle.form.proofs.item.Reads as item-reads
-use Rattle.form.proofs.literal.Reads as literal-reads
 
--- src/lib.rt:127:9
 form-at-requires : tie.Need-form-at-requires
 form-at-requires c κs = search needs
 
--- src/lib.rt:129:9
 item-requires : tie.Need-item-requires
 unfolding stepOf
 item-requires c κs = form-below _ 34 (sym (c .before .form-at .ensures) ∙ c .if1 .taken)
 
--- src/lib.rt:129:9
 returns : tie.Need-returns
 unfolding stepOf
 returns c = simp (← c .before .before .form-at .ensures, eq-eqb _ _ (c .before .if1 .taken)) (c .item .ensures)
 
--- src/lib.rt:132:9
 item-requires-2 : tie.Need-item-requires-2
 unfolding stepOf
 item-requires-2 c κs = form-below _ 41 (sym (c .before .before .form-at .ensures) ∙ c .if2 .taken)
 
--- src/lib.rt:132:9
 returns-2 : tie.Need-returns-2
 unfolding stepOf
 returns-2 c = simp (← c .before .before .before .form-at .ensures, ne-eqb _ _ (c .before .before .if1 .left), eq-eqb _ _ (c .before .if2 .taken)) (c .item2 .ensures)
 
--- src/lib.rt:134:19
 act-at-requires : tie.Need-act-at-requires
 act-at-requires c κs = search needs
 
--- src/lib.rt:134:5
 literal-requires : tie.Need-literal-requires
 literal-requires c κs = search needs
 
--- src/lib.rt:124:1
 returns-3 : tie.Need-returns-3
 unfolding stepOf
 returns-3 c = simp (← c .before .before .before .before .form-at .ensures, ne-eqb _ _ (c .before .before .before .if1 .left), ne-eqb _ _ (c .before .before .if2 .left), ← c .before .act-at .ensures) (c .literal .ensures)

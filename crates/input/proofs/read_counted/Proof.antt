@@ -4,24 +4,16 @@ use denote.Ref.{now}
 use borrow.Author.Needs.{needs}
 use Rattle.input.proofs.read_counted.Statement.{statement}
 use Rattle.input.proofs.read_counted.Tie as tie
-use Rattle.input.proofs.read_counted.Reads as reads
-use Rattle.input.proofs.read_counted.Lts as lts
-use Rattle.program.proofs.empty.Reads as empty-reads
-use Rattle.program.proofs.read.Reads as read-reads
 
--- src/lib.rt:17:22
 empty-requires : tie.Need-empty-requires
 empty-requires c κs = search needs
 
--- src/lib.rt:15:9
 returns : tie.Need-returns
 returns c = refused-long (c .empty .ensures) ∙ counted-long (now (c .before .before .before .args .front)) (c .before .before .before .args .total) (c .before .if1 .taken)
 
--- src/lib.rt:20:5
 read-requires : tie.Need-read-requires
 read-requires c κs = search needs
 
--- src/lib.rt:11:1
 returns-2 : tie.Need-returns-2
 returns-2 c = c .read .ensures ∙ counted-short (now (c .before .before .before .args .front)) (c .before .before .before .args .total) (c .before .if1 .left)
 

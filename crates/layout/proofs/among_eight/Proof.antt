@@ -2,71 +2,52 @@ use Rattle.layout.specs.Numbers.{amongEight}
 use borrow.Author.Needs.{needs}
 use Rattle.layout.proofs.among_eight.Statement.{statement}
 use Rattle.layout.proofs.among_eight.Tie as tie
-use Rattle.layout.proofs.among_eight.Reads as reads
-use Rattle.layout.proofs.among_eight.Lts as lts
-use Rattle.layout.proofs.is_at.Reads as is-at-reads
 
--- src/lib.rt:297:5
 is-at-requires : tie.Need-is-at-requires
 is-at-requires c κs = search needs
 
--- src/lib.rt:298:24
 add-is-at : tie.Need-add-is-at
 add-is-at c = search needs
 
--- src/lib.rt:298:11
 is-at-requires-2 : tie.Need-is-at-requires-2
 is-at-requires-2 c κs = search needs
 
--- src/lib.rt:299:24
 add-is-at-2 : tie.Need-add-is-at-2
 add-is-at-2 c = search needs
 
--- src/lib.rt:299:11
 is-at-requires-3 : tie.Need-is-at-requires-3
 is-at-requires-3 c κs = search needs
 
--- src/lib.rt:300:24
 add-is-at-3 : tie.Need-add-is-at-3
 add-is-at-3 c = search needs
 
--- src/lib.rt:300:11
 is-at-requires-4 : tie.Need-is-at-requires-4
 is-at-requires-4 c κs = search needs
 
--- src/lib.rt:301:24
 add-is-at-4 : tie.Need-add-is-at-4
 add-is-at-4 c = search needs
 
--- src/lib.rt:301:11
 is-at-requires-5 : tie.Need-is-at-requires-5
 is-at-requires-5 c κs = search needs
 
--- src/lib.rt:302:24
 add-is-at-5 : tie.Need-add-is-at-5
 add-is-at-5 c = search needs
 
--- src/lib.rt:302:11
 is-at-requires-6 : tie.Need-is-at-requires-6
 is-at-requires-6 c κs = search needs
 
--- src/lib.rt:303:24
 add-is-at-6 : tie.Need-add-is-at-6
 add-is-at-6 c = search needs
 
--- src/lib.rt:303:11
 is-at-requires-7 : tie.Need-is-at-requires-7
 is-at-requires-7 c κs = search needs
 
--- src/lib.rt:304:24
 add-is-at-7 : tie.Need-add-is-at-7
 add-is-at-7 c = search needs
 
--- src/lib.rt:304:11
 is-at-requires-8 : tie.Need-is-at-requires-8
 is-at-requires-8 c κs = search needs
 
--- src/lib.rt:293:1
 returns : tie.Need-returns
 unfolding amongEight
 returns c = cc

@@ -3,35 +3,25 @@ use denote.Ref.{now}
 use borrow.Author.Needs.{needs}
 use Rattle.layout.proofs.body_part.Statement.{statement}
 use Rattle.layout.proofs.body_part.Tie as tie
-use Rattle.layout.proofs.body_part.Reads as reads
-use Rattle.layout.proofs.body_part.Lts as lts
-use Rattle.slots.proofs.body_slot.Reads as body-slot-reads
 
--- src/lib.rt:101:9
 mul-body-slot : tie.Need-mul-body-slot
 mul-body-slot c = search needs
 
--- src/lib.rt:101:9
 sub-body-slot : tie.Need-sub-body-slot
 sub-body-slot c = search needs
 
--- src/lib.rt:101:9
 part-body-slot-start : tie.Need-part-body-slot-start
 part-body-slot-start c = search needs
 
--- src/lib.rt:101:9
 part-body-slot-end : tie.Need-part-body-slot-end
 part-body-slot-end c = search needs
 
--- src/lib.rt:102:9
 sub-body-slot-2 : tie.Need-sub-body-slot-2
 sub-body-slot-2 c = search needs
 
--- src/lib.rt:98:5
 body-slot-requires : tie.Need-body-slot-requires
 body-slot-requires c κs = (c .before .before .pre .0, c .before .before .pre .1, c .before .before .pre .5, c .before .before .pre .6, part-slots (now (c .before .before .args .bodies)) (c .before .before .args .first) (c .before .before .args .end) (c .before .before .args .y) (c .before .before .args .l) (c .before .before .pre .3) (c .before .before .pre .4) (c .before .before .pre .7))
 
--- src/lib.rt:94:1
 returns : tie.Need-returns
 returns c = search needs
 

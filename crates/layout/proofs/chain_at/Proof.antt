@@ -4,28 +4,19 @@ use Rattle.table_laws.proofs.Elements.{partners-length, owners-length}
 use denote.Ref.{now}
 use Rattle.layout.proofs.chain_at.Statement.{statement}
 use Rattle.layout.proofs.chain_at.Tie as tie
-use Rattle.layout.proofs.chain_at.Reads as reads
-use Rattle.layout.proofs.chain_at.Lts as lts
-use Rattle.layout.proofs.entry.Reads as entry-reads
-use Rattle.slots.proofs.chain_of.Reads as chain-of-reads
 
--- src/lib.rt:329:22
 entry-requires : tie.Need-entry-requires
 entry-requires c κs = entry-asks5 (c .before .before .before .before .before .before .before .pre .0) (c .before .before .before .before .before .before .before .pre .1) (now (c .before .before .before .before .before .before .before .args .partners)) (partners-length _ _ _ _ _ _ _ _ (c .before .before .before .before .before .before .before .pre .0)) (c .if1 .taken)
 
--- src/lib.rt:330:22
 entry-requires-2 : tie.Need-entry-requires-2
 entry-requires-2 c κs = entry-asks5 (c .before .before .before .before .before .before .before .before .pre .0) (c .before .before .before .before .before .before .before .before .pre .1) (now (c .before .before .before .before .before .before .before .before .args .owners)) (owners-length _ _ _ _ _ _ _ _ (c .before .before .before .before .before .before .before .before .pre .0)) (c .before .if1 .taken)
 
--- src/lib.rt:331:9
 chain-of-requires : tie.Need-chain-of-requires
 chain-of-requires c κs = pair-asks (c .before .before .before .before .before .before .before .before .before .pre .0) (c .before .before .before .before .before .before .before .before .before .pre .1) (c .before .before .if1 .taken) (c .before .entry .ensures) (c .entry2 .ensures)
 
--- src/lib.rt:331:9
 returns : tie.Need-returns
 returns c = chain-pair (c .before .before .before .before .before .before .before .before .before .before .pre .0) (c .before .before .before .before .before .before .before .before .before .before .pre .1) (c .before .before .before .if1 .taken) (c .before .before .entry .ensures) (c .before .entry2 .ensures) (c .chain-of .ensures)
 
--- src/lib.rt:324:1
 returns-2 : tie.Need-returns-2
 returns-2 c = chain-none _ _ (c .before .before .before .before .before .before .before .args .g) (c .before .before .before .before .before .before .before .args .a) (c .before .before .before .before .before .before .before .args .i) (c .if1 .left)
 

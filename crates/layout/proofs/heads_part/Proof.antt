@@ -5,19 +5,13 @@ use denote.Ref.{now}
 use borrow.Author.Needs.{needs}
 use Rattle.layout.proofs.heads_part.Statement.{statement}
 use Rattle.layout.proofs.heads_part.Tie as tie
-use Rattle.layout.proofs.heads_part.Reads as reads
-use Rattle.layout.proofs.heads_part.Lts as lts
-use Rattle.slots.proofs.head_slot.Reads as head-slot-reads
 
--- src/lib.rt:113:15
 slice-aggregate-head-slot : tie.Need-slice-aggregate-head-slot
 slice-aggregate-head-slot c = sym (length-take-le (c .before .before .args .m) (now (c .before .before .args .heads)) (c .before .before .pre .2))
 
--- src/lib.rt:113:5
 head-slot-requires : tie.Need-head-slot-requires
 head-slot-requires c κs = (c .before .before .pre .0, front-fits (now (c .before .before .args .heads)) (c .before .before .args .m) (c .before .before .pre .2) (c .before .before .pre .1), c .before .before .pre .3, front-slots (now (c .before .before .args .heads)) (c .before .before .args .m) (c .before .before .args .l) (c .before .before .pre .2) (c .before .before .pre .4))
 
--- src/lib.rt:109:1
 returns : tie.Need-returns
 returns c = search needs
 

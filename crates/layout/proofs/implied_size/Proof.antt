@@ -3,23 +3,16 @@ use Rattle.layout.proofs.Parts.{implied-past, implied-own, implied-othe
 use borrow.Author.Needs.{needs}
 use Rattle.layout.proofs.implied_size.Statement.{statement}
 use Rattle.layout.proofs.implied_size.Tie as tie
-use Rattle.layout.proofs.implied_size.Reads as reads
-use Rattle.layout.proofs.implied_size.Lts as lts
-use Rattle.program.proofs.head.Reads as head-reads
 
--- src/lib.rt:130:9
 returns : tie.Need-returns
 returns c = implied-past (c .before .before .args .m) (c .before .before .args .i) (c .before .before .args .a .0) (now (c .before .before .args .heads)) (c .if1 .taken)
 
--- src/lib.rt:132:8
 head-requires : tie.Need-head-requires
 head-requires c κs = search needs
 
--- src/lib.rt:133:9
 returns-2 : tie.Need-returns-2
 returns-2 c = implied-own (c .before .before .before .before .before .before .args .m) (c .before .before .before .before .before .before .args .i) (c .before .before .before .before .before .before .args .a .0) (now (c .before .before .before .before .before .before .args .heads)) (c .before .before .before .before .if1 .left) (c .before .before .before .head .ensures) (c .if2 .taken)
 
--- src/lib.rt:125:1
 returns-3 : tie.Need-returns-3
 returns-3 c = implied-other (c .before .before .before .before .before .before .args .m) (c .before .before .before .before .before .before .args .i) (c .before .before .before .before .before .before .args .a .0) (now (c .before .before .before .before .before .before .args .heads)) (c .before .before .before .before .if1 .left) (c .before .before .before .head .ensures) (c .if2 .left)
 

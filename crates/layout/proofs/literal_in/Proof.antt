@@ -2,29 +2,19 @@ use Rattle.layout.proofs.RowChains.{literal-pair}
 use borrow.Author.Needs.{needs}
 use Rattle.layout.proofs.literal_in.Statement.{statement}
 use Rattle.layout.proofs.literal_in.Tie as tie
-use Rattle.layout.proofs.literal_in.Reads as reads
-use Rattle.layout.proofs.literal_in.Lts as lts
-use Rattle.layout.proofs.slot.Reads as slot-reads
-use Rattle.slots.proofs.chain_bit.Reads as chain-bit-reads
-use Rattle.slots.proofs.chain_literal.Reads as chain-literal-reads
 
--- src/lib.rt:347:33
 chain-bit-requires : tie.Need-chain-bit-requires
 chain-bit-requires c κs = search needs
 
--- src/lib.rt:347:9
 chain-literal-requires : tie.Need-chain-literal-requires
 chain-literal-requires c κs = search needs
 
--- src/lib.rt:347:9
 returns : tie.Need-returns
 returns c = literal-pair (c .before .before .before .before .before .before .before .before .before .pre .0) (c .before .before .before .before .before .before .before .before .before .pre .1 .row-at) (c .before .before .before .before .before .before .before .before .before .args .y) (c .before .before .before .before .before .before .before .before .before .args .l) (c .before .before .if1 .taken) (c .before .before .before .before .before .before .before .before .before .pre .4) (c .before .chain-bit .ensures) (c .chain-literal .ensures)
 
--- src/lib.rt:349:5
 slot-requires : tie.Need-slot-requires
 slot-requires c κs = (c .before .before .before .before .before .before .before .pre .0, c .before .before .before .before .before .before .before .pre .1, c .before .before .before .before .before .before .before .pre .2, c .before .before .before .before .before .before .before .pre .3)
 
--- src/lib.rt:342:1
 returns-2 : tie.Need-returns-2
 returns-2 c = search needs
 

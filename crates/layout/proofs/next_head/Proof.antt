@@ -7,9 +7,6 @@ use mathlib.Core.Path.{_≡_, _∙_}
 use Prim.Native.Nat.{_-_, _<_, _^_}
 use Rattle.layout.proofs.next_head.Statement.{statement}
 use Rattle.layout.proofs.next_head.Tie as tie
-use Rattle.layout.proofs.next_head.Reads as reads
-use Rattle.layout.proofs.next_head.Lts as lts
-use Rattle.layout.proofs.past_eights.Reads as past-eights-reads
 
 abbrev Inv-loop : tie.InvT-loop
 Inv-loop heads a from i₀ i = (i < 2 ^ 16) × (nextHead heads (a .0) i ≡ nextHead heads (a .0) from)
@@ -17,47 +14,36 @@ Inv-loop heads a from i₀ i = (i < 2 ^ 16) × (nextHead heads (a .0) i ≡ next
 abbrev μ-loop : tie.MeasureT-loop
 μ-loop heads a from i₀ i = length heads - i
 
--- src/lib.rt:327:9
 past-eights-requires : tie.Need-past-eights-requires Inv-loop μ-loop
 past-eights-requires c κs = search needs
 
--- src/lib.rt:328:5
 loop-holds : tie.Need-loop-holds Inv-loop μ-loop
 loop-holds c = c .past-eights .ensures
 
--- src/lib.rt:329:12
 mul-if1 : tie.Need-mul-if1 Inv-loop μ-loop
 mul-if1 c = search needs
 
--- src/lib.rt:329:12
 shared-slice-read-if1 : tie.Need-shared-slice-read-if1 Inv-loop μ-loop
 shared-slice-read-if1 c = search needs
 
--- src/lib.rt:330:20
 cast-result : tie.Need-cast-result Inv-loop μ-loop
 cast-result c = search needs
 
--- src/lib.rt:330:13
 returns : tie.Need-returns Inv-loop μ-loop
 returns c = next-here (now (c .before .before .before .before .before .before .before .args .heads)) (c .before .before .before .before .before .before .before .args .a .0) (c .before .before .before .before .loop .i) (c .before .before .before .loop-test .taken) (c .if1 .taken) ∙ c .before .before .before .before .loop .inv .1
 
--- src/lib.rt:332:9
 add-i : tie.Need-add-i Inv-loop μ-loop
 add-i c = search needs
 
--- src/lib.rt:328:5
 loop-less : tie.Need-loop-less Inv-loop μ-loop
 loop-less c = search needs
 
--- src/lib.rt:328:5
 loop-again : tie.Need-loop-again Inv-loop μ-loop
 loop-again c = (search needs, next-on (now (c .before .before .before .before .before .before .before .args .heads)) (c .before .before .before .before .before .before .before .args .a .0) (c .before .before .before .before .loop .i) (c .before .before .before .loop-test .taken) (c .if1 .left) ∙ c .before .before .before .before .loop .inv .1)
 
--- src/lib.rt:334:5
 cast-result-2 : tie.Need-cast-result-2 Inv-loop μ-loop
 cast-result-2 c = search needs
 
--- src/lib.rt:323:1
 returns-2 : tie.Need-returns-2 Inv-loop μ-loop
 returns-2 c = next-end (now (c .before .before .before .before .args .heads)) (c .before .before .before .before .args .a .0) (c .before .loop .i) (c .loop-test .left) ∙ c .before .loop .inv .1
 

@@ -8,9 +8,6 @@ use Prim.Native.Nat.{_-_, _<_, _^_}
 use denote.Ref.{now}
 use Rattle.layout.proofs.past_eights.Statement.{statement}
 use Rattle.layout.proofs.past_eights.Tie as tie
-use Rattle.layout.proofs.past_eights.Reads as reads
-use Rattle.layout.proofs.past_eights.Lts as lts
-use Rattle.layout.proofs.among_eight.Reads as among-eight-reads
 
 abbrev Inv-loop : tie.InvT-loop
 Inv-loop heads a from i₀ i = (i < 2 ^ 16) × (nextHead heads a i ≡ nextHead heads a from)
@@ -18,35 +15,27 @@ Inv-loop heads a from i₀ i = (i < 2 ^ 16) × (nextHead heads a i ≡ nextHead 
 abbrev μ-loop : tie.MeasureT-loop
 μ-loop heads a from i₀ i = length heads - i
 
--- src/lib.rt:313:5
 loop-holds : tie.Need-loop-holds Inv-loop μ-loop
 loop-holds c = (c .before .pre .1, refl)
 
--- src/lib.rt:313:11
 add-loop : tie.Need-add-loop Inv-loop μ-loop
 add-loop c = search needs
 
--- src/lib.rt:314:12
 among-eight-requires : tie.Need-among-eight-requires Inv-loop μ-loop
 among-eight-requires c κs = search needs
 
--- src/lib.rt:315:13
 returns : tie.Need-returns Inv-loop μ-loop
 returns c = search needs
 
--- src/lib.rt:317:9
 add-i : tie.Need-add-i Inv-loop μ-loop
 add-i c = search needs
 
--- src/lib.rt:313:5
 loop-less : tie.Need-loop-less Inv-loop μ-loop
 loop-less c = search needs
 
--- src/lib.rt:313:5
 loop-again : tie.Need-loop-again Inv-loop μ-loop
 loop-again c = (search needs, next-eight (now (c .before .before .before .before .before .args .heads)) (c .before .before .before .before .before .args .a) (c .before .before .before .loop .i) (c .before .before .loop-test .taken) (sym (c .before .among-eight .ensures) ∙ c .if1 .left) ∙ c .before .before .before .loop .inv .1)
 
--- src/lib.rt:308:1
 returns-2 : tie.Need-returns-2 Inv-loop μ-loop
 returns-2 c = search needs
 

@@ -3,71 +3,49 @@ use Rattle.layout.proofs.Groups.{rule1, rule6, bits4, bounded, heads-in
 use borrow.Author.Needs.{needs}
 use Rattle.layout.proofs.size.Statement.{statement}
 use Rattle.layout.proofs.size.Tie as tie
-use Rattle.layout.proofs.size.Reads as reads
-use Rattle.layout.proofs.size.Lts as lts
-use Rattle.layout.proofs.implied_size.Reads as implied-size-reads
-use Rattle.layout.proofs.span.Reads as span-reads
-use Rattle.slots.proofs.chain_bit.Reads as chain-bit-reads
-use Rattle.slots.proofs.chain_size.Reads as chain-size-reads
-use Rattle.slots.proofs.rule_size.Reads as rule-size-reads
 
--- src/lib.rt:145:16
 span-requires : tie.Need-span-requires
 span-requires c κs = span-asks2 (c .before .before .before .before .before .before .before .before .pre .0) (c .before .before .before .before .before .before .before .before .pre .1) (rule1 (c .before .before .before .before .before .before .before .before .pre .0) (c .before .before .before .before .before .before .before .before .pre .1) (c .if1 .taken))
 
--- src/lib.rt:145:16
 add-result : tie.Need-add-result
 add-result c = omega (arith, span-fits2 (c .before .before .before .before .before .before .before .before .before .pre .0) (c .before .before .before .before .before .before .before .before .before .pre .1) (rule1 (c .before .before .before .before .before .before .before .before .before .pre .0) (c .before .before .before .before .before .before .before .before .before .pre .1) (c .before .if1 .taken)) (c .span .ensures))
 
--- src/lib.rt:145:9
 returns : tie.Need-returns
 returns c = size-body (c .before .before .before .before .before .before .before .before .before .pre .0) (c .before .before .before .before .before .before .before .before .before .pre .1) (c .before .if1 .taken) (c .span .ensures)
 
--- src/lib.rt:148:9
 implied-size-requires : tie.Need-implied-size-requires
 implied-size-requires c κs = (heads-in (c .before .before .before .before .before .before .before .before .before .pre .0) (c .before .before .before .before .before .before .before .before .before .pre .1), c .before .before .before .before .before .before .before .before .before .pre .1 .row-some)
 
--- src/lib.rt:148:9
 returns-2 : tie.Need-returns-2
 returns-2 c = size-implied (c .before .before .before .before .before .before .before .before .before .before .pre .0) (c .before .before .before .before .before .before .before .before .before .before .pre .1) (c .before .if2 .taken) (c .implied-size .ensures)
 
--- src/lib.rt:151:9
 returns-3 : tie.Need-returns-3
 returns-3 c = size-zero (c .before .before .before .before .before .before .before .before .before .before .pre .0) (c .before .before .before .before .before .before .before .before .before .before .pre .1) (c .if3 .taken)
 
--- src/lib.rt:154:16
 mul-result : tie.Need-mul-result
 mul-result c = omega (arith, bits4 (c .before .before .before .before .before .before .before .before .before .before .before .pre .0) (c .before .before .before .before .before .before .before .before .before .before .before .pre .1) (c .if4 .taken))
 
--- src/lib.rt:154:9
 returns-4 : tie.Need-returns-4
 returns-4 c = size-next (c .before .before .before .before .before .before .before .before .before .before .before .pre .0) (c .before .before .before .before .before .before .before .before .before .before .before .pre .1) (c .if4 .taken)
 
--- src/lib.rt:157:27
 chain-bit-requires : tie.Need-chain-bit-requires
 chain-bit-requires c κs = search needs
 
--- src/lib.rt:157:9
 chain-size-requires : tie.Need-chain-size-requires
 chain-size-requires c κs = search needs
 
--- src/lib.rt:157:9
 returns-5 : tie.Need-returns-5
 returns-5 c = size-pair (c .before .before .before .before .before .before .before .before .before .before .before .before .before .before .pre .0) (c .before .before .before .before .before .before .before .before .before .before .before .before .before .before .pre .1) (c .before .before .if5 .taken) (c .before .chain-bit .ensures) (c .chain-size .ensures)
 
--- src/lib.rt:160:31
 span-requires-2 : tie.Need-span-requires-2
 span-requires-2 c κs = span-asks1 (c .before .before .before .before .before .before .before .before .before .before .before .before .before .pre .0) (c .before .before .before .before .before .before .before .before .before .before .before .before .before .pre .1) (rule6 (c .before .before .before .before .before .before .before .before .before .before .before .before .before .pre .0) (c .before .before .before .before .before .before .before .before .before .before .before .before .before .pre .1) (c .if6 .taken))
 
--- src/lib.rt:160:9
 rule-size-requires : tie.Need-rule-size-requires
 rule-size-requires c κs = (bounded (c .before .before .before .before .before .before .before .before .before .before .before .before .before .before .pre .0) .bits, span-fits1 (c .before .before .before .before .before .before .before .before .before .before .before .before .before .before .pre .0) (c .before .before .before .before .before .before .before .before .before .before .before .before .before .before .pre .1) (rule6 (c .before .before .before .before .before .before .before .before .before .before .before .before .before .before .pre .0) (c .before .before .before .before .before .before .before .before .before .before .before .before .before .before .pre .1) (c .before .if6 .taken)) (c .span2 .ensures))
 
--- src/lib.rt:160:9
 returns-6 : tie.Need-returns-6
 returns-6 c = size-rule (c .before .before .before .before .before .before .before .before .before .before .before .before .before .before .before .pre .0) (c .before .before .before .before .before .before .before .before .before .before .before .before .before .before .before .pre .1) (c .before .before .if6 .taken) (c .before .span2 .ensures) (c .rule-size .ensures)
 
--- src/lib.rt:139:1
 returns-7 : tie.Need-returns-7
 returns-7 c = size-last (c .before .before .before .before .before .before .before .before .before .before .before .before .before .pre .0) (c .before .before .before .before .before .before .before .before .before .before .before .before .before .pre .1) (record { not1 = c .before .before .before .before .before .if1 .left; not2 = c .before .before .before .before .if2 .left; not3 = c .before .before .before .if3 .left; not4 = c .before .before .if4 .left; not5 = c .before .if5 .left; not6 = c .if6 .left })
 

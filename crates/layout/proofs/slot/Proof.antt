@@ -5,117 +5,79 @@ use Rattle.layout.proofs.Groups.{slot-pair, slot-body, slot-supported, 
 use Rattle.layout.proofs.Groups.{rule1, rule6, bounded, start-asks, span-asks1, entry-asks5, pair-asks, body-asks, supported-asks, implied-asks, zero-asks, next-asks, head-asks, before-asks, rule-asks, founded-asks}
 use Rattle.layout.proofs.slot.Statement.{statement}
 use Rattle.layout.proofs.slot.Tie as tie
-use Rattle.layout.proofs.slot.Reads as reads
-use Rattle.layout.proofs.slot.Lts as lts
-use Rattle.layout.proofs.body_part.Reads as body-part-reads
-use Rattle.layout.proofs.entry.Reads as entry-reads
-use Rattle.layout.proofs.heads_part.Reads as heads-part-reads
-use Rattle.layout.proofs.span.Reads as span-reads
-use Rattle.layout.proofs.start.Reads as start-reads
-use Rattle.program.proofs.head.Reads as head-reads
-use Rattle.slots.proofs.implied_slot.Reads as implied-slot-reads
-use Rattle.slots.proofs.next_slot.Reads as next-slot-reads
-use Rattle.slots.proofs.pair_slot.Reads as pair-slot-reads
-use Rattle.slots.proofs.rule_slot.Reads as rule-slot-reads
-use Rattle.slots.proofs.zero_slot.Reads as zero-slot-reads
 
--- src/lib.rt:202:22
 entry-requires : tie.Need-entry-requires
 entry-requires c κs = entry-asks5 (c .before .before .before .before .before .before .before .before .pre .0) (c .before .before .before .before .before .before .before .before .pre .1 .row-at) (now (c .before .before .before .before .before .before .before .before .args .partners)) (partners-length _ _ _ _ _ _ _ _ (c .before .before .before .before .before .before .before .before .pre .0)) (c .if1 .taken)
 
--- src/lib.rt:203:22
 entry-requires-2 : tie.Need-entry-requires-2
 entry-requires-2 c κs = entry-asks5 (c .before .before .before .before .before .before .before .before .before .pre .0) (c .before .before .before .before .before .before .before .before .before .pre .1 .row-at) (now (c .before .before .before .before .before .before .before .before .before .args .owners)) (owners-length _ _ _ _ _ _ _ _ (c .before .before .before .before .before .before .before .before .before .pre .0)) (c .before .if1 .taken)
 
--- src/lib.rt:204:9
 pair-slot-requires : tie.Need-pair-slot-requires
 pair-slot-requires c κs = pair-asks (c .before .before .before .before .before .before .before .before .before .before .pre .0) (c .before .before .before .before .before .before .before .before .before .before .pre .1 .row-at) (c .before .before .if1 .taken) (c .before .entry .ensures) (c .entry2 .ensures)
 
--- src/lib.rt:204:9
 returns : tie.Need-returns
 returns c = slot-pair (c .before .before .before .before .before .before .before .before .before .before .before .pre .0) (c .before .before .before .before .before .before .before .before .before .before .before .pre .1) (c .before .before .before .before .before .before .before .before .before .before .before .args .l) (c .before .before .before .if1 .taken) (c .before .before .entry .ensures) (c .before .entry2 .ensures) (c .pair-slot .ensures)
 
--- src/lib.rt:208:13
 start-requires : tie.Need-start-requires
 start-requires c κs = start-asks (c .before .before .before .before .before .before .before .before .before .pre .0) (c .before .before .before .before .before .before .before .before .before .pre .1 .row-at) (rule1 (c .before .before .before .before .before .before .before .before .before .pre .0) (c .before .before .before .before .before .before .before .before .before .pre .1 .row-at) (c .if2 .taken)) 0 (omega arith)
 
--- src/lib.rt:209:13
 start-requires-2 : tie.Need-start-requires-2
 start-requires-2 c κs = start-asks (c .before .before .before .before .before .before .before .before .before .before .pre .0) (c .before .before .before .before .before .before .before .before .before .before .pre .1 .row-at) (rule1 (c .before .before .before .before .before .before .before .before .before .before .pre .0) (c .before .before .before .before .before .before .before .before .before .before .pre .1 .row-at) (c .before .if2 .taken)) 1 (omega arith)
 
--- src/lib.rt:210:13
 start-requires-3 : tie.Need-start-requires-3
 start-requires-3 c κs = start-asks (c .before .before .before .before .before .before .before .before .before .before .before .pre .0) (c .before .before .before .before .before .before .before .before .before .before .before .pre .1 .row-at) (rule1 (c .before .before .before .before .before .before .before .before .before .before .before .pre .0) (c .before .before .before .before .before .before .before .before .before .before .before .pre .1 .row-at) (c .before .before .if2 .taken)) 2 (omega arith)
 
--- src/lib.rt:211:9
 body-part-requires : tie.Need-body-part-requires
 body-part-requires c κs = body-asks (c .before .before .before .before .before .before .before .before .before .before .before .before .pre .0) (c .before .before .before .before .before .before .before .before .before .before .before .before .pre .1) (c .before .before .before .before .before .before .before .before .before .before .before .before .args .l) (c .before .before .before .if2 .taken) (c .before .before .start .ensures) (c .before .start2 .ensures) (c .start3 .ensures) (c .before .before .before .before .before .before .before .before .before .before .before .before .pre .2) (c .before .before .before .before .before .before .before .before .before .before .before .before .pre .3)
 
--- src/lib.rt:211:9
 returns-2 : tie.Need-returns-2
 returns-2 c = slot-body (c .before .before .before .before .before .before .before .before .before .before .before .before .before .pre .0) (c .before .before .before .before .before .before .before .before .before .before .before .before .before .pre .1) (c .before .before .before .before .before .before .before .before .before .before .before .before .before .args .l) (c .before .before .before .before .if2 .taken) (c .before .before .before .start .ensures) (c .before .before .start2 .ensures) (c .before .start3 .ensures) (c .body-part .ensures)
 
--- src/lib.rt:215:13
 heads-part-requires : tie.Need-heads-part-requires
 heads-part-requires c κs = supported-asks (c .before .before .before .before .before .before .before .before .before .before .before .before .pre .0) (c .before .before .before .before .before .before .before .before .before .before .before .before .pre .1) (c .before .before .before .before .before .before .before .before .before .before .before .before .args .l) (c .before .before .if3 .taken) (c .if4 .taken) (c .before .before .before .before .before .before .before .before .before .before .before .before .pre .2) (c .before .before .before .before .before .before .before .before .before .before .before .before .pre .3)
 
--- src/lib.rt:215:13
 returns-3 : tie.Need-returns-3
 returns-3 c = slot-supported (c .before .before .before .before .before .before .before .before .before .before .before .before .before .pre .0) (c .before .before .before .before .before .before .before .before .before .before .before .before .before .pre .1) (c .before .before .before .before .before .before .before .before .before .before .before .before .before .args .l) (c .before .before .before .if3 .taken) (c .before .if4 .taken) (c .heads-part .ensures)
 
--- src/lib.rt:217:9
 implied-slot-requires : tie.Need-implied-slot-requires
 implied-slot-requires c κs = implied-asks (c .before .before .before .before .before .before .before .before .before .before .before .before .pre .0) (c .before .before .before .before .before .before .before .before .before .before .before .before .pre .1) (c .before .before .before .before .before .before .before .before .before .before .before .before .args .l) (c .if4 .left)
 
--- src/lib.rt:217:9
 returns-4 : tie.Need-returns-4
 returns-4 c = slot-implied (c .before .before .before .before .before .before .before .before .before .before .before .before .before .pre .0) (c .before .before .before .before .before .before .before .before .before .before .before .before .before .pre .1) (c .before .before .before .before .before .before .before .before .before .before .before .before .before .args .l) (c .before .before .before .if3 .taken) (c .before .if4 .left) (c .implied-slot .ensures)
 
--- src/lib.rt:220:9
 zero-slot-requires : tie.Need-zero-slot-requires
 zero-slot-requires c κs = zero-asks (c .before .before .before .before .before .before .before .before .before .before .before .pre .0) (c .before .before .before .before .before .before .before .before .before .before .before .pre .1) (c .before .before .before .before .before .before .before .before .before .before .before .args .l) (c .if5 .taken)
 
--- src/lib.rt:220:9
 returns-5 : tie.Need-returns-5
 returns-5 c = slot-zero (c .before .before .before .before .before .before .before .before .before .before .before .before .pre .0) (c .before .before .before .before .before .before .before .before .before .before .before .before .pre .1) (c .before .before .before .before .before .before .before .before .before .before .before .before .args .l) (c .before .if5 .taken) (c .zero-slot .ensures)
 
--- src/lib.rt:223:9
 next-slot-requires : tie.Need-next-slot-requires
 next-slot-requires c κs = next-asks (c .before .before .before .before .before .before .before .before .before .before .before .before .pre .0) (c .before .before .before .before .before .before .before .before .before .before .before .before .pre .1) (c .before .before .before .before .before .before .before .before .before .before .before .before .args .l) (c .if6 .taken) (c .before .before .before .before .before .before .before .before .before .before .before .before .pre .3)
 
--- src/lib.rt:223:9
 returns-6 : tie.Need-returns-6
 returns-6 c = slot-next (c .before .before .before .before .before .before .before .before .before .before .before .before .before .pre .0) (c .before .before .before .before .before .before .before .before .before .before .before .before .before .pre .1) (c .before .before .before .before .before .before .before .before .before .before .before .before .before .args .l) (c .before .if6 .taken) (c .next-slot .ensures)
 
--- src/lib.rt:227:13
 span-requires : tie.Need-span-requires
 span-requires c κs = span-asks1 (c .before .before .before .before .before .before .before .before .before .before .before .before .before .pre .0) (c .before .before .before .before .before .before .before .before .before .before .before .before .before .pre .1 .row-at) (rule6 (c .before .before .before .before .before .before .before .before .before .before .before .before .before .pre .0) (c .before .before .before .before .before .before .before .before .before .before .before .before .before .pre .1 .row-at) (c .if7 .taken))
 
--- src/lib.rt:228:32
 head-requires : tie.Need-head-requires
 head-requires c κs = head-asks (c .before .before .before .before .before .before .before .before .before .before .before .before .before .before .pre .0) (c .before .before .before .before .before .before .before .before .before .before .before .before .before .before .pre .1) (c .before .before .before .before .before .before .before .before .before .before .before .before .before .before .args .l) (c .before .if7 .taken)
 
--- src/lib.rt:228:48
 entry-requires-3 : tie.Need-entry-requires-3
 entry-requires-3 c κs = before-asks (c .before .before .before .before .before .before .before .before .before .before .before .before .before .before .before .pre .0) (c .before .before .before .before .before .before .before .before .before .before .before .before .before .before .before .pre .1) (c .before .before .before .before .before .before .before .before .before .before .before .before .before .before .before .args .l) (c .before .before .if7 .taken)
 
--- src/lib.rt:228:9
 rule-slot-requires : tie.Need-rule-slot-requires
 rule-slot-requires c κs = rule-asks (c .before .before .before .before .before .before .before .before .before .before .before .before .before .before .before .before .pre .0) (c .before .before .before .before .before .before .before .before .before .before .before .before .before .before .before .before .pre .1) (c .before .before .before .before .before .before .before .before .before .before .before .before .before .before .before .before .args .l) (c .before .before .before .if7 .taken) (c .before .head .ensures) (c .entry3 .ensures) (c .before .before .span .ensures) (c .before .before .before .before .before .before .before .before .before .before .before .before .before .before .before .before .pre .2) (c .before .before .before .before .before .before .before .before .before .before .before .before .before .before .before .before .pre .3)
 
--- src/lib.rt:228:9
 returns-7 : tie.Need-returns-7
 returns-7 c = slot-rule (c .before .before .before .before .before .before .before .before .before .before .before .before .before .before .before .before .before .pre .0) (c .before .before .before .before .before .before .before .before .before .before .before .before .before .before .before .before .before .pre .1) (c .before .before .before .before .before .before .before .before .before .before .before .before .before .before .before .before .before .args .l) (c .before .before .before .before .if7 .taken) (c .before .before .head .ensures) (c .before .entry3 .ensures) (c .before .before .before .span .ensures) (c .rule-slot .ensures)
 
--- src/lib.rt:230:37
 add-heads-part : tie.Need-add-heads-part
 add-heads-part c = omega (arith, bounded (c .before .before .before .before .before .before .before .before .before .before .before .before .before .before .pre .0) .atoms, bounded (c .before .before .before .before .before .before .before .before .before .before .before .before .before .before .pre .0) .rules)
 
--- src/lib.rt:230:5
 heads-part-requires-2 : tie.Need-heads-part-requires-2
 heads-part-requires-2 c κs = founded-asks (c .before .before .before .before .before .before .before .before .before .before .before .before .before .before .pre .0) (c .before .before .before .before .before .before .before .before .before .before .before .before .before .before .pre .1) (c .before .before .before .before .before .before .before .before .before .before .before .before .before .before .args .l) (record { not1 = c .before .before .before .before .before .if2 .left; not2 = c .before .before .before .before .if3 .left; not3 = c .before .before .before .if5 .left; not4 = c .before .before .if6 .left; not5 = c .before .before .before .before .before .before .if1 .left; not6 = c .before .if7 .left }) (c .before .before .before .before .before .before .before .before .before .before .before .before .before .before .pre .2) (c .before .before .before .before .before .before .before .before .before .before .before .before .before .before .pre .3)
 
--- src/lib.rt:196:1
 returns-8 : tie.Need-returns-8
 returns-8 c = slot-last (c .before .before .before .before .before .before .before .before .before .before .before .before .before .before .before .pre .0) (c .before .before .before .before .before .before .before .before .before .before .before .before .before .before .before .pre .1) (c .before .before .before .before .before .before .before .before .before .before .before .before .before .before .before .args .l) (record { not1 = c .before .before .before .before .before .before .if2 .left; not2 = c .before .before .before .before .before .if3 .left; not3 = c .before .before .before .before .if5 .left; not4 = c .before .before .before .if6 .left; not5 = c .before .before .before .before .before .before .before .if1 .left; not6 = c .before .before .if7 .left }) (c .heads-part2 .ensures)
 

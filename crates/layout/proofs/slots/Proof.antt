@@ -3,80 +3,55 @@ use Rattle.layout.proofs.Groups.{rule1, rule6, bits4, bounded, span-ask
 use borrow.Author.Needs.{needs}
 use Rattle.layout.proofs.slots.Statement.{statement}
 use Rattle.layout.proofs.slots.Tie as tie
-use Rattle.layout.proofs.slots.Reads as reads
-use Rattle.layout.proofs.slots.Lts as lts
-use Rattle.layout.proofs.span.Reads as span-reads
-use Rattle.slots.proofs.body_slots.Reads as body-slots-reads
-use Rattle.slots.proofs.chain_bit.Reads as chain-bit-reads
-use Rattle.slots.proofs.chain_slots.Reads as chain-slots-reads
-use Rattle.slots.proofs.next_slots.Reads as next-slots-reads
-use Rattle.slots.proofs.rule_slots.Reads as rule-slots-reads
 
--- src/lib.rt:172:27
 span-requires : tie.Need-span-requires
 span-requires c κs = span-asks2 (c .before .before .before .before .before .before .before .before .pre .0) (c .before .before .before .before .before .before .before .before .pre .1 .row-at) (rule1 (c .before .before .before .before .before .before .before .before .pre .0) (c .before .before .before .before .before .before .before .before .pre .1 .row-at) (c .if1 .taken))
 
--- src/lib.rt:172:9
 body-slots-requires : tie.Need-body-slots-requires
 body-slots-requires c κs = span-fits2 (c .before .before .before .before .before .before .before .before .before .pre .0) (c .before .before .before .before .before .before .before .before .before .pre .1 .row-at) (rule1 (c .before .before .before .before .before .before .before .before .before .pre .0) (c .before .before .before .before .before .before .before .before .before .pre .1 .row-at) (c .before .if1 .taken)) (c .span .ensures)
 
--- src/lib.rt:172:9
 returns : tie.Need-returns
 returns c = slots-body (c .before .before .before .before .before .before .before .before .before .before .pre .0) (c .before .before .before .before .before .before .before .before .before .before .pre .1) (c .before .before .if1 .taken) (c .before .span .ensures) (c .body-slots .ensures)
 
--- src/lib.rt:176:20
 add-result : tie.Need-add-result
 add-result c = omega (arith, bounded (c .before .before .before .before .before .before .before .before .before .before .before .before .pre .0) .rules)
 
--- src/lib.rt:176:13
 returns-2 : tie.Need-returns-2
 returns-2 c = slots-supported (c .before .before .before .before .before .before .before .before .before .before .before .before .pre .0) (c .before .before .before .before .before .before .before .before .before .before .before .before .pre .1) (c .before .before .before .if2 .taken) (c .before .if3 .taken)
 
--- src/lib.rt:178:9
 returns-3 : tie.Need-returns-3
 returns-3 c = slots-implied (c .before .before .before .before .before .before .before .before .before .before .before .pre .0) (c .before .before .before .before .before .before .before .before .before .before .before .pre .1) (c .before .before .if2 .taken) (c .if3 .left)
 
--- src/lib.rt:181:9
 returns-4 : tie.Need-returns-4
 returns-4 c = slots-zero (c .before .before .before .before .before .before .before .before .before .before .pre .0) (c .before .before .before .before .before .before .before .before .before .before .pre .1) (c .if4 .taken)
 
--- src/lib.rt:184:9
 next-slots-requires : tie.Need-next-slots-requires
 next-slots-requires c κs = (bits4 (c .before .before .before .before .before .before .before .before .before .before .before .pre .0) (c .before .before .before .before .before .before .before .before .before .before .before .pre .1 .row-at) (c .if5 .taken), c .before .before .before .before .before .before .before .before .before .before .before .pre .1 .clause-some)
 
--- src/lib.rt:184:9
 returns-5 : tie.Need-returns-5
 returns-5 c = slots-next (c .before .before .before .before .before .before .before .before .before .before .before .before .pre .0) (c .before .before .before .before .before .before .before .before .before .before .before .before .pre .1) (c .before .if5 .taken) (c .next-slots .ensures)
 
--- src/lib.rt:187:28
 chain-bit-requires : tie.Need-chain-bit-requires
 chain-bit-requires c κs = search needs
 
--- src/lib.rt:187:9
 chain-slots-requires : tie.Need-chain-slots-requires
 chain-slots-requires c κs = search needs
 
--- src/lib.rt:187:9
 returns-6 : tie.Need-returns-6
 returns-6 c = slots-pair (c .before .before .before .before .before .before .before .before .before .before .before .before .before .before .pre .0) (c .before .before .before .before .before .before .before .before .before .before .before .before .before .before .pre .1) (c .before .before .if6 .taken) (c .before .chain-bit .ensures) (c .chain-slots .ensures)
 
--- src/lib.rt:190:27
 span-requires-2 : tie.Need-span-requires-2
 span-requires-2 c κs = span-asks1 (c .before .before .before .before .before .before .before .before .before .before .before .before .before .pre .0) (c .before .before .before .before .before .before .before .before .before .before .before .before .before .pre .1 .row-at) (rule6 (c .before .before .before .before .before .before .before .before .before .before .before .before .before .pre .0) (c .before .before .before .before .before .before .before .before .before .before .before .before .before .pre .1 .row-at) (c .if7 .taken))
 
--- src/lib.rt:190:9
 rule-slots-requires : tie.Need-rule-slots-requires
 rule-slots-requires c κs = span-fits1 (c .before .before .before .before .before .before .before .before .before .before .before .before .before .before .pre .0) (c .before .before .before .before .before .before .before .before .before .before .before .before .before .before .pre .1 .row-at) (rule6 (c .before .before .before .before .before .before .before .before .before .before .before .before .before .before .pre .0) (c .before .before .before .before .before .before .before .before .before .before .before .before .before .before .pre .1 .row-at) (c .before .if7 .taken)) (c .span2 .ensures)
 
--- src/lib.rt:190:9
 returns-7 : tie.Need-returns-7
 returns-7 c = slots-rule (c .before .before .before .before .before .before .before .before .before .before .before .before .before .before .before .pre .0) (c .before .before .before .before .before .before .before .before .before .before .before .before .before .before .before .pre .1) (c .before .before .if7 .taken) (c .before .span2 .ensures) (c .rule-slots .ensures)
 
--- src/lib.rt:192:5
 add-result-2 : tie.Need-add-result-2
 add-result-2 c = omega (arith, bounded (c .before .before .before .before .before .before .before .before .before .before .before .before .before .before .pre .0) .rules)
 
--- src/lib.rt:166:1
 returns-8 : tie.Need-returns-8
 returns-8 c = slots-last (c .before .before .before .before .before .before .before .before .before .before .before .before .before .before .pre .0) (c .before .before .before .before .before .before .before .before .before .before .before .before .before .before .pre .1) (record { not1 = c .before .before .before .before .before .before .if1 .left; not2 = c .before .before .before .before .before .if2 .left; not3 = c .before .before .before .before .if4 .left; not4 = c .before .before .before .if5 .left; not5 = c .before .before .if6 .left; not6 = c .before .if7 .left })
 

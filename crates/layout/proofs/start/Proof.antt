@@ -5,32 +5,22 @@ use mathlib.Core.Path.{_∙_, ap}
 use borrow.Author.Needs.{needs}
 use Rattle.layout.proofs.start.Statement.{statement}
 use Rattle.layout.proofs.start.Tie as tie
-use Rattle.layout.proofs.start.Reads as reads
-use Rattle.layout.proofs.start.Lts as lts
-use Rattle.layout.proofs.element.Reads as element-reads
-use Rattle.numbers.proofs.wide.Reads as wide-reads
 
--- src/lib.rt:90:30
 sub-wide : tie.Need-sub-wide
 sub-wide c = search needs
 
--- src/lib.rt:90:25
 wide-requires : tie.Need-wide-requires
 wide-requires c κs = search needs
 
--- src/lib.rt:90:21
 mul-element : tie.Need-mul-element
 mul-element c = search needs
 
--- src/lib.rt:90:21
 add-element : tie.Need-add-element
 add-element c = search needs
 
--- src/lib.rt:90:5
 element-requires : tie.Need-element-requires
 element-requires c κs = search needs
 
--- src/lib.rt:86:1
 returns : tie.Need-returns
 returns c = c .element .ensures ∙ ap (λ (j : ℕ). getD (now (c .before .before .before .before .args .starts)) (2 * j + c .before .before .before .before .args .k) 0) (c .before .wide .ensures)
 

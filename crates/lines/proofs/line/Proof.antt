@@ -3,36 +3,25 @@ use denote.Ref.{now}
 use borrow.Author.Needs.{needs}
 use Rattle.lines.proofs.line.Statement.{statement}
 use Rattle.lines.proofs.line.Tie as tie
-use Rattle.lines.proofs.line.Reads as reads
-use Rattle.lines.proofs.line.Lts as lts
-use Rattle.lines.proofs.line_of.Reads as line-of-reads
-use Rattle.program.proofs.read.Reads as read-reads
 
--- src/lib.rt:193:9
 read-requires : tie.Need-read-requires
 read-requires c κs = search needs
 
--- src/lib.rt:196:62
 enum-told : tie.Need-enum-told
 enum-told c = search needs
 
--- src/lib.rt:196:34
 line-of-requires : tie.Need-line-of-requires
 line-of-requires c κs = accepted-stored (now (c .before .before .before .before .before .before .args .text)) (c .before .before .before .read .ensures) (c .before .enum-told .given .1)
 
--- src/lib.rt:197:30
 enum-known-v : tie.Need-enum-known-v
 enum-known-v c = search needs
 
--- src/lib.rt:190:1
 same-length : tie.Need-same-length
 same-length c = search needs
 
--- src/lib.rt:190:1
 returns : tie.Need-returns
 returns c = line-accepted (now (c .before .before .before .before .before .before .before .before .before .args .text)) (c .before .before .before .before .before .before .read .ensures) (c .before .before .before .before .before .before .before .before .before .args .j) (c .before .before .before .before .before .before .before .before .before .args .from) (now (c .before .before .before .before .before .before .before .before .before .args .buf)) (c .before .before .before .before .enum-told .given .1) (c .before .before .line-of .ensures)
 
--- src/lib.rt:190:1
 returns-2 : tie.Need-returns-2
 returns-2 c = line-refused (now (c .before .before .before .before .before .before .args .text)) (c .before .before .before .read .ensures) (c .before .before .before .before .before .before .args .j) (c .before .before .before .before .before .before .args .from) (now (c .before .before .before .before .before .before .args .buf)) (c .before .v .given .1)
 

@@ -6,57 +6,40 @@ use denote.Ref.{now}
 use borrow.Author.Needs.{needs}
 use Rattle.lines.proofs.line_in.Statement.{statement}
 use Rattle.lines.proofs.line_in.Tie as tie
-use Rattle.lines.proofs.line_in.Reads as reads
-use Rattle.lines.proofs.line_in.Lts as lts
-use Rattle.runs.proofs.line_length.Reads as line-length-reads
-use Rattle.finding.proofs.place_of.Reads as place-of-reads
-use Rattle.runs.proofs.put_line.Reads as put-line-reads
 
--- src/lib.rt:138:9
 returns : tie.Need-returns
 returns c = line-none (c .before .before .before .before .before .before .before .before .before .pre) (c .before .before .before .before .before .before .before .before .before .args .j) (c .before .before .before .before .before .before .before .before .before .args .from) (now (c .before .before .before .before .before .before .before .before .before .args .buf)) (c .if1 .taken)
 
--- src/lib.rt:140:9
 place-of-requires : tie.Need-place-of-requires
 place-of-requires c κs = search needs
 
--- src/lib.rt:141:9
 line-length-requires : tie.Need-line-length-requires
 line-length-requires c κs = (c .before .before .before .before .before .before .before .before .before .before .pre, own-number (c .before .before .before .before .before .before .before .before .before .before .pre) (c .place-of .ensures), placed-within (c .before .before .before .before .before .before .before .before .before .before .pre) (c .before .before .before .before .before .before .before .before .before .before .args .j) (c .place-of .ensures) (c .before .if1 .left))
 
--- src/lib.rt:143:9
 returns-2 : tie.Need-returns-2
 returns-2 c = line-past (c .before .before .before .before .before .before .before .before .before .before .before .before .pre) (c .before .before .before .before .before .before .before .before .before .before .before .before .args .j) (c .before .before .before .before .before .before .before .before .before .before .before .before .args .from) (now (c .before .before .before .before .before .before .before .before .before .before .before .before .args .buf)) (c .before .before .before .if1 .left) (need-is (c .before .before .before .before .before .before .before .before .before .before .before .before .pre) (c .before .before .before .before .before .before .before .before .before .before .before .before .args .j) (c .before .before .place-of .ensures) (c .before .line-length .ensures)) (c .if2 .taken)
 
--- src/lib.rt:145:8
 sub-if3 : tie.Need-sub-if3
 sub-if3 c = search needs
 
--- src/lib.rt:146:9
 returns-3 : tie.Need-returns-3
 returns-3 c = line-short (c .before .before .before .before .before .before .before .before .before .before .before .before .before .pre) (c .before .before .before .before .before .before .before .before .before .before .before .before .before .args .j) (c .before .before .before .before .before .before .before .before .before .before .before .before .before .args .from) (now (c .before .before .before .before .before .before .before .before .before .before .before .before .before .args .buf)) (c .before .before .before .before .if1 .left) (need-is (c .before .before .before .before .before .before .before .before .before .before .before .before .before .pre) (c .before .before .before .before .before .before .before .before .before .before .before .before .before .args .j) (c .before .before .before .place-of .ensures) (c .before .before .line-length .ensures)) (c .if3 .taken)
 
--- src/lib.rt:148:90
 sub-put-line : tie.Need-sub-put-line
 sub-put-line c = search needs
 
--- src/lib.rt:148:90
 part-put-line-start : tie.Need-part-put-line-start
 part-put-line-start c = search needs
 
--- src/lib.rt:148:90
 part-put-line-end : tie.Need-part-put-line-end
 part-put-line-end c = search needs
 
--- src/lib.rt:148:26
 put-line-requires : tie.Need-put-line-requires
 put-line-requires c κs = (c .before .before .before .before .before .before .before .before .before .before .before .before .before .before .pre, own-number (c .before .before .before .before .before .before .before .before .before .before .before .before .before .before .pre) (c .before .before .before .before .place-of .ensures), placed-within (c .before .before .before .before .before .before .before .before .before .before .before .before .before .before .pre) (c .before .before .before .before .before .before .before .before .before .before .before .before .before .before .args .j) (c .before .before .before .before .place-of .ensures) (c .before .before .before .before .before .if1 .left), placed-asks (c .before .before .before .before .before .before .before .before .before .before .before .before .before .before .pre) (c .before .before .before .before .before .before .before .before .before .before .before .before .before .before .args .j) (c .before .before .before .before .place-of .ensures) (line-asks (c .before .before .before .before .before .before .before .before .before .before .before .before .before .before .pre) (c .before .before .before .before .before .before .before .before .before .before .before .before .before .before .args .j) (c .before .before .before .before .before .before .before .before .before .before .before .before .before .before .args .from) (now (c .before .before .before .before .before .before .before .before .before .before .before .before .before .before .args .buf)) (c .before .before .before .before .before .if1 .left) (need-is (c .before .before .before .before .before .before .before .before .before .before .before .before .before .before .pre) (c .before .before .before .before .before .before .before .before .before .before .before .before .before .before .args .j) (c .before .before .before .before .place-of .ensures) (c .before .before .before .line-length .ensures)) (c .before .if3 .left)))
 
--- src/lib.rt:133:1
 same-length : tie.Need-same-length
 same-length c = search needs
 
--- src/lib.rt:133:1
 returns-4 : tie.Need-returns-4
 returns-4 c = line-written (c .before .before .before .before .before .before .before .before .before .before .before .before .before .before .before .before .before .pre) (c .before .before .before .before .before .before .before .before .before .before .before .before .before .before .before .before .before .args .j) (c .before .before .before .before .before .before .before .before .before .before .before .before .before .before .before .before .before .args .from) (now (c .before .before .before .before .before .before .before .before .before .before .before .before .before .before .before .before .before .args .buf)) (c .before .before .before .before .before .before .before .before .if1 .left) (need-is (c .before .before .before .before .before .before .before .before .before .before .before .before .before .before .before .before .before .pre) (c .before .before .before .before .before .before .before .before .before .before .before .before .before .before .before .before .before .args .j) (c .before .before .before .before .before .before .before .place-of .ensures) (c .before .before .before .before .before .before .line-length .ensures)) (c .before .before .before .before .if3 .left) (placed-put (c .before .before .before .before .before .before .before .before .before .before .before .before .before .before .before .before .before .pre) (c .before .before .before .before .before .before .before .before .before .before .before .before .before .before .before .before .before .args .j) (c .before .before .before .before .before .before .before .place-of .ensures) (take (length (now (c .before .before .before .before .before .before .before .before .before .before .before .before .before .before .before .before .before .args .buf)) - c .before .before .before .before .before .before .before .before .before .before .before .before .before .before .before .before .before .args .from) (drop (c .before .before .before .before .before .before .before .before .before .before .before .before .before .before .before .before .before .args .from) (now (c .before .before .before .before .before .before .before .before .before .before .before .before .before .before .before .before .before .args .buf)))) (c .before .before .put-line .ensures))
 

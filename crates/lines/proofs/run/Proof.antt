@@ -3,36 +3,25 @@ use denote.Ref.{now}
 use borrow.Author.Needs.{needs}
 use Rattle.lines.proofs.run.Statement.{statement}
 use Rattle.lines.proofs.run.Tie as tie
-use Rattle.lines.proofs.run.Reads as reads
-use Rattle.lines.proofs.run.Lts as lts
-use Rattle.lines.proofs.run_of.Reads as run-of-reads
-use Rattle.program.proofs.read.Reads as read-reads
 
--- src/lib.rt:206:9
 read-requires : tie.Need-read-requires
 read-requires c κs = search needs
 
--- src/lib.rt:209:55
 enum-told : tie.Need-enum-told
 enum-told c = search needs
 
--- src/lib.rt:209:34
 run-of-requires : tie.Need-run-of-requires
 run-of-requires c κs = accepted-stored (now (c .before .before .before .before .before .before .args .text)) (c .before .before .before .read .ensures) (c .before .enum-told .given .1)
 
--- src/lib.rt:210:30
 enum-known-v : tie.Need-enum-known-v
 enum-known-v c = search needs
 
--- src/lib.rt:203:1
 same-length : tie.Need-same-length
 same-length c = search needs
 
--- src/lib.rt:203:1
 returns : tie.Need-returns
 returns c = run-accepted (now (c .before .before .before .before .before .before .before .before .before .args .text)) (c .before .before .before .before .before .before .read .ensures) (c .before .before .before .before .before .before .before .before .before .args .j) (now (c .before .before .before .before .before .before .before .before .before .args .buf)) (c .before .before .before .before .enum-told .given .1) (c .before .before .run-of .ensures)
 
--- src/lib.rt:203:1
 returns-2 : tie.Need-returns-2
 returns-2 c = run-refused (now (c .before .before .before .before .before .before .args .text)) (c .before .before .before .read .ensures) (c .before .before .before .before .before .before .args .j) (now (c .before .before .before .before .before .before .args .buf)) (c .before .v .given .1)
 

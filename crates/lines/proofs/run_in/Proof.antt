@@ -7,41 +7,28 @@ use denote.Ref.{now}
 use borrow.Author.Needs.{needs}
 use Rattle.lines.proofs.run_in.Statement.{statement}
 use Rattle.lines.proofs.run_in.Tie as tie
-use Rattle.lines.proofs.run_in.Reads as reads
-use Rattle.lines.proofs.run_in.Lts as lts
-use Rattle.runs.proofs.line_length.Reads as line-length-reads
-use Rattle.finding.proofs.place_of.Reads as place-of-reads
-use Rattle.runs.proofs.put_lines.Reads as put-lines-reads
 
--- src/lib.rt:157:9
 returns : tie.Need-returns
 returns c = run-past (c .before .before .before .before .before .before .before .before .before .pre) (c .before .before .before .before .before .before .before .before .before .args .j) (now (c .before .before .before .before .before .before .before .before .before .args .buf)) (c .if1 .taken)
 
--- src/lib.rt:159:9
 place-of-requires : tie.Need-place-of-requires
 place-of-requires c κs = search needs
 
--- src/lib.rt:160:9
 put-lines-requires : tie.Need-put-lines-requires
 put-lines-requires c κs = (c .before .before .before .before .before .before .before .before .before .before .before .pre, own-number (c .before .before .before .before .before .before .before .before .before .before .before .pre) (c .before .place-of .ensures), omega (arith, placed-within (c .before .before .before .before .before .before .before .before .before .before .before .pre) (c .before .before .before .before .before .before .before .before .before .before .before .args .j) (c .before .place-of .ensures) (c .before .before .if1 .left)))
 
--- src/lib.rt:162:13
 line-length-requires : tie.Need-line-length-requires
 line-length-requires c κs = (c .before .before .before .before .before .before .before .before .before .before .before .before .before .before .before .before .pre, own-number (c .before .before .before .before .before .before .before .before .before .before .before .before .before .before .before .before .pre) (c .before .before .before .before .before .before .place-of .ensures), placed-within (c .before .before .before .before .before .before .before .before .before .before .before .before .before .before .before .before .pre) (c .before .before .before .before .before .before .before .before .before .before .before .before .before .before .before .before .args .j) (c .before .before .before .before .before .before .place-of .ensures) (c .before .before .before .before .before .before .before .if1 .left))
 
--- src/lib.rt:163:9
 same-length : tie.Need-same-length
 same-length c = search needs
 
--- src/lib.rt:163:9
 returns-2 : tie.Need-returns-2
 returns-2 c = (run-refused (c .before .before .before .before .before .before .before .before .before .before .before .before .before .before .before .before .before .pre) (c .before .before .before .before .before .before .before .before .before .before .before .before .before .before .before .before .before .args .j) (now (c .before .before .before .before .before .before .before .before .before .before .before .before .before .before .before .before .before .args .buf)) (c .before .before .before .before .before .before .before .before .if1 .left) (ap (λ (q : Part). q .lines) (placed-part (c .before .before .before .before .before .before .before .before .before .before .before .before .before .before .before .before .before .pre) (c .before .before .before .before .before .before .before .before .before .before .before .before .before .before .before .before .before .args .j) (c .before .before .before .before .before .before .before .place-of .ensures) (now (c .before .before .before .before .before .before .before .before .before .before .before .before .before .before .before .before .before .args .buf)) (c .before .before .before .before .before .put-lines .ensures) .0)) (c .before .if2 .taken) (need-is (c .before .before .before .before .before .before .before .before .before .before .before .before .before .before .before .before .before .pre) (c .before .before .before .before .before .before .before .before .before .before .before .before .before .before .before .before .before .args .j) (c .before .before .before .before .before .before .before .place-of .ensures) (c .line-length .ensures)), placed-part (c .before .before .before .before .before .before .before .before .before .before .before .before .before .before .before .before .before .pre) (c .before .before .before .before .before .before .before .before .before .before .before .before .before .before .before .before .before .args .j) (c .before .before .before .before .before .before .before .place-of .ensures) (now (c .before .before .before .before .before .before .before .before .before .before .before .before .before .before .before .before .before .args .buf)) (c .before .before .before .before .before .put-lines .ensures) .1)
 
--- src/lib.rt:152:1
 same-length-2 : tie.Need-same-length-2
 same-length-2 c = search needs
 
--- src/lib.rt:152:1
 returns-3 : tie.Need-returns-3
 returns-3 c = (run-written (c .before .before .before .before .before .before .before .before .before .before .before .before .before .before .before .before .pre) (c .before .before .before .before .before .before .before .before .before .before .before .before .before .before .before .before .args .j) (now (c .before .before .before .before .before .before .before .before .before .before .before .before .before .before .before .before .args .buf)) (c .before .before .before .before .before .before .before .if1 .left) (ap (λ (q : Part). q .lines) (placed-part (c .before .before .before .before .before .before .before .before .before .before .before .before .before .before .before .before .pre) (c .before .before .before .before .before .before .before .before .before .before .before .before .before .before .before .before .args .j) (c .before .before .before .before .before .before .place-of .ensures) (now (c .before .before .before .before .before .before .before .before .before .before .before .before .before .before .before .before .args .buf)) (c .before .before .before .before .put-lines .ensures) .0)) (ap (λ (q : Part). q .bytes) (placed-part (c .before .before .before .before .before .before .before .before .before .before .before .before .before .before .before .before .pre) (c .before .before .before .before .before .before .before .before .before .before .before .before .before .before .before .before .args .j) (c .before .before .before .before .before .before .place-of .ensures) (now (c .before .before .before .before .before .before .before .before .before .before .before .before .before .before .before .before .args .buf)) (c .before .before .before .before .put-lines .ensures) .0)) (c .if2 .left), placed-part (c .before .before .before .before .before .before .before .before .before .before .before .before .before .before .before .before .pre) (c .before .before .before .before .before .before .before .before .before .before .before .before .before .before .before .before .args .j) (c .before .before .before .before .before .before .place-of .ensures) (now (c .before .before .before .before .before .before .before .before .before .before .before .before .before .before .before .before .args .buf)) (c .before .before .before .before .put-lines .ensures) .1)
 

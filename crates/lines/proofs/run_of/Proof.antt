@@ -3,29 +3,19 @@ use denote.Ref.{now}
 use borrow.Author.Needs.{needs}
 use Rattle.lines.proofs.run_of.Statement.{statement}
 use Rattle.lines.proofs.run_of.Tie as tie
-use Rattle.lines.proofs.run_of.Reads as reads
-use Rattle.lines.proofs.run_of.Lts as lts
-use Rattle.lines.proofs.run_in.Reads as run-in-reads
-use Rattle.tabling.proofs.pairs_of.Reads as pairs-of-reads
-use Rattle.tabling.proofs.totals_of.Reads as totals-of-reads
 
--- src/lib.rt:183:13
 pairs-of-requires : tie.Need-pairs-of-requires
 pairs-of-requires c κs = search needs
 
--- src/lib.rt:184:9
 totals-of-requires : tie.Need-totals-of-requires
 totals-of-requires c κs = totals-asks (c .before .before .pre) (c .pairs-of .ensures)
 
--- src/lib.rt:185:5
 run-in-requires : tie.Need-run-in-requires
 run-in-requires c κs = ready-of (c .before .before .before .before .before .before .before .before .before .before .before .before .before .before .before .before .before .before .pre) (c .before .before .before .before .before .before .before .before .before .before .before .before .before .before .before .before .pairs-of .ensures) (c .before .before .before .before .before .before .before .before .before .before .before .before .before .before .before .totals-of .ensures)
 
--- src/lib.rt:179:1
 same-length : tie.Need-same-length
 same-length c = search needs
 
--- src/lib.rt:179:1
 returns : tie.Need-returns
 returns c = same-run (program-is (c .before .before .before .before .before .before .before .before .before .before .before .before .before .before .before .before .before .before .before .before .before .args .t1) (c .before .before .before .before .before .before .before .before .before .before .before .before .before .before .before .before .before .before .totals-of .ensures)) (c .before .before .before .before .before .before .before .before .before .before .before .before .before .before .before .before .before .before .before .before .before .args .j) (now (c .before .before .before .before .before .before .before .before .before .before .before .before .before .before .before .before .before .before .before .before .before .args .buf)) (c .before .before .run-in .ensures)
 

@@ -5,10 +5,7 @@ use lib.IntN.{ℤ, pos}
 use mathlib.Core.Path.{ap, _∙_}
 use Rattle.literals.proofs.is_negative.Statement.{statement}
 use Rattle.literals.proofs.is_negative.Tie as tie
-use Rattle.literals.proofs.is_negative.Reads as reads
-use Rattle.literals.proofs.is_negative.Lts as lts
 
--- src/lib.rt:38:1
 returns : tie.Need-returns
 returns c = ap (λ (y : ℤ). ltZ y (pos 0)) (toZ-ofZ (c .fits .x)) ∙ below-zero (c .args .x)
 

@@ -3,34 +3,25 @@ use native.Mathlib.Omega.{arith}
 use borrow.Author.Needs.{needs}
 use Rattle.literals.proofs.level_var.Statement.{statement}
 use Rattle.literals.proofs.level_var.Tie as tie
-use Rattle.literals.proofs.level_var.Reads as reads
-use Rattle.literals.proofs.level_var.Lts as lts
 
--- src/lib.rt:90:15
 mul-t4 : tie.Need-mul-t4
 mul-t4 c = search needs
 
--- src/lib.rt:90:9
 add-t5 : tie.Need-add-t5
 add-t5 c = search needs
 
--- src/lib.rt:90:26
 sub-t6 : tie.Need-sub-t6
 sub-t6 c = search needs
 
--- src/lib.rt:90:25
 mul-t7 : tie.Need-mul-t7
 mul-t7 c = omega (arith, atom-fits (c .before .before .before .before .args .s) (c .before .before .before .before .pre .0) (c .before .before .before .before .args .a .0) (c .before .before .before .before .pre .2))
 
--- src/lib.rt:90:9
 add-t8 : tie.Need-add-t8
 add-t8 c = omega (arith, c .before .before .before .before .pre .0 .atoms, c .before .before .before .before .pre .0 .rules, atom-fits (c .before .before .before .before .args .s) (c .before .before .before .before .pre .0) (c .before .before .before .before .args .a .0) (c .before .before .before .before .pre .2))
 
--- src/lib.rt:90:9
 add-t9 : tie.Need-add-t9
 add-t9 c = omega (arith, c .before .before .before .before .pre .0 .atoms, c .before .before .before .before .pre .0 .rules, c .before .before .before .before .pre .3, atom-fits (c .before .before .before .before .args .s) (c .before .before .before .before .pre .0) (c .before .before .before .before .args .a .0) (c .before .before .before .before .pre .2))
 
--- src/lib.rt:86:1
 returns : tie.Need-returns
 returns c = level-number (c .before .before .before .before .args .s) (c .before .before .before .before .args .a .0) (c .before .before .before .before .args .i)
 

@@ -3,14 +3,10 @@ use mir.Syntax.{w32}
 use borrow.Author.Needs.{needs}
 use Rattle.literals.proofs.literal.Statement.{statement}
 use Rattle.literals.proofs.literal.Tie as tie
-use Rattle.literals.proofs.literal.Reads as reads
-use Rattle.literals.proofs.literal.Lts as lts
 
--- src/lib.rt:19:5
 cast-result : tie.Need-cast-result
 cast-result c = search needs
 
--- src/lib.rt:16:1
 returns : tie.Need-returns
 returns c = toZ-pos w32 (search needs)
 

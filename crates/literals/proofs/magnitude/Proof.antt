@@ -10,29 +10,21 @@ use mathlib.Core.Path.{_≡_, _∙_, ap, sym, subst}
 use borrow.Author.Needs.{needs, sfits-of}
 use Rattle.literals.proofs.magnitude.Statement.{statement}
 use Rattle.literals.proofs.magnitude.Tie as tie
-use Rattle.literals.proofs.magnitude.Reads as reads
-use Rattle.literals.proofs.magnitude.Lts as lts
-use Rattle.literals.proofs.negate.Reads as negate-reads
 
--- src/lib.rt:50:16
 negate-requires : tie.Need-negate-requires
 negate-requires c κs = search needs
 
--- src/lib.rt:50:16
 cast-result : tie.Need-cast-result
 cast-result c = cast-negated (c .before .before .args .x) _ (toZ-ofZ (sfits-of {w = w32} (c .negate .ok)) ∙ c .negate .ensures ∙ ap negℤ (toZ-ofZ (c .before .before .fits .x)))
     (subst (λ (y : ℤ). ltZ y (pos 0) ≡ true) (toZ-ofZ (c .before .before .fits .x)) (c .before .if1 .taken)) (c .before .before .pre)
 
--- src/lib.rt:50:9
 returns : tie.Need-returns
 returns c = ap natAbs (toZ-ofZ (sfits-of {w = w32} (c .negate .ok)) ∙ c .negate .ensures ∙ ap negℤ (toZ-ofZ (c .before .before .fits .x))) ∙ abs-negated (c .before .before .args .x)
 
--- src/lib.rt:52:5
 cast-result-2 : tie.Need-cast-result-2
 cast-result-2 c = subst (λ (y : ℤ). T (nonNeg y) × Fits w32 (natAbs y)) (sym (toZ-ofZ (c .before .fits .x)))
     (cast-same (c .before .args .x) (subst (λ (y : ℤ). ltZ y (pos 0) ≡ false) (toZ-ofZ (c .before .fits .x)) (c .if1 .left)) (c .before .pre))
 
--- src/lib.rt:45:1
 returns-2 : tie.Need-returns-2
 returns-2 c = search needs
 

@@ -3,14 +3,10 @@ use mir.Facts.{toZ-ofZ}
 use mathlib.Core.Path.{_∙_}
 use Rattle.literals.proofs.negate.Statement.{statement}
 use Rattle.literals.proofs.negate.Tie as tie
-use Rattle.literals.proofs.negate.Reads as reads
-use Rattle.literals.proofs.negate.Lts as lts
 
--- src/lib.rt:27:5
 sub-result : tie.Need-sub-result
 sub-result c = minus-fits (c .args .x) _ (toZ-ofZ (c .fits .x)) (c .pre)
 
--- src/lib.rt:23:1
 returns : tie.Need-returns
 returns c = toZ-ofZ (minus-fits (c .args .x) _ (toZ-ofZ (c .fits .x)) (c .pre)) ∙ zero-minus (c .args .x) _ (toZ-ofZ (c .fits .x))
 

@@ -6,20 +6,13 @@ use mathlib.Core.Path.{_∙_, ap, sym, subst}
 use borrow.Author.Needs.{needs, sfits-of}
 use Rattle.literals.proofs.negated.Statement.{statement}
 use Rattle.literals.proofs.negated.Tie as tie
-use Rattle.literals.proofs.negated.Reads as reads
-use Rattle.literals.proofs.negated.Lts as lts
-use Rattle.literals.proofs.literal.Reads as literal-reads
-use Rattle.literals.proofs.negate.Reads as negate-reads
 
--- src/lib.rt:34:12
 literal-requires : tie.Need-literal-requires
 literal-requires c κs = search needs
 
--- src/lib.rt:34:5
 negate-requires : tie.Need-negate-requires
 negate-requires c κs = subst (λ (x : ℤ). natAbs x < 2 ^ 31) (sym (toZ-ofZ (sfits-of {w = w32} (c .literal .ok)) ∙ c .literal .ensures)) (search needs)
 
--- src/lib.rt:31:1
 returns : tie.Need-returns
 returns c = toZ-ofZ (sfits-of {w = w32} (c .negate .ok)) ∙ c .negate .ensures ∙ ap negℤ (toZ-ofZ (sfits-of {w = w32} (c .before .literal .ok)) ∙ c .before .literal .ensures)
 

@@ -3,19 +3,13 @@ use native.Mathlib.Omega.{arith}
 use borrow.Author.Needs.{needs}
 use Rattle.literals.proofs.next_below_var.Statement.{statement}
 use Rattle.literals.proofs.next_below_var.Tie as tie
-use Rattle.literals.proofs.next_below_var.Reads as reads
-use Rattle.literals.proofs.next_below_var.Lts as lts
-use Rattle.literals.proofs.below_var.Reads as below-var-reads
 
--- src/lib.rt:115:9
 below-var-requires : tie.Need-below-var-requires
 below-var-requires c κs = search needs
 
--- src/lib.rt:116:9
 add-t6 : tie.Need-add-t6
 add-t6 c = omega (arith, c .before .before .pre .0 .bits, c .before .below-var .ensures, below-fits (c .before .before .args .s) (c .before .before .pre .0) (c .before .before .args .k) (c .before .before .args .i) (c .before .before .pre .2) (c .before .before .pre .3))
 
--- src/lib.rt:110:1
 returns : tie.Need-returns
 returns c = search needs
 

@@ -5,22 +5,16 @@ use native.Mathlib.Omega.{arith}
 use borrow.Author.Needs.{needs}
 use Rattle.models.proofs.level_of.Statement.{statement}
 use Rattle.models.proofs.level_of.Tie as tie
-use Rattle.models.proofs.level_of.Reads as reads
-use Rattle.models.proofs.level_of.Lts as lts
 
--- src/lib.rt:55:12
 sub-result : tie.Need-sub-result
 sub-result c = search needs
 
--- src/lib.rt:55:5
 shared-slice-read-result : tie.Need-shared-slice-read-result
 shared-slice-read-result c = search needs
 
--- src/lib.rt:55:5
 cast-result : tie.Need-cast-result
 cast-result c = omega (arith, c .shared-slice-known .given (c .before .args .a - 1))
 
--- src/lib.rt:51:1
 returns : tie.Need-returns
 returns c = level-is (now (c .before .args .levels)) (c .before .args .a)
 

@@ -8,89 +8,70 @@ use Rattle.models.proofs.Assumed.{none-put, some-put, some-whole, some-
 use borrow.Author.Needs.{needs}
 use Rattle.models.proofs.put_assumed.Statement.{statement}
 use Rattle.models.proofs.put_assumed.Tie as tie
-use Rattle.models.proofs.put_assumed.Reads as reads
-use Rattle.models.proofs.put_assumed.Lts as lts
-use Rattle.digits.proofs.put_decimal.Reads as put-decimal-reads
-use Rattle.printing.proofs.put_word.Reads as put-word-reads
 
--- src/lib.rt:93:9
 returns : tie.Need-returns
 returns c = none-put (c .before .before .args .count) (c .if1 .taken) (now (c .before .before .args .buf))
 
--- src/lib.rt:95:27
 slice-aggregate-put-word : tie.Need-slice-aggregate-put-word
 slice-aggregate-put-word c = search needs
 
--- src/lib.rt:95:9
 put-word-requires : tie.Need-put-word-requires
 unfolding ascii
 put-word-requires c κs = some-word (c .before .before .before .before .args .count) (c .before .before .if1 .left) (c .before .before .before .before .pre)
 
--- src/lib.rt:96:30
 sub-put-decimal : tie.Need-sub-put-decimal
 unfolding ascii
 sub-put-decimal c = let p1 = begins-word (ascii "(assumed ") (c .before .before .put-word .kept .1 .0) (c .before .before .put-word .ensures) in
     begins-room p1 (decimal (c .before .before .before .before .before .before .before .args .count)) (some-number (c .before .before .before .before .before .before .before .args .count) (c .before .before .before .before .before .if1 .left) (c .before .before .before .before .before .before .before .pre))
 
--- src/lib.rt:96:30
 part-put-decimal-start : tie.Need-part-put-decimal-start
 unfolding ascii
 part-put-decimal-start c = let p1 = begins-word (ascii "(assumed ") (c .before .before .put-word .kept .1 .0) (c .before .before .put-word .ensures) in
     begins-room p1 (decimal (c .before .before .before .before .before .before .before .args .count)) (some-number (c .before .before .before .before .before .before .before .args .count) (c .before .before .before .before .before .if1 .left) (c .before .before .before .before .before .before .before .pre))
 
--- src/lib.rt:96:30
 part-put-decimal-end : tie.Need-part-put-decimal-end
 part-put-decimal-end c = search needs
 
--- src/lib.rt:96:11
 put-decimal-requires : tie.Need-put-decimal-requires
 unfolding ascii
 put-decimal-requires c κs = let p1 = begins-word (ascii "(assumed ") (c .before .before .before .put-word .kept .1 .0) (c .before .before .before .put-word .ensures) in
     begins-tail p1 (decimal (c .before .before .before .before .before .before .before .before .args .count)) (some-number (c .before .before .before .before .before .before .before .before .args .count) (c .before .before .before .before .before .before .if1 .left) (c .before .before .before .before .before .before .before .before .pre))
 
--- src/lib.rt:96:5
 add-to : tie.Need-add-to
 unfolding ascii
 add-to c = let p1 = begins-word (ascii "(assumed ") (c .before .before .before .before .before .before .put-word .kept .1 .0) (c .before .before .before .before .before .before .put-word .ensures) in
     omega (arith, begins-sum p1 (decimal (c .before .before .before .before .before .before .before .before .before .before .before .args .count)) (c .before .before .put-decimal .ensures .0) (some-number (c .before .before .before .before .before .before .before .before .before .before .before .args .count) (c .before .before .before .before .before .before .before .before .before .if1 .left) (assumed-small (c .before .before .before .before .before .before .before .before .before .before .before .args .count) (c .before .before .before .before .before .before .before .before .before .before .before .fits .count .fits))))
 
--- src/lib.rt:97:20
 slice-aggregate-put-word-2 : tie.Need-slice-aggregate-put-word-2
 slice-aggregate-put-word-2 c = search needs
 
--- src/lib.rt:97:28
 sub-put-word : tie.Need-sub-put-word
 unfolding ascii
 sub-put-word c = let p1 = begins-word (ascii "(assumed ") (c .before .before .before .before .before .before .before .put-word .kept .1 .0) (c .before .before .before .before .before .before .before .put-word .ensures) in
     let p2 = begins-more p1 (decimal (c .before .before .before .before .before .before .before .before .before .before .before .before .args .count)) (c .before .before .before .put-decimal .kept .1 .0) (c .before .before .before .put-decimal .ensures) in
     begins-room p2 (ascii ")\n") (some-whole (c .before .before .before .before .before .before .before .before .before .before .before .before .args .count) (c .before .before .before .before .before .before .before .before .before .before .if1 .left) (c .before .before .before .before .before .before .before .before .before .before .before .before .pre))
 
--- src/lib.rt:97:28
 part-put-word-start : tie.Need-part-put-word-start
 unfolding ascii
 part-put-word-start c = let p1 = begins-word (ascii "(assumed ") (c .before .before .before .before .before .before .before .put-word .kept .1 .0) (c .before .before .before .before .before .before .before .put-word .ensures) in
     let p2 = begins-more p1 (decimal (c .before .before .before .before .before .before .before .before .before .before .before .before .args .count)) (c .before .before .before .put-decimal .kept .1 .0) (c .before .before .before .put-decimal .ensures) in
     begins-room p2 (ascii ")\n") (some-whole (c .before .before .before .before .before .before .before .before .before .before .before .before .args .count) (c .before .before .before .before .before .before .before .before .before .before .if1 .left) (c .before .before .before .before .before .before .before .before .before .before .before .before .pre))
 
--- src/lib.rt:97:28
 part-put-word-end : tie.Need-part-put-word-end
 part-put-word-end c = search needs
 
--- src/lib.rt:97:11
 put-word-requires-2 : tie.Need-put-word-requires-2
 unfolding ascii
 put-word-requires-2 c κs = let p1 = begins-word (ascii "(assumed ") (c .before .before .before .before .before .before .before .before .put-word .kept .1 .0) (c .before .before .before .before .before .before .before .before .put-word .ensures) in
     let p2 = begins-more p1 (decimal (c .before .before .before .before .before .before .before .before .before .before .before .before .before .args .count)) (c .before .before .before .before .put-decimal .kept .1 .0) (c .before .before .before .before .put-decimal .ensures) in
     begins-tail p2 (ascii ")\n") (some-whole (c .before .before .before .before .before .before .before .before .before .before .before .before .before .args .count) (c .before .before .before .before .before .before .before .before .before .before .before .if1 .left) (c .before .before .before .before .before .before .before .before .before .before .before .before .before .pre))
 
--- src/lib.rt:97:5
 add-to-2 : tie.Need-add-to-2
 unfolding ascii
 add-to-2 c = let p1 = begins-word (ascii "(assumed ") (c .before .before .before .before .before .before .before .before .before .before .before .put-word .kept .1 .0) (c .before .before .before .before .before .before .before .before .before .before .before .put-word .ensures) in
     let p2 = begins-more p1 (decimal (c .before .before .before .before .before .before .before .before .before .before .before .before .before .before .before .before .args .count)) (c .before .before .before .before .before .before .before .put-decimal .kept .1 .0) (c .before .before .before .before .before .before .before .put-decimal .ensures) in
     omega (arith, begins-sum p2 (ascii ")\n") (c .before .before .put-word2 .ensures .0) (some-whole (c .before .before .before .before .before .before .before .before .before .before .before .before .before .before .before .before .args .count) (c .before .before .before .before .before .before .before .before .before .before .before .before .before .before .if1 .left) (assumed-small (c .before .before .before .before .before .before .before .before .before .before .before .before .before .before .before .before .args .count) (c .before .before .before .before .before .before .before .before .before .before .before .before .before .before .before .before .fits .count .fits))))
 
--- src/lib.rt:88:1
 same-length : tie.Need-same-length
 unfolding ascii
 same-length c = let p1 = begins-word (ascii "(assumed ") (c .before .before .before .before .before .before .before .before .before .before .before .put-word .kept .1 .0) (c .before .before .before .before .before .before .before .before .before .before .before .put-word .ensures) in
@@ -98,7 +79,6 @@ same-length c = let p1 = begins-word (ascii "(assumed ") (c .before .before .bef
     let p3 = begins-more p2 (ascii ")\n") (c .before .before .put-word2 .kept .1 .0) (c .before .before .put-word2 .ensures) in
     p3 .same
 
--- src/lib.rt:88:1
 returns-2 : tie.Need-returns-2
 unfolding ascii
 returns-2 c = let p1 = begins-word (ascii "(assumed ") (c .before .before .before .before .before .before .before .before .before .before .before .put-word .kept .1 .0) (c .before .before .before .before .before .before .before .before .before .before .before .put-word .ensures) in

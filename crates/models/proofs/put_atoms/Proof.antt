@@ -9,10 +9,6 @@ use Prim.Native.Nat.{ℕ, _+_, _-_, _≤_}
 use native.Mathlib.Omega.{arith}
 use Rattle.models.proofs.put_atoms.Statement.{statement}
 use Rattle.models.proofs.put_atoms.Tie as tie
-use Rattle.models.proofs.put_atoms.Reads as reads
-use Rattle.models.proofs.put_atoms.Lts as lts
-use Rattle.models.proofs.put_shown.Reads as put-shown-reads
-use Rattle.row_truth.proofs.value_of.Reads as value-of-reads
 
 abbrev Inv-loop : tie.InvT-loop
 Inv-loop n assignment buf₀ a₀ to₀ buf a to = (a ≤ n) × Begins buf₀ buf (numbersText (listed (valueIn assignment) (λ (a : ℕ). a) a)) to
@@ -20,59 +16,45 @@ Inv-loop n assignment buf₀ a₀ to₀ buf a to = (a ≤ n) × Begins buf₀ bu
 abbrev μ-loop : tie.MeasureT-loop
 μ-loop n assignment buf₀ a₀ to₀ buf a to = n - a
 
--- src/lib.rt:42:5
 loop-holds : tie.Need-loop-holds Inv-loop μ-loop
 loop-holds c = (omega arith, begins-none (now (c .before .before .args .buf)))
 
--- src/lib.rt:43:42
 add-value-of : tie.Need-add-value-of Inv-loop μ-loop
 add-value-of c = search needs
 
--- src/lib.rt:43:13
 value-of-requires : tie.Need-value-of-requires Inv-loop μ-loop
 value-of-requires c κs = (omega arith, omega (arith, c .before .before .before .before .pre .0, c .loop-test .taken))
 
--- src/lib.rt:44:36
 add-put-shown : tie.Need-add-put-shown Inv-loop μ-loop
 add-put-shown c = search needs
 
--- src/lib.rt:44:43
 sub-put-shown : tie.Need-sub-put-shown Inv-loop μ-loop
 sub-put-shown c = begins-room (c .before .before .loop .inv .1) (shownText (c .value-of .result) (c .before .before .loop .to) (c .before .before .loop .a + 1)) (listed-fits (valueIn (now (c .before .before .before .before .before .args .assignment))) (λ (a : ℕ). a) (c .before .before .loop .a) (c .before .before .loop .inv .1 .place) (c .value-of .ensures) refl (c .before .loop-test .taken) (c .before .before .before .before .before .pre .1))
 
--- src/lib.rt:44:43
 part-put-shown-start : tie.Need-part-put-shown-start Inv-loop μ-loop
 part-put-shown-start c = begins-room (c .before .before .loop .inv .1) (shownText (c .value-of .result) (c .before .before .loop .to) (c .before .before .loop .a + 1)) (listed-fits (valueIn (now (c .before .before .before .before .before .args .assignment))) (λ (a : ℕ). a) (c .before .before .loop .a) (c .before .before .loop .inv .1 .place) (c .value-of .ensures) refl (c .before .loop-test .taken) (c .before .before .before .before .before .pre .1))
 
--- src/lib.rt:44:43
 part-put-shown-end : tie.Need-part-put-shown-end Inv-loop μ-loop
 part-put-shown-end c = search needs
 
--- src/lib.rt:44:15
 put-shown-requires : tie.Need-put-shown-requires Inv-loop μ-loop
 put-shown-requires c κs = begins-tail (c .before .before .before .loop .inv .1) (shownText (c .before .value-of .result) (c .before .before .before .loop .to) (c .before .before .before .loop .a + 1)) (listed-fits (valueIn (now (c .before .before .before .before .before .before .args .assignment))) (λ (a : ℕ). a) (c .before .before .before .loop .a) (c .before .before .before .loop .inv .1 .place) (c .before .value-of .ensures) refl (c .before .before .loop-test .taken) (c .before .before .before .before .before .before .pre .1))
 
--- src/lib.rt:44:9
 add-to : tie.Need-add-to Inv-loop μ-loop
 add-to c = omega (arith, begins-sum (c .before .before .before .before .before .before .loop .inv .1) (shownText (c .before .before .before .before .value-of .result) (c .before .before .before .before .before .before .loop .to) (c .before .before .before .before .before .before .loop .a + 1)) (c .before .before .put-shown .ensures .0) (listed-fits (valueIn (now (c .before .before .before .before .before .before .before .before .before .args .assignment))) (λ (a : ℕ). a) (c .before .before .before .before .before .before .loop .a) (c .before .before .before .before .before .before .loop .inv .1 .place) (c .before .before .before .before .value-of .ensures) refl (c .before .before .before .before .before .loop-test .taken) (c .before .before .before .before .before .before .before .before .before .pre .1)), c .before .before .before .before .before .before .before .before .before .good .1 .1 .0 .0)
 
--- src/lib.rt:45:9
 add-a : tie.Need-add-a Inv-loop μ-loop
 add-a c = search needs
 
--- src/lib.rt:42:5
 loop-less : tie.Need-loop-less Inv-loop μ-loop
 loop-less c = search needs
 
--- src/lib.rt:42:5
 loop-again : tie.Need-loop-again Inv-loop μ-loop
 loop-again c = (omega (arith, c .before .before .before .before .before .loop-test .taken), listed-next (valueIn (now (c .before .before .before .before .before .before .before .before .before .args .assignment))) (λ (a : ℕ). a) (c .before .before .before .before .before .before .loop .a) (c .before .before .before .before .before .before .loop .inv .1 .place) (c .before .before .before .before .value-of .ensures) refl (begins-more (c .before .before .before .before .before .before .loop .inv .1) (shownText (c .before .before .before .before .value-of .result) (c .before .before .before .before .before .before .loop .to) (c .before .before .before .before .before .before .loop .a + 1)) (c .before .before .put-shown .kept .1 .1 .1 .0) (c .before .before .put-shown .ensures)))
 
--- src/lib.rt:36:1
 same-length : tie.Need-same-length Inv-loop μ-loop
 same-length c = c .before .loop .inv .1 .same
 
--- src/lib.rt:36:1
 returns : tie.Need-returns Inv-loop μ-loop
 returns c = listed-all (valueIn (now (c .before .before .before .before .args .assignment))) (λ (a : ℕ). a) (now (c .before .before .before .before .args .buf)) (c .before .loop .inv .0) (c .loop-test .left) (c .before .loop .inv .1)
 

@@ -13,11 +13,6 @@ use Prim.Native.Nat.{ℕ, _-_, _≤_}
 use native.Mathlib.Omega.{arith}
 use Rattle.models.proofs.put_levels.Statement.{statement}
 use Rattle.models.proofs.put_levels.Tie as tie
-use Rattle.models.proofs.put_levels.Reads as reads
-use Rattle.models.proofs.put_levels.Lts as lts
-use Rattle.models.proofs.level_of.Reads as level-of-reads
-use Rattle.models.proofs.put_shown.Reads as put-shown-reads
-use Rattle.row_truth.proofs.value_of.Reads as value-of-reads
 
 abbrev Inv-loop : tie.InvT-loop
 Inv-loop n assignment levels buf₀ a₀ to₀ buf a to = (a ≤ n) × Begins buf₀ buf (numbersText (listed (valueIn assignment) (levelIn levels) a)) to
@@ -25,63 +20,48 @@ Inv-loop n assignment levels buf₀ a₀ to₀ buf a to = (a ≤ n) × Begins bu
 abbrev μ-loop : tie.MeasureT-loop
 μ-loop n assignment levels buf₀ a₀ to₀ buf a to = n - a
 
--- src/lib.rt:65:5
 loop-holds : tie.Need-loop-holds Inv-loop μ-loop
 loop-holds c = (omega arith, begins-none (now (c .before .before .before .args .buf)))
 
--- src/lib.rt:66:42
 add-value-of : tie.Need-add-value-of Inv-loop μ-loop
 add-value-of c = search needs
 
--- src/lib.rt:66:13
 value-of-requires : tie.Need-value-of-requires Inv-loop μ-loop
 value-of-requires c κs = (omega arith, omega (arith, c .before .before .before .before .before .pre .0, c .loop-test .taken))
 
--- src/lib.rt:67:34
 add-level-of : tie.Need-add-level-of Inv-loop μ-loop
 add-level-of c = search needs
 
--- src/lib.rt:67:13
 level-of-requires : tie.Need-level-of-requires Inv-loop μ-loop
 level-of-requires c κs = (omega arith, omega (arith, c .before .before .before .before .before .before .pre .1, c .before .loop-test .taken))
 
--- src/lib.rt:68:39
 sub-put-shown : tie.Need-sub-put-shown Inv-loop μ-loop
 sub-put-shown c = begins-room (c .before .before .before .loop .inv .1) (shownText (c .before .value-of .result) (c .before .before .before .loop .to) (c .level-of .result)) (listed-fits (valueIn (now (c .before .before .before .before .before .before .before .args .assignment))) (levelIn (now (c .before .before .before .before .before .before .before .args .levels))) (c .before .before .before .loop .a) (c .before .before .before .loop .inv .1 .place) (c .before .value-of .ensures) (c .level-of .ensures) (c .before .before .loop-test .taken) (subst (λ (xs : List ℕ). length (numbersText xs) ≤ length (now (c .before .before .before .before .before .before .before .args .buf))) (map-select (levelIn (now (c .before .before .before .before .before .before .before .args .levels))) (c .before .before .before .before .before .before .before .args .n) (valueIn (now (c .before .before .before .before .before .before .before .args .assignment)))) (c .before .before .before .before .before .before .before .pre .2)))
 
--- src/lib.rt:68:39
 part-put-shown-start : tie.Need-part-put-shown-start Inv-loop μ-loop
 part-put-shown-start c = begins-room (c .before .before .before .loop .inv .1) (shownText (c .before .value-of .result) (c .before .before .before .loop .to) (c .level-of .result)) (listed-fits (valueIn (now (c .before .before .before .before .before .before .before .args .assignment))) (levelIn (now (c .before .before .before .before .before .before .before .args .levels))) (c .before .before .before .loop .a) (c .before .before .before .loop .inv .1 .place) (c .before .value-of .ensures) (c .level-of .ensures) (c .before .before .loop-test .taken) (subst (λ (xs : List ℕ). length (numbersText xs) ≤ length (now (c .before .before .before .before .before .before .before .args .buf))) (map-select (levelIn (now (c .before .before .before .before .before .before .before .args .levels))) (c .before .before .before .before .before .before .before .args .n) (valueIn (now (c .before .before .before .before .before .before .before .args .assignment)))) (c .before .before .before .before .before .before .before .pre .2)))
 
--- src/lib.rt:68:39
 part-put-shown-end : tie.Need-part-put-shown-end Inv-loop μ-loop
 part-put-shown-end c = search needs
 
--- src/lib.rt:68:15
 put-shown-requires : tie.Need-put-shown-requires Inv-loop μ-loop
 put-shown-requires c κs = begins-tail (c .before .before .before .before .loop .inv .1) (shownText (c .before .before .value-of .result) (c .before .before .before .before .loop .to) (c .before .level-of .result)) (listed-fits (valueIn (now (c .before .before .before .before .before .before .before .before .args .assignment))) (levelIn (now (c .before .before .before .before .before .before .before .before .args .levels))) (c .before .before .before .before .loop .a) (c .before .before .before .before .loop .inv .1 .place) (c .before .before .value-of .ensures) (c .before .level-of .ensures) (c .before .before .before .loop-test .taken) (subst (λ (xs : List ℕ). length (numbersText xs) ≤ length (now (c .before .before .before .before .before .before .before .before .args .buf))) (map-select (levelIn (now (c .before .before .before .before .before .before .before .before .args .levels))) (c .before .before .before .before .before .before .before .before .args .n) (valueIn (now (c .before .before .before .before .before .before .before .before .args .assignment)))) (c .before .before .before .before .before .before .before .before .pre .2)))
 
--- src/lib.rt:68:9
 add-to : tie.Need-add-to Inv-loop μ-loop
 add-to c = omega (arith, begins-sum (c .before .before .before .before .before .before .before .loop .inv .1) (shownText (c .before .before .before .before .before .value-of .result) (c .before .before .before .before .before .before .before .loop .to) (c .before .before .before .before .level-of .result)) (c .before .before .put-shown .ensures .0) (listed-fits (valueIn (now (c .before .before .before .before .before .before .before .before .before .before .before .args .assignment))) (levelIn (now (c .before .before .before .before .before .before .before .before .before .before .before .args .levels))) (c .before .before .before .before .before .before .before .loop .a) (c .before .before .before .before .before .before .before .loop .inv .1 .place) (c .before .before .before .before .before .value-of .ensures) (c .before .before .before .before .level-of .ensures) (c .before .before .before .before .before .before .loop-test .taken) (subst (λ (xs : List ℕ). length (numbersText xs) ≤ length (now (c .before .before .before .before .before .before .before .before .before .before .before .args .buf))) (map-select (levelIn (now (c .before .before .before .before .before .before .before .before .before .before .before .args .levels))) (c .before .before .before .before .before .before .before .before .before .before .before .args .n) (valueIn (now (c .before .before .before .before .before .before .before .before .before .before .before .args .assignment)))) (c .before .before .before .before .before .before .before .before .before .before .before .pre .2))), c .before .before .before .before .before .before .before .before .before .before .before .good .1 .1 .1 .0 .0)
 
--- src/lib.rt:69:9
 add-a : tie.Need-add-a Inv-loop μ-loop
 add-a c = search needs
 
--- src/lib.rt:65:5
 loop-less : tie.Need-loop-less Inv-loop μ-loop
 loop-less c = search needs
 
--- src/lib.rt:65:5
 loop-again : tie.Need-loop-again Inv-loop μ-loop
 loop-again c = (omega (arith, c .before .before .before .before .before .before .loop-test .taken), listed-next (valueIn (now (c .before .before .before .before .before .before .before .before .before .before .before .args .assignment))) (levelIn (now (c .before .before .before .before .before .before .before .before .before .before .before .args .levels))) (c .before .before .before .before .before .before .before .loop .a) (c .before .before .before .before .before .before .before .loop .inv .1 .place) (c .before .before .before .before .before .value-of .ensures) (c .before .before .before .before .level-of .ensures) (begins-more (c .before .before .before .before .before .before .before .loop .inv .1) (shownText (c .before .before .before .before .before .value-of .result) (c .before .before .before .before .before .before .before .loop .to) (c .before .before .before .before .level-of .result)) (c .before .before .put-shown .kept .1 .1 .1 .0) (c .before .before .put-shown .ensures)))
 
--- src/lib.rt:59:1
 same-length : tie.Need-same-length Inv-loop μ-loop
 same-length c = c .before .loop .inv .1 .same
 
--- src/lib.rt:59:1
 returns : tie.Need-returns Inv-loop μ-loop
 returns c = listed-levels (now (c .before .before .before .before .before .args .levels)) (now (c .before .before .before .before .before .args .assignment)) (now (c .before .before .before .before .before .args .buf)) (c .before .loop .inv .0) (c .loop-test .left) (c .before .loop .inv .1)
 

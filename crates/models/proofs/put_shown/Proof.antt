@@ -3,23 +3,16 @@ use denote.Ref.{now}
 use borrow.Author.Needs.{needs}
 use Rattle.models.proofs.put_shown.Statement.{statement}
 use Rattle.models.proofs.put_shown.Tie as tie
-use Rattle.models.proofs.put_shown.Reads as reads
-use Rattle.models.proofs.put_shown.Lts as lts
-use Rattle.models.proofs.put_next.Reads as put-next-reads
 
--- src/lib.rt:30:9
 put-next-requires : tie.Need-put-next-requires
 put-next-requires c κs = shown-asks (c .before .before .before .args .before) (c .before .before .before .args .x) (now (c .before .before .before .args .buf)) (c .before .if1 .taken) (c .before .before .before .pre)
 
--- src/lib.rt:30:9
 same-length : tie.Need-same-length
 same-length c = search needs
 
--- src/lib.rt:30:9
 returns : tie.Need-returns
 returns c = shown-put (c .before .before .before .before .before .before .args .before) (c .before .before .before .before .before .before .args .x) (now (c .before .before .before .before .before .before .args .buf)) (c .before .before .before .before .if1 .taken) (c .before .before .put-next .ensures)
 
--- src/lib.rt:25:1
 returns-2 : tie.Need-returns-2
 returns-2 c = hidden-put (c .before .before .args .before) (c .before .before .args .x) (now (c .before .before .args .buf)) (c .if1 .left)
 

@@ -6,45 +6,33 @@ use Rattle.models.proofs.Assumed.{assumed-small, shown-small, model-roo
 use borrow.Author.Needs.{needs}
 use Rattle.models.proofs.put_shown_model.Statement.{statement}
 use Rattle.models.proofs.put_shown_model.Tie as tie
-use Rattle.models.proofs.put_shown_model.Reads as reads
-use Rattle.models.proofs.put_shown_model.Lts as lts
-use Rattle.models.proofs.put_assumed.Reads as put-assumed-reads
-use Rattle.models.proofs.put_model.Reads as put-model-reads
 
--- src/lib.rt:112:9
 put-assumed-requires : tie.Need-put-assumed-requires
 put-assumed-requires c κs = omega (arith, assumed-small (c .before .before .before .before .args .assumed) (c .before .before .before .before .fits .assumed .fits), c .before .before .before .before .pre .3)
 
--- src/lib.rt:113:44
 sub-put-model : tie.Need-sub-put-model
 sub-put-model c = let p1 = begins-word (assumedText (c .before .before .before .before .before .before .before .args .assumed)) (c .before .before .put-assumed .kept .1 .0) (c .before .before .put-assumed .ensures) in
     model-room (c .before .before .before .before .before .before .before .fits .assumed .fits) (c .before .before .before .before .before .before .before .pre .3) p1 .0
 
--- src/lib.rt:113:44
 part-put-model-start : tie.Need-part-put-model-start
 part-put-model-start c = let p1 = begins-word (assumedText (c .before .before .before .before .before .before .before .args .assumed)) (c .before .before .put-assumed .kept .1 .0) (c .before .before .put-assumed .ensures) in
     model-room (c .before .before .before .before .before .before .before .fits .assumed .fits) (c .before .before .before .before .before .before .before .pre .3) p1 .0
 
--- src/lib.rt:113:44
 part-put-model-end : tie.Need-part-put-model-end
 part-put-model-end c = search needs
 
--- src/lib.rt:113:11
 put-model-requires : tie.Need-put-model-requires
 put-model-requires c κs = let p1 = begins-word (assumedText (c .before .before .before .before .before .before .before .before .args .assumed)) (c .before .before .before .put-assumed .kept .1 .0) (c .before .before .before .put-assumed .ensures) in
     (c .before .before .before .before .before .before .before .before .pre .0, c .before .before .before .before .before .before .before .before .pre .1, c .before .before .before .before .before .before .before .before .pre .2, model-room (c .before .before .before .before .before .before .before .before .fits .assumed .fits) (c .before .before .before .before .before .before .before .before .pre .3) p1 .1)
 
--- src/lib.rt:113:5
 add-to : tie.Need-add-to
 add-to c = let p1 = begins-word (assumedText (c .before .before .before .before .before .before .before .before .before .before .before .args .assumed)) (c .before .before .before .before .before .before .put-assumed .kept .1 .0) (c .before .before .before .before .before .before .put-assumed .ensures) in
     let whole = shown-small (c .before .before .before .before .before .before .before .before .before .before .before .args .n) (c .before .before .before .before .before .before .before .before .before .before .before .args .assumed) (now (c .before .before .before .before .before .before .before .before .before .before .before .args .assignment)) (now (c .before .before .before .before .before .before .before .before .before .before .before .args .levels)) (c .before .before .before .before .before .before .before .before .before .before .before .pre .0) (λ i. c .before .before .before .before .before .before .before .before .before .shared-slice-known2 .given i .fits) (c .before .before .before .before .before .before .before .before .before .before .before .fits .assumed .fits) in
     omega (arith, begins-sum p1 (modelText (c .before .before .before .before .before .before .before .before .before .before .before .args .n) (now (c .before .before .before .before .before .before .before .before .before .before .before .args .assignment)) (now (c .before .before .before .before .before .before .before .before .before .before .before .args .levels))) (c .before .before .put-model .ensures .0) whole)
 
--- src/lib.rt:102:1
 same-length : tie.Need-same-length
 same-length c = search needs
 
--- src/lib.rt:102:1
 returns : tie.Need-returns
 returns c = let p1 = begins-word (assumedText (c .before .before .before .before .before .before .before .before .before .before .before .args .assumed)) (c .before .before .before .before .before .before .put-assumed .kept .1 .0) (c .before .before .before .before .before .before .put-assumed .ensures) in
     begins-whole (begins-more p1 (modelText (c .before .before .before .before .before .before .before .before .before .before .before .args .n) (now (c .before .before .before .before .before .before .before .before .before .before .before .args .assignment)) (now (c .before .before .before .before .before .before .before .before .before .before .before .args .levels))) (c .before .before .put-model .kept .1 .1 .1 .0) (c .before .before .put-model .ensures))

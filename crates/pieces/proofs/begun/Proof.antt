@@ -4,10 +4,6 @@ use Rattle.pieces.proofs.Pieces.{word-in, begun-goes}
 use borrow.Author.Needs.{needs}
 use Rattle.pieces.proofs.begun.Statement.{statement}
 use Rattle.pieces.proofs.begun.Tie as tie
-use Rattle.pieces.proofs.begun.Reads as reads
-use Rattle.pieces.proofs.begun.Lts as lts
-use Rattle.pieces.proofs.has.Reads as has-reads
-use Rattle.pieces.proofs.ready.Reads as ready-reads
 
 ready-requires : tie.Need-ready-requires
 ready-requires c κs = search needs

@@ -4,10 +4,6 @@ use Rattle.pieces.proofs.Pieces.{word-in, closed-goes, list-below}
 use borrow.Author.Needs.{needs}
 use Rattle.pieces.proofs.closed.Statement.{statement}
 use Rattle.pieces.proofs.closed.Tie as tie
-use Rattle.pieces.proofs.closed.Reads as reads
-use Rattle.pieces.proofs.closed.Lts as lts
-use Rattle.pieces.proofs.has.Reads as has-reads
-use Rattle.pieces.proofs.is_list.Reads as is-list-reads
 
 is-list-requires : tie.Need-is-list-requires
 is-list-requires c κs = search needs

@@ -5,11 +5,6 @@ use Rattle.pieces.proofs.Pieces.{word-in, first-goes}
 use borrow.Author.Needs.{needs}
 use Rattle.pieces.proofs.first.Statement.{statement}
 use Rattle.pieces.proofs.first.Tie as tie
-use Rattle.pieces.proofs.first.Reads as reads
-use Rattle.pieces.proofs.first.Lts as lts
-use Rattle.pieces.proofs.has.Reads as has-reads
-use Rattle.pieces.proofs.numeral_at.Reads as numeral-at-reads
-use Rattle.pieces.proofs.ready.Reads as ready-reads
 
 ready-requires : tie.Need-ready-requires
 ready-requires c κs = search needs

@@ -3,8 +3,6 @@ use Rattle.pieces.specs.Standing.{fitsAt}
 use borrow.Author.Needs.{needs}
 use Rattle.pieces.proofs.fits.Statement.{statement}
 use Rattle.pieces.proofs.fits.Tie as tie
-use Rattle.pieces.proofs.fits.Reads as reads
-use Rattle.pieces.proofs.fits.Lts as lts
 
 cast-if1 : tie.Need-cast-if1
 cast-if1 c = search needs

@@ -7,8 +7,6 @@ use Rattle.pieces.proofs.Words.{word-goes, word-other, word-all, word-b
 use Rattle.pieces.specs.Standing.{begins, hasAt}
 use Rattle.pieces.proofs.has.Statement.{statement}
 use Rattle.pieces.proofs.has.Tie as tie
-use Rattle.pieces.proofs.has.Reads as reads
-use Rattle.pieces.proofs.has.Lts as lts
 
 abbrev Inv-loop : tie.InvT-loop
 Inv-loop text at word k₀ k = (k ≤ length word) × (begins (drop (at + k) text) (drop k word) ≡ hasAt text at word)

@@ -5,12 +5,6 @@ use Rattle.pieces.proofs.Pieces.{word-in, few-rules, headed-goes}
 use borrow.Author.Needs.{needs}
 use Rattle.pieces.proofs.headed.Statement.{statement}
 use Rattle.pieces.proofs.headed.Tie as tie
-use Rattle.pieces.proofs.headed.Reads as reads
-use Rattle.pieces.proofs.headed.Lts as lts
-use Rattle.reading.proofs.put_head.Reads as put-head-reads
-use Rattle.pieces.proofs.has.Reads as has-reads
-use Rattle.pieces.proofs.numeral_at.Reads as numeral-at-reads
-use Rattle.pieces.proofs.ready.Reads as ready-reads
 
 ready-requires : tie.Need-ready-requires
 ready-requires c κs = search needs

@@ -2,8 +2,6 @@ use borrow.Author.Tests.{eq-eqb, ne-eqb}
 use Rattle.pieces.specs.Standing.{listAt}
 use Rattle.pieces.proofs.is_list.Statement.{statement}
 use Rattle.pieces.proofs.is_list.Tie as tie
-use Rattle.pieces.proofs.is_list.Reads as reads
-use Rattle.pieces.proofs.is_list.Lts as lts
 
 returns : tie.Need-returns
 unfolding listAt

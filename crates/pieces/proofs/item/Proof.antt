@@ -5,14 +5,6 @@ use Rattle.pieces.proofs.Pieces.{listing-below, room-left, space-goes, 
 use borrow.Author.Needs.{needs}
 use Rattle.pieces.proofs.item.Statement.{statement}
 use Rattle.pieces.proofs.item.Tie as tie
-use Rattle.pieces.proofs.item.Reads as reads
-use Rattle.pieces.proofs.item.Lts as lts
-use Rattle.reading.proofs.put_body.Reads as put-body-reads
-use Rattle.pieces.proofs.added.Reads as added-reads
-use Rattle.pieces.proofs.fits.Reads as fits-reads
-use Rattle.pieces.proofs.listing.Reads as listing-reads
-use Rattle.pieces.proofs.numeral_at.Reads as numeral-at-reads
-use Rattle.numbers.proofs.wide.Reads as wide-reads
 
 listing-requires : tie.Need-listing-requires
 listing-requires c κs = search needs

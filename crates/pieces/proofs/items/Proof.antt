@@ -5,10 +5,6 @@ use Rattle.pieces.specs.Standing.{GoesBodies}
 use Rattle.pieces.proofs.Pieces.{goes-bodies}
 use Rattle.pieces.proofs.items.Statement.{statement}
 use Rattle.pieces.proofs.items.Tie as tie
-use Rattle.pieces.proofs.items.Reads as reads
-use Rattle.pieces.proofs.items.Lts as lts
-use Rattle.pieces.proofs.is_list.Reads as is-list-reads
-use Rattle.pieces.proofs.item.Reads as item-reads
 
 abbrev Inv-loop : tie.InvT-loop
 Inv-loop text bodies₀ p₀ bodies p = GoesBodies p₀ bodies₀ p bodies text

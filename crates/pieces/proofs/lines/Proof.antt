@@ -5,10 +5,6 @@ use mathlib.Core.Path.{_≡_, refl, _∙_}
 use Rattle.pieces.specs.Standing.{readOn}
 use Rattle.pieces.proofs.lines.Statement.{statement}
 use Rattle.pieces.proofs.lines.Tie as tie
-use Rattle.pieces.proofs.lines.Reads as reads
-use Rattle.pieces.proofs.lines.Lts as lts
-use Rattle.pieces.proofs.first.Reads as first-reads
-use Rattle.pieces.proofs.rule.Reads as rule-reads
 
 abbrev Inv-loop : tie.InvT-loop
 Inv-loop text heads₀ starts₀ bodies₀ p₀ heads starts bodies p = readOn p heads starts bodies text ≡ readOn p₀ heads₀ starts₀ bodies₀ text

@@ -3,9 +3,6 @@ use Rattle.pieces.specs.Standing.{listingAt}
 use borrow.Author.Needs.{needs}
 use Rattle.pieces.proofs.listing.Statement.{statement}
 use Rattle.pieces.proofs.listing.Tie as tie
-use Rattle.pieces.proofs.listing.Reads as reads
-use Rattle.pieces.proofs.listing.Lts as lts
-use Rattle.pieces.proofs.is_list.Reads as is-list-reads
 
 is-list-requires : tie.Need-is-list-requires
 is-list-requires c κs = search needs

@@ -3,9 +3,6 @@ use Rattle.pieces.specs.Standing.{numeralAt}
 use borrow.Author.Needs.{needs}
 use Rattle.pieces.proofs.numeral_at.Statement.{statement}
 use Rattle.pieces.proofs.numeral_at.Tie as tie
-use Rattle.pieces.proofs.numeral_at.Reads as reads
-use Rattle.pieces.proofs.numeral_at.Lts as lts
-use Rattle.pieces.proofs.numeral_of.Reads as numeral-of-reads
 
 returns : tie.Need-returns
 unfolding numeralAt

@@ -2,8 +2,6 @@ use borrow.Author.Tests.{eq-eqb, ne-eqb}
 use Rattle.pieces.specs.Standing.{readyAt}
 use Rattle.pieces.proofs.ready.Statement.{statement}
 use Rattle.pieces.proofs.ready.Tie as tie
-use Rattle.pieces.proofs.ready.Reads as reads
-use Rattle.pieces.proofs.ready.Lts as lts
 
 returns : tie.Need-returns
 unfolding readyAt

@@ -2,14 +2,6 @@ use mathlib.Core.Path.{_∙_}
 use borrow.Author.Needs.{needs}
 use Rattle.pieces.proofs.rule.Statement.{statement}
 use Rattle.pieces.proofs.rule.Tie as tie
-use Rattle.pieces.proofs.rule.Reads as reads
-use Rattle.pieces.proofs.rule.Lts as lts
-use Rattle.pieces.proofs.begun.Reads as begun-reads
-use Rattle.pieces.proofs.between.Reads as between-reads
-use Rattle.pieces.proofs.closed.Reads as closed-reads
-use Rattle.pieces.proofs.headed.Reads as headed-reads
-use Rattle.pieces.proofs.items.Reads as items-reads
-use Rattle.pieces.proofs.shut.Reads as shut-reads
 
 begun-requires : tie.Need-begun-requires
 begun-requires c κs = search needs

@@ -4,11 +4,6 @@ use Rattle.pieces.proofs.Pieces.{word-in, few-rules, shut-goes}
 use borrow.Author.Needs.{needs}
 use Rattle.pieces.proofs.shut.Statement.{statement}
 use Rattle.pieces.proofs.shut.Tie as tie
-use Rattle.pieces.proofs.shut.Reads as reads
-use Rattle.pieces.proofs.shut.Lts as lts
-use Rattle.pieces.proofs.has.Reads as has-reads
-use Rattle.pieces.proofs.ready.Reads as ready-reads
-use Rattle.numbers.proofs.wide.Reads as wide-reads
 
 ready-requires : tie.Need-ready-requires
 ready-requires c κs = search needs

@@ -5,22 +5,16 @@ use Rattle.places.proofs.RowPlaces.{last-is, last-adds}
 use borrow.Author.Needs.{needs}
 use Rattle.places.proofs.last.Statement.{statement}
 use Rattle.places.proofs.last.Tie as tie
-use Rattle.places.proofs.last.Reads as reads
-use Rattle.places.proofs.last.Lts as lts
 
--- src/lib.rt:210:28
 cast-t10 : tie.Need-cast-t10
 cast-t10 c = search needs
 
--- src/lib.rt:210:17
 add-t11 : tie.Need-add-t11
 add-t11 c = omega (arith, last-is (c .before .before .before .pre .0) (c .before .before .before .pre .1) (c .before .before .before .pre .2) .1, number-fits (c .before .before .before .pre .0))
 
--- src/lib.rt:215:21
 add-t12 : tie.Need-add-t12
 add-t12 c = search (needs, last-adds (c .before .before .before .before .pre .0) (c .before .before .before .before .pre .1) (c .before .before .before .before .pre .2) (search needs))
 
--- src/lib.rt:195:1
 returns : tie.Need-returns
 returns c = (last-is (c .before .before .before .before .pre .0) (c .before .before .before .before .pre .1) (c .before .before .before .before .pre .2) .0, last-is (c .before .before .before .before .pre .0) (c .before .before .before .before .pre .1) (c .before .before .before .before .pre .2) .1, refl)
 

@@ -2,19 +2,13 @@ use native.Mathlib.Omega.{arith}
 use Rattle.places.proofs.Numbers.{number-fits, place-in, follows}
 use Rattle.places.proofs.next.Statement.{statement}
 use Rattle.places.proofs.next.Tie as tie
-use Rattle.places.proofs.next.Reads as reads
-use Rattle.places.proofs.next.Lts as lts
-use Rattle.places.proofs.seek.Reads as seek-reads
 
--- src/lib.rt:131:17
 add-t9 : tie.Need-add-t9
 add-t9 c = omega (arith, c .before .before .before .before .before .before .before .pre .2, number-fits (c .before .before .before .before .before .before .before .pre .0))
 
--- src/lib.rt:132:15
 seek-requires : tie.Need-seek-requires
 seek-requires c κs = (c .before .before .before .before .before .before .before .pre .0, place-in (c .before .before .before .before .before .before .before .pre .0) (c .before .before .before .before .before .before .before .pre .1) (c .before .before .before .before .before .before .before .pre .2))
 
--- src/lib.rt:126:1
 returns : tie.Need-returns
 returns c = follows (c .before .before .before .before .before .before .before .before .pre .0) (c .before .before .before .before .before .before .before .before .pre .1) (c .before .before .before .before .before .before .before .before .pre .2) (c .seek .ensures)
 

@@ -2,20 +2,13 @@ use Rattle.places.proofs.RowPlaces.{behind, behind-asks}
 use borrow.Author.Needs.{needs}
 use Rattle.places.proofs.past_row.Statement.{statement}
 use Rattle.places.proofs.past_row.Tie as tie
-use Rattle.places.proofs.past_row.Reads as reads
-use Rattle.places.proofs.past_row.Lts as lts
-use Rattle.places.proofs.last.Reads as last-reads
-use Rattle.places.proofs.next.Reads as next-reads
 
--- src/lib.rt:237:9
 last-requires : tie.Need-last-requires
 last-requires c κs = search needs
 
--- src/lib.rt:238:5
 next-requires : tie.Need-next-requires
 next-requires c κs = (c .before .before .before .before .before .before .before .pre .0, behind-asks (c .before .before .before .before .before .before .before .pre .0) (c .last .ensures) .0, behind-asks (c .before .before .before .before .before .before .before .pre .0) (c .last .ensures) .1)
 
--- src/lib.rt:224:1
 returns : tie.Need-returns
 returns c = behind (c .before .before .before .before .before .before .before .before .pre .0) (c .before .last .ensures) (c .next .ensures)
 

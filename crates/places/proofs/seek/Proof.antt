@@ -6,11 +6,6 @@ use borrow.Author.Needs.{needs}
 use mathlib.Core.Path.{_≡_, refl, sym, _∙_, ap}
 use Rattle.places.proofs.seek.Statement.{statement}
 use Rattle.places.proofs.seek.Tie as tie
-use Rattle.places.proofs.seek.Reads as reads
-use Rattle.places.proofs.seek.Lts as lts
-use Rattle.places.proofs.entered.Reads as entered-reads
-use Rattle.places.proofs.over.Reads as over-reads
-use Rattle.places.proofs.step.Reads as step-reads
 
 abbrev Inv-loop : tie.InvT-loop
 Inv-loop t heads starts bodies before partners owners at₀ at = In (programIn (t .sizes) heads starts bodies) (t .sizes .w) at × (ahead (programIn (t .sizes) heads starts bodies) (t .sizes .w) at ≡ ahead (programIn (t .sizes) heads starts bodies) (t .sizes .w) at₀)
@@ -18,43 +13,33 @@ Inv-loop t heads starts bodies before partners owners at₀ at = In (programIn (
 abbrev μ-loop : tie.MeasureT-loop
 μ-loop t heads starts bodies before partners owners at₀ at = stepsLeft at
 
--- src/lib.rt:97:5
 loop-holds : tie.Need-loop-holds Inv-loop μ-loop
 loop-holds c = (c .before .before .before .before .before .before .pre .1, refl)
 
--- src/lib.rt:98:12
 over-requires : tie.Need-over-requires Inv-loop μ-loop
 over-requires c κs = search needs
 
--- src/lib.rt:99:13
 entered-requires : tie.Need-entered-requires Inv-loop μ-loop
 entered-requires c κs = search needs
 
--- src/lib.rt:99:13
 returns : tie.Need-returns Inv-loop μ-loop
 returns c = c .entered .ensures ∙ nothing-follows (c .before .before .before .before .before .before .before .before .before .before .before .before .pre .0) (c .before .before .before .before .before .loop .at) (c .before .before .before .if1 .taken) (sym (c .before .before .over .ensures) ∙ c .before .if2 .taken) ∙ ap firstOf (c .before .before .before .before .before .loop .inv .1)
 
--- src/lib.rt:101:9
 step-requires : tie.Need-step-requires Inv-loop μ-loop
 step-requires c κs = (c .before .before .before .before .before .before .before .before .before .before .before .pre .0, c .before .before .before .before .loop .inv .0, c .before .before .if1 .taken, sym (c .before .over .ensures) ∙ c .if2 .left)
 
--- src/lib.rt:97:5
 loop-less : tie.Need-loop-less Inv-loop μ-loop
 loop-less c = c .step .ensures .nearer
 
--- src/lib.rt:97:5
 loop-again : tie.Need-loop-again Inv-loop μ-loop
 loop-again c = (c .step .ensures .within, c .step .ensures .same ∙ c .before .before .before .before .before .loop .inv .1)
 
--- src/lib.rt:107:17
 add-t12 : tie.Need-add-t12 Inv-loop μ-loop
 add-t12 c = omega (arith, clause-adds (c .before .before .before .before .before .before .before .before .before .before .pre .0) (c .before .before .before .loop .at) (c .before .before .before .loop .inv .0) (c .before .if1 .left))
 
--- src/lib.rt:108:18
 sub-t13 : tie.Need-sub-t13 Inv-loop μ-loop
 sub-t13 c = search needs
 
--- src/lib.rt:92:1
 returns-2 : tie.Need-returns-2 Inv-loop μ-loop
 returns-2 c = clause-follows (c .before .before .before .before .before .before .before .before .before .before .before .pre .0) (c .before .before .before .before .loop .at) (c .before .before .before .before .loop .inv .0) (c .before .before .if1 .left) ∙ ap firstOf (c .before .before .before .before .loop .inv .1)
 

@@ -1,14 +1,10 @@
 use Rattle.printing.proofs.RowLaws.{rowed-four, rowed-other}
 use Rattle.printing.proofs.is_rowed.Statement.{statement}
 use Rattle.printing.proofs.is_rowed.Tie as tie
-use Rattle.printing.proofs.is_rowed.Reads as reads
-use Rattle.printing.proofs.is_rowed.Lts as lts
 
--- src/lib.rt:410:9
 returns : tie.Need-returns
 returns c = rowed-four (c .before .args .g) (c .if1 .taken)
 
--- src/lib.rt:406:1
 returns-2 : tie.Need-returns-2
 returns-2 c = rowed-other (c .before .args .g) (c .if1 .left)
 

@@ -12,11 +12,6 @@ use native.Mathlib.Omega.{arith}
 use Prim.Native.Nat.{_≤_, _-_}
 use Rattle.printing.proofs.put_chain.Statement.{statement}
 use Rattle.printing.proofs.put_chain.Tie as tie
-use Rattle.printing.proofs.put_chain.Reads as reads
-use Rattle.printing.proofs.put_chain.Lts as lts
-use Rattle.printing.proofs.put_signed.Reads as put-signed-reads
-use Rattle.slots.proofs.chain_literal.Reads as chain-literal-reads
-use Rattle.slots.proofs.chain_slots.Reads as chain-slots-reads
 
 abbrev Inv-loop : tie.InvT-loop
 Inv-loop c i y buf₀ k l₀ end₀ buf l end = (l ≤ k) × Begins buf₀ buf (literalsText (each l (λ l. shown (chainSlot (c .z .0) (c .x .0) (c .y .0) (c .g .0) i y l)))) end
@@ -24,75 +19,57 @@ Inv-loop c i y buf₀ k l₀ end₀ buf l end = (l ≤ k) × Begins buf₀ buf (
 abbrev μ-loop : tie.MeasureT-loop
 μ-loop c i y buf₀ k l₀ end₀ buf l end = k - l
 
--- src/lib.rt:163:9
 chain-slots-requires : tie.Need-chain-slots-requires Inv-loop μ-loop
 chain-slots-requires c κs = search needs
 
--- src/lib.rt:166:5
 loop-holds : tie.Need-loop-holds Inv-loop μ-loop
 loop-holds c = (search needs, begins-none (now (c .before .before .args .buf)))
 
--- src/lib.rt:167:40
 add-chain-literal : tie.Need-add-chain-literal Inv-loop μ-loop
 add-chain-literal c = search needs
 
--- src/lib.rt:167:13
 chain-literal-requires : tie.Need-chain-literal-requires Inv-loop μ-loop
 chain-literal-requires c κs = search needs
 
--- src/lib.rt:168:30
 sub-put-signed : tie.Need-sub-put-signed Inv-loop μ-loop
 sub-put-signed c = begins-room (c .before .before .loop .inv .1) (literalsText (literalsIn (c .chain-literal .result))) (chain-fits (c .before .before .before .before .before .args .c) (c .before .before .before .before .before .args .i) (c .before .before .before .before .before .args .y) (c .chain-literal .result) (c .before .before .before .chain-slots .ensures) (c .before .loop-test .taken) (c .chain-literal .ensures) (c .before .before .before .before .before .pre))
 
--- src/lib.rt:168:30
 part-put-signed-start : tie.Need-part-put-signed-start Inv-loop μ-loop
 part-put-signed-start c = begins-room (c .before .before .loop .inv .1) (literalsText (literalsIn (c .chain-literal .result))) (chain-fits (c .before .before .before .before .before .args .c) (c .before .before .before .before .before .args .i) (c .before .before .before .before .before .args .y) (c .chain-literal .result) (c .before .before .before .chain-slots .ensures) (c .before .loop-test .taken) (c .chain-literal .ensures) (c .before .before .before .before .before .pre))
 
--- src/lib.rt:168:30
 part-put-signed-end : tie.Need-part-put-signed-end Inv-loop μ-loop
 part-put-signed-end c = search needs
 
--- src/lib.rt:168:16
 put-signed-requires : tie.Need-put-signed-requires Inv-loop μ-loop
 put-signed-requires c κs = begins-tail (c .before .before .before .loop .inv .1) (literalsText (literalsIn (c .before .chain-literal .result))) (chain-fits (c .before .before .before .before .before .before .args .c) (c .before .before .before .before .before .before .args .i) (c .before .before .before .before .before .before .args .y) (c .before .chain-literal .result) (c .before .before .before .before .chain-slots .ensures) (c .before .before .loop-test .taken) (c .before .chain-literal .ensures) (c .before .before .before .before .before .before .pre))
 
--- src/lib.rt:168:9
 add-end : tie.Need-add-end Inv-loop μ-loop
 add-end c = omega (arith, c .before .before .before .before .before .before .before .before .before .good .1 .1 .1 .0, begins-sum (c .before .before .before .before .before .before .loop .inv .1) (literalsText (literalsIn (c .before .before .before .before .chain-literal .result))) (c .before .before .put-signed .ensures .0) (chain-fits (c .before .before .before .before .before .before .before .before .before .args .c) (c .before .before .before .before .before .before .before .before .before .args .i) (c .before .before .before .before .before .before .before .before .before .args .y) (c .before .before .before .before .chain-literal .result) (c .before .before .before .before .before .before .before .chain-slots .ensures) (c .before .before .before .before .before .loop-test .taken) (c .before .before .before .before .chain-literal .ensures) (c .before .before .before .before .before .before .before .before .before .pre)))
 
--- src/lib.rt:169:9
 add-l : tie.Need-add-l Inv-loop μ-loop
 add-l c = search needs
 
--- src/lib.rt:166:5
 loop-less : tie.Need-loop-less Inv-loop μ-loop
 loop-less c = search needs
 
--- src/lib.rt:166:5
 loop-again : tie.Need-loop-again Inv-loop μ-loop
 loop-again c = (search needs, chain-next (c .before .before .before .before .before .before .before .before .before .args .c) (c .before .before .before .before .before .before .before .before .before .args .i) (c .before .before .before .before .before .before .before .before .before .args .y) (c .before .before .before .before .chain-literal .result) (c .before .before .before .before .before .before .before .chain-slots .ensures) (c .before .before .before .before .before .loop-test .taken) (c .before .before .before .before .chain-literal .ensures) (begins-more (c .before .before .before .before .before .before .loop .inv .1) (literalsText (literalsIn (c .before .before .before .before .chain-literal .result))) (c .before .before .put-signed .kept .1 .0) (c .before .before .put-signed .ensures)))
 
--- src/lib.rt:171:5
 slice-write-buf : tie.Need-slice-write-buf Inv-loop μ-loop
 slice-write-buf c = omega (arith, chain-room (c .before .before .before .before .args .c) (c .before .before .before .before .args .i) (c .before .before .before .before .args .y) (c .before .before .before .before .pre) (c .before .before .chain-slots .ensures) (c .before .loop .inv .0) (c .loop-test .left) (c .before .loop .inv .1))
 
--- src/lib.rt:172:9
 add-buf : tie.Need-add-buf Inv-loop μ-loop
 add-buf c = omega (arith, c .before .before .before .before .good .1 .1 .1 .0, chain-room (c .before .before .before .before .args .c) (c .before .before .before .before .args .i) (c .before .before .before .before .args .y) (c .before .before .before .before .pre) (c .before .before .chain-slots .ensures) (c .before .loop .inv .0) (c .loop-test .left) (c .before .loop .inv .1), c .before .loop .inv .1 .same)
 
--- src/lib.rt:172:5
 slice-write-buf-2 : tie.Need-slice-write-buf-2 Inv-loop μ-loop
 slice-write-buf-2 c = lt-length-set (c .before .loop .buf) (c .before .loop .end) _ (omega (arith, chain-room (c .before .before .before .before .args .c) (c .before .before .before .before .args .i) (c .before .before .before .before .args .y) (c .before .before .before .before .pre) (c .before .before .chain-slots .ensures) (c .before .loop .inv .0) (c .loop-test .left) (c .before .loop .inv .1)))
 
--- src/lib.rt:173:5
 add-result : tie.Need-add-result Inv-loop μ-loop
 add-result c = omega (arith, c .before .before .before .before .good .1 .1 .1 .0, chain-room (c .before .before .before .before .args .c) (c .before .before .before .before .args .i) (c .before .before .before .before .args .y) (c .before .before .before .before .pre) (c .before .before .chain-slots .ensures) (c .before .loop .inv .0) (c .loop-test .left) (c .before .loop .inv .1), c .before .loop .inv .1 .same)
 
--- src/lib.rt:159:1
 same-length : tie.Need-same-length Inv-loop μ-loop
 same-length c = chain-end (c .before .before .before .before .args .c) (c .before .before .before .before .args .i) (c .before .before .before .before .args .y) (c .before .before .before .before .pre) (c .before .before .chain-slots .ensures) (c .before .loop .inv .0) (c .loop-test .left) (c .before .loop .inv .1) _ _ refl refl .same
 
--- src/lib.rt:159:1
 returns : tie.Need-returns Inv-loop μ-loop
 returns c = begins-whole (chain-end (c .before .before .before .before .args .c) (c .before .before .before .before .args .i) (c .before .before .before .before .args .y) (c .before .before .before .before .pre) (c .before .before .chain-slots .ensures) (c .before .loop .inv .0) (c .loop-test .left) (c .before .loop .inv .1) _ _ refl refl)
 

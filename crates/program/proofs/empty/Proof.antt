@@ -2,10 +2,7 @@ use mathlib.Core.Path.{refl}
 use Rattle.program.specs.Verdict.{emptyProgram}
 use Rattle.program.proofs.empty.Statement.{statement}
 use Rattle.program.proofs.empty.Tie as tie
-use Rattle.program.proofs.empty.Reads as reads
-use Rattle.program.proofs.empty.Lts as lts
 
--- src/lib.rt:289:1
 returns : tie.Need-returns
 unfolding emptyProgram
 returns c = refl

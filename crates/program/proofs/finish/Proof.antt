@@ -7,13 +7,6 @@ use Rattle.reading.specs.Reading.{readFrom}
 use Rattle.program.proofs.Loop.{goes, dies, stops-place, stops-mode, stops, advanced, dead-of, live-of}
 use Rattle.program.proofs.finish.Statement.{statement}
 use Rattle.program.proofs.finish.Tie as tie
-use Rattle.program.proofs.finish.Reads as reads
-use Rattle.program.proofs.finish.Lts as lts
-use Rattle.form.proofs.step.Reads as step-reads
-use Rattle.reading.proofs.begin_after.Reads as begin-after-reads
-use Rattle.reading.proofs.refused.Reads as refused-reads
-use Rattle.reading.proofs.value_after.Reads as value-after-reads
-use Rattle.reading.proofs.work.Reads as work-reads
 
 abbrev Inv-loop : tie.InvT-loop
 Inv-loop text heads₀ starts₀ bodies₀ k₀ mode₀ value₀ begin₀ c₀ i₀ heads starts bodies k mode value begin c i = readFrom (record { k = k; mode = mode; value = value; begin = begin; counts = c; heads = heads; starts = starts; bodies = bodies }) i (drop i text) ≡ readFrom (record { k = k₀; mode = mode₀; value = value₀; begin = begin₀; counts = c₀; heads = heads₀; starts = starts₀; bodies = bodies₀ }) i₀ (drop i₀ text)

@@ -4,39 +4,27 @@ use borrow.Author.Tests.{lt-ltb, le-ltb}
 use borrow.Author.Needs.{needs}
 use Rattle.program.proofs.read.Statement.{statement}
 use Rattle.program.proofs.read.Tie as tie
-use Rattle.program.proofs.read.Reads as reads
-use Rattle.program.proofs.read.Lts as lts
-use Rattle.program.proofs.read_into.Reads as read-into-reads
-use Rattle.program.proofs.refusal.Reads as refusal-reads
-use Rattle.program.proofs.refuse.Reads as refuse-reads
 
--- src/lib.rt:307:9
 refuse-requires : tie.Need-refuse-requires
 refuse-requires c κs = search needs
 
--- src/lib.rt:307:9
 returns : tie.Need-returns
 unfolding readOf
 returns c = simp (lt-ltb _ _ (c .before .if1 .taken)) (c .refuse .ensures)
 
--- src/lib.rt:312:9
 read-into-requires : tie.Need-read-into-requires
 read-into-requires c κs = search needs
 
--- src/lib.rt:314:23
 refusal-requires : tie.Need-refusal-requires
 refusal-requires c κs = search needs
 
--- src/lib.rt:314:9
 refuse-requires-2 : tie.Need-refuse-requires-2
 refuse-requires-2 c κs = search needs
 
--- src/lib.rt:314:9
 returns-2 : tie.Need-returns-2
 unfolding readOf
 returns-2 c = simp (le-ltb _ _ (c .before .before .before .before .before .before .before .before .if1 .left)) (finish-refused _ _ _ _ _ _ _ (c .before .before .before .before .read-into .ensures) (c .before .before .if2 .taken) (c .before .refusal .ensures) (c .refuse2 .ensures))
 
--- src/lib.rt:303:1
 returns-3 : tie.Need-returns-3
 unfolding readOf
 returns-3 c = simp (le-ltb _ _ (c .before .before .before .before .before .before .if1 .left)) (finish-accepted _ _ _ _ _ (c .before .before .read-into .ensures) (c .if2 .left))

@@ -3,10 +3,6 @@ use Rattle.program.proofs.Loop.{ends-of}
 use borrow.Author.Needs.{needs}
 use Rattle.program.proofs.read_into.Statement.{statement}
 use Rattle.program.proofs.read_into.Tie as tie
-use Rattle.program.proofs.read_into.Reads as reads
-use Rattle.program.proofs.read_into.Lts as lts
-use Rattle.program.proofs.finish.Reads as finish-reads
-use Rattle.pieces.proofs.lines.Reads as lines-reads
 
 lines-requires : tie.Need-lines-requires
 lines-requires c κs = search needs

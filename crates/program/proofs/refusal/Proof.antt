@@ -2,35 +2,27 @@ use Rattle.program.specs.Verdict.{refusalOf}
 use borrow.Author.Tests.{eq-eqb, ne-eqb}
 use Rattle.program.proofs.refusal.Statement.{statement}
 use Rattle.program.proofs.refusal.Tie as tie
-use Rattle.program.proofs.refusal.Reads as reads
-use Rattle.program.proofs.refusal.Lts as lts
 
--- src/lib.rt:271:9
 returns : tie.Need-returns
 unfolding refusalOf
 returns c = simp (eq-eqb _ _ (c .if1 .taken))
 
--- src/lib.rt:274:9
 returns-2 : tie.Need-returns-2
 unfolding refusalOf
 returns-2 c = simp (ne-eqb _ _ (c .before .if1 .left), eq-eqb _ _ (c .if2 .taken))
 
--- src/lib.rt:277:9
 returns-3 : tie.Need-returns-3
 unfolding refusalOf
 returns-3 c = simp (ne-eqb _ _ (c .before .before .if1 .left), ne-eqb _ _ (c .before .if2 .left), eq-eqb _ _ (c .if3 .taken))
 
--- src/lib.rt:280:9
 returns-4 : tie.Need-returns-4
 unfolding refusalOf
 returns-4 c = simp (ne-eqb _ _ (c .before .before .before .if1 .left), ne-eqb _ _ (c .before .before .if2 .left), ne-eqb _ _ (c .before .if3 .left), eq-eqb _ _ (c .if4 .taken))
 
--- src/lib.rt:283:9
 returns-5 : tie.Need-returns-5
 unfolding refusalOf
 returns-5 c = simp (ne-eqb _ _ (c .before .before .before .before .if1 .left), ne-eqb _ _ (c .before .before .before .if2 .left), ne-eqb _ _ (c .before .before .if3 .left), ne-eqb _ _ (c .before .if4 .left), eq-eqb _ _ (c .if5 .taken))
 
--- src/lib.rt:267:1
 returns-6 : tie.Need-returns-6
 unfolding refusalOf
 returns-6 c = simp (ne-eqb _ _ (c .before .before .before .before .if1 .left), ne-eqb _ _ (c .before .before .before .if2 .left), ne-eqb _ _ (c .before .before .if3 .left), ne-eqb _ _ (c .before .if4 .left), ne-eqb _ _ (c .if5 .left))

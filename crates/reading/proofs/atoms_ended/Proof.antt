@@ -3,20 +3,14 @@ use borrow.Author.Tests.{lt-ltb, le-ltb}
 use borrow.Author.Needs.{needs}
 use Rattle.reading.proofs.atoms_ended.Statement.{statement}
 use Rattle.reading.proofs.atoms_ended.Tie as tie
-use Rattle.reading.proofs.atoms_ended.Reads as reads
-use Rattle.reading.proofs.atoms_ended.Lts as lts
-use Rattle.reading.proofs.refused.Reads as refused-reads
 
--- src/lib.rt:74:9
 refused-requires : tie.Need-refused-requires
 refused-requires c κs = search needs
 
--- src/lib.rt:74:9
 returns : tie.Need-returns
 unfolding atomsEnded
 returns c = simp (lt-ltb _ _ (c .before .if1 .taken)) (c .refused .ensures)
 
--- src/lib.rt:70:1
 returns-2 : tie.Need-returns-2
 unfolding atomsEnded
 returns-2 c = simp (le-ltb _ _ (c .if1 .left))

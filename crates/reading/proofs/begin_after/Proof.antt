@@ -2,20 +2,15 @@ use Rattle.reading.specs.Work.{beginOf}
 use borrow.Author.Tests.{eq-eqb, ne-eqb}
 use Rattle.reading.proofs.begin_after.Statement.{statement}
 use Rattle.reading.proofs.begin_after.Tie as tie
-use Rattle.reading.proofs.begin_after.Reads as reads
-use Rattle.reading.proofs.begin_after.Lts as lts
 
--- src/lib.rt:103:9
 returns : tie.Need-returns
 unfolding beginOf
 returns c = simp (eq-eqb _ _ (c .if1 .taken))
 
--- src/lib.rt:106:9
 returns-2 : tie.Need-returns-2
 unfolding beginOf
 returns-2 c = simp (ne-eqb _ _ (c .before .if1 .left), eq-eqb _ _ (c .if2 .taken))
 
--- src/lib.rt:99:1
 returns-3 : tie.Need-returns-3
 unfolding beginOf
 returns-3 c = simp (ne-eqb _ _ (c .before .if1 .left), ne-eqb _ _ (c .if2 .left))

@@ -4,61 +4,44 @@ use mathlib.Core.Path.{refl}
 use borrow.Author.Needs.{needs}
 use Rattle.reading.proofs.body_ended.Statement.{statement}
 use Rattle.reading.proofs.body_ended.Tie as tie
-use Rattle.reading.proofs.body_ended.Reads as reads
-use Rattle.reading.proofs.body_ended.Lts as lts
-use Rattle.reading.proofs.put_body.Reads as put-body-reads
-use Rattle.reading.proofs.refused.Reads as refused-reads
-use Rattle.numbers.proofs.wide.Reads as wide-reads
 
--- src/lib.rt:179:9
 refused-requires : tie.Need-refused-requires
 refused-requires c κs = search needs
 
--- src/lib.rt:179:9
 returns : tie.Need-returns
 unfolding bodyEnded bodyStored
 returns c = simp (eq-eqb _ _ (c .before .if1 .taken)) (c .refused .ensures, refl)
 
--- src/lib.rt:182:9
 refused-requires-2 : tie.Need-refused-requires-2
 refused-requires-2 c κs = search needs
 
--- src/lib.rt:182:9
 returns-2 : tie.Need-returns-2
 unfolding bodyEnded bodyStored
 returns-2 c = simp (ne-eqb _ _ (c .before .before .before .if1 .left), lt-ltb _ _ (c .before .if2 .taken)) (c .refused2 .ensures, refl)
 
--- src/lib.rt:185:9
 refused-requires-3 : tie.Need-refused-requires-3
 refused-requires-3 c κs = search needs
 
--- src/lib.rt:185:9
 returns-3 : tie.Need-returns-3
 unfolding bodyEnded bodyStored
 returns-3 c = simp (ne-eqb _ _ (c .before .before .before .before .before .if1 .left), le-ltb _ _ (c .before .before .before .if2 .left), le-leb _ _ (c .before .if3 .taken)) (c .refused3 .ensures, refl)
 
--- src/lib.rt:188:32
 wide-requires : tie.Need-wide-requires
 wide-requires c κs = search needs
 
--- src/lib.rt:188:9
 put-body-requires : tie.Need-put-body-requires
 put-body-requires c κs = search needs
 
--- src/lib.rt:189:63
 add-t10 : tie.Need-add-t10
 add-t10 c = search needs
 
--- src/lib.rt:189:9
 returns-4 : tie.Need-returns-4
 unfolding bodyEnded bodyStored
 returns-4 c = simp (ne-eqb _ _ (c .before .before .before .before .before .before .before .before .before .before .if1 .left), le-ltb _ _ (c .before .before .before .before .before .before .before .before .if2 .left), lt-leb _ _ (c .before .before .before .before .before .before .if3 .left), lt-ltb _ _ (c .before .before .before .before .if4 .taken), c .before .put-body .ensures, c .before .before .wide .ensures) (refl, refl)
 
--- src/lib.rt:191:5
 refused-requires-4 : tie.Need-refused-requires-4
 refused-requires-4 c κs = search needs
 
--- src/lib.rt:175:1
 returns-5 : tie.Need-returns-5
 unfolding bodyEnded bodyStored
 returns-5 c = simp (ne-eqb _ _ (c .before .before .before .before .before .before .before .if1 .left), le-ltb _ _ (c .before .before .before .before .before .if2 .left), lt-leb _ _ (c .before .before .before .if3 .left), le-ltb _ _ (c .before .if4 .left)) (c .refused4 .ensures, refl)

@@ -5,52 +5,37 @@ use mathlib.Core.Path.{refl}
 use borrow.Author.Needs.{needs}
 use Rattle.reading.proofs.head_ended.Statement.{statement}
 use Rattle.reading.proofs.head_ended.Tie as tie
-use Rattle.reading.proofs.head_ended.Reads as reads
-use Rattle.reading.proofs.head_ended.Lts as lts
-use Rattle.reading.proofs.list_begun.Reads as list-begun-reads
-use Rattle.reading.proofs.put_head.Reads as put-head-reads
-use Rattle.reading.proofs.refused.Reads as refused-reads
 
--- src/lib.rt:189:9
 refused-requires : tie.Need-refused-requires
 refused-requires c κs = search needs
 
--- src/lib.rt:189:9
 returns : tie.Need-returns
 unfolding headEnded headStored
 returns c = simp (eq-eqb _ _ (c .before .if1 .taken)) (c .refused .ensures, refl)
 
--- src/lib.rt:192:9
 refused-requires-2 : tie.Need-refused-requires-2
 refused-requires-2 c κs = search needs
 
--- src/lib.rt:192:9
 returns-2 : tie.Need-returns-2
 unfolding headEnded headStored
 returns-2 c = simp (ne-eqb _ _ (c .before .before .before .if1 .left), lt-ltb _ _ (c .before .if2 .taken)) (c .refused2 .ensures, refl)
 
--- src/lib.rt:195:36
 add-t8 : tie.Need-add-t8
 add-t8 c = search needs
 
--- src/lib.rt:195:9
 put-head-requires : tie.Need-put-head-requires
 put-head-requires c κs = search needs
 
--- src/lib.rt:196:9
 list-begun-requires : tie.Need-list-begun-requires
 list-begun-requires c κs = search needs
 
--- src/lib.rt:196:9
 returns-3 : tie.Need-returns-3
 unfolding headEnded headStored
 returns-3 c = simp (ne-eqb _ _ (c .before .before .before .before .before .before .before .before .if1 .left), le-ltb _ _ (c .before .before .before .before .before .before .if2 .left), lt-ltb _ _ (c .before .before .before .before .if3 .taken), c .before .put-head .ensures, add-sub-cancel) (c .list-begun .ensures, refl)
 
--- src/lib.rt:198:5
 list-begun-requires-2 : tie.Need-list-begun-requires-2
 list-begun-requires-2 c κs = search needs
 
--- src/lib.rt:185:1
 returns-4 : tie.Need-returns-4
 unfolding headEnded headStored
 returns-4 c = simp (ne-eqb _ _ (c .before .before .before .before .before .if1 .left), le-ltb _ _ (c .before .before .before .if2 .left), le-ltb _ _ (c .before .if3 .left)) (c .list-begun2 .ensures, refl)

@@ -4,35 +4,24 @@ use mathlib.Core.Path.{refl}
 use borrow.Author.Needs.{needs}
 use Rattle.reading.proofs.number_ended.Statement.{statement}
 use Rattle.reading.proofs.number_ended.Tie as tie
-use Rattle.reading.proofs.number_ended.Reads as reads
-use Rattle.reading.proofs.number_ended.Lts as lts
-use Rattle.reading.proofs.atoms_ended.Reads as atoms-ended-reads
-use Rattle.reading.proofs.body_ended.Reads as body-ended-reads
-use Rattle.reading.proofs.head_ended.Reads as head-ended-reads
 
--- src/lib.rt:158:9
 atoms-ended-requires : tie.Need-atoms-ended-requires
 atoms-ended-requires c κs = search needs
 
--- src/lib.rt:158:9
 returns : tie.Need-returns
 unfolding endedOf endedHeads endedBodies
 returns c = simp (eq-eqb _ _ (c .before .if1 .taken)) (c .atoms-ended .ensures, (refl, refl))
 
--- src/lib.rt:161:9
 head-ended-requires : tie.Need-head-ended-requires
 head-ended-requires c κs = search needs
 
--- src/lib.rt:161:9
 returns-2 : tie.Need-returns-2
 unfolding endedOf endedHeads endedBodies
 returns-2 c = simp (ne-eqb _ _ (c .before .before .before .if1 .left), eq-eqb _ _ (c .before .before .if2 .taken)) (c .head-ended .ensures .0, (c .head-ended .ensures .1, refl))
 
--- src/lib.rt:163:5
 body-ended-requires : tie.Need-body-ended-requires
 body-ended-requires c κs = search needs
 
--- src/lib.rt:154:1
 returns-3 : tie.Need-returns-3
 unfolding endedOf endedHeads endedBodies
 returns-3 c = simp (ne-eqb _ _ (c .before .before .before .if1 .left), ne-eqb _ _ (c .before .before .if2 .left)) (c .body-ended .ensures .0, (refl, c .body-ended .ensures .1))

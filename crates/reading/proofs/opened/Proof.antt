@@ -3,20 +3,14 @@ use borrow.Author.Tests.{lt-ltb, le-ltb}
 use borrow.Author.Needs.{needs}
 use Rattle.reading.proofs.opened.Statement.{statement}
 use Rattle.reading.proofs.opened.Tie as tie
-use Rattle.reading.proofs.opened.Reads as reads
-use Rattle.reading.proofs.opened.Lts as lts
-use Rattle.reading.proofs.refused.Reads as refused-reads
 
--- src/lib.rt:123:9
 returns : tie.Need-returns
 unfolding openedOf
 returns c = simp (lt-ltb _ _ (c .if1 .taken))
 
--- src/lib.rt:125:5
 refused-requires : tie.Need-refused-requires
 refused-requires c κs = search needs
 
--- src/lib.rt:119:1
 returns-2 : tie.Need-returns-2
 unfolding openedOf
 returns-2 c = simp (le-ltb _ _ (c .before .if1 .left)) (c .refused .ensures)

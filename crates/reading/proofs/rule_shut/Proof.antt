@@ -3,19 +3,14 @@ use borrow.Author.Tests.{lt-ltb, le-ltb}
 use borrow.Author.Needs.{needs}
 use Rattle.reading.proofs.rule_shut.Statement.{statement}
 use Rattle.reading.proofs.rule_shut.Tie as tie
-use Rattle.reading.proofs.rule_shut.Reads as reads
-use Rattle.reading.proofs.rule_shut.Lts as lts
 
--- src/lib.rt:148:48
 add-t3 : tie.Need-add-t3
 add-t3 c = search needs
 
--- src/lib.rt:148:9
 returns : tie.Need-returns
 unfolding ruleShut
 returns c = simp (lt-ltb _ _ (c .before .if1 .taken))
 
--- src/lib.rt:144:1
 returns-2 : tie.Need-returns-2
 unfolding ruleShut
 returns-2 c = simp (le-ltb _ _ (c .if1 .left))

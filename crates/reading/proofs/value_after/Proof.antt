@@ -3,29 +3,21 @@ use borrow.Author.Tests.{eq-eqb, ne-eqb}
 use borrow.Author.Needs.{needs}
 use Rattle.reading.proofs.value_after.Statement.{statement}
 use Rattle.reading.proofs.value_after.Tie as tie
-use Rattle.reading.proofs.value_after.Reads as reads
-use Rattle.reading.proofs.value_after.Lts as lts
-use Rattle.reading.proofs.grown.Reads as grown-reads
 
--- src/lib.rt:51:9
 grown-requires : tie.Need-grown-requires
 grown-requires c κs = search needs
 
--- src/lib.rt:51:9
 returns : tie.Need-returns
 unfolding valueOf
 returns c = simp (eq-eqb _ _ (c .before .if1 .taken)) (c .grown .ensures)
 
--- src/lib.rt:54:9
 grown-requires-2 : tie.Need-grown-requires-2
 grown-requires-2 c κs = search needs
 
--- src/lib.rt:54:9
 returns-2 : tie.Need-returns-2
 unfolding valueOf
 returns-2 c = simp (ne-eqb _ _ (c .before .before .if1 .left), eq-eqb _ _ (c .before .if2 .taken)) (c .grown2 .ensures)
 
--- src/lib.rt:47:1
 returns-3 : tie.Need-returns-3
 unfolding valueOf
 returns-3 c = simp (ne-eqb _ _ (c .before .if1 .left), ne-eqb _ _ (c .if2 .left))

@@ -4,35 +4,25 @@ use mathlib.Core.Path.{refl}
 use borrow.Author.Needs.{needs}
 use Rattle.reading.proofs.work.Statement.{statement}
 use Rattle.reading.proofs.work.Tie as tie
-use Rattle.reading.proofs.work.Reads as reads
-use Rattle.reading.proofs.work.Lts as lts
-use Rattle.reading.proofs.bracket.Reads as bracket-reads
-use Rattle.reading.proofs.number_ended.Reads as number-ended-reads
 
--- src/lib.rt:186:9
 returns : tie.Need-returns
 unfolding workOf workHeads workStarts workBodies
 returns c = simp (lt-ltb _ _ (c .if1 .taken)) (refl, (refl, (refl, refl)))
 
--- src/lib.rt:189:9
 returns-2 : tie.Need-returns-2
 unfolding workOf workHeads workStarts workBodies
 returns-2 c = simp (le-ltb _ _ (c .before .before .if1 .left), ne-eqb _ _ (c .if2 .taken)) (refl, (refl, (refl, refl)))
 
--- src/lib.rt:192:9
 number-ended-requires : tie.Need-number-ended-requires
 number-ended-requires c κs = search needs
 
--- src/lib.rt:192:9
 returns-3 : tie.Need-returns-3
 unfolding workOf workHeads workStarts workBodies
 returns-3 c = simp (le-ltb _ _ (c .before .before .before .before .before .before .if1 .left), eq-eqb _ _ (c .before .before .before .before .if2 .left), eq-eqb _ _ (c .before .before .before .if3 .taken)) (c .number-ended .ensures .0, (c .number-ended .ensures .1 .0, (refl, c .number-ended .ensures .1 .1)))
 
--- src/lib.rt:194:5
 bracket-requires : tie.Need-bracket-requires
 bracket-requires c κs = search needs
 
--- src/lib.rt:182:1
 returns-4 : tie.Need-returns-4
 unfolding workOf workHeads workStarts workBodies
 returns-4 c = simp (le-ltb _ _ (c .before .before .before .before .before .if1 .left), eq-eqb _ _ (c .before .before .before .if2 .left), ne-eqb _ _ (c .before .before .if3 .left)) (c .bracket .ensures .0, (refl, (c .bracket .ensures .1, refl)))

@@ -8,9 +8,6 @@ use Rattle.results.specs.Results.{levelIn}
 use Rattle.results.proofs.Counting.{highest-more, highest-all}
 use Rattle.results.proofs.highest_of.Statement.{statement}
 use Rattle.results.proofs.highest_of.Tie as tie
-use Rattle.results.proofs.highest_of.Reads as reads
-use Rattle.results.proofs.highest_of.Lts as lts
-use Rattle.results.proofs.larger.Reads as larger-reads
 
 abbrev Inv-loop : tie.InvT-loop
 Inv-loop n levels a₀ x₀ a x = (a ≤ n) × (x ≡ highest a (levelIn levels))
@@ -18,35 +15,27 @@ Inv-loop n levels a₀ x₀ a x = (a ≤ n) × (x ≡ highest a (levelIn levels)
 abbrev μ-loop : tie.MeasureT-loop
 μ-loop n levels a₀ x₀ a x = n - a
 
--- src/lib.rt:88:5
 loop-holds : tie.Need-loop-holds Inv-loop μ-loop
 loop-holds c = (omega arith, refl)
 
--- src/lib.rt:89:30
 cast-larger : tie.Need-cast-larger Inv-loop μ-loop
 cast-larger c = search needs
 
--- src/lib.rt:89:23
 shared-slice-read-larger : tie.Need-shared-slice-read-larger Inv-loop μ-loop
 shared-slice-read-larger c = search needs
 
--- src/lib.rt:89:9
 larger-requires : tie.Need-larger-requires Inv-loop μ-loop
 larger-requires c κs = search needs
 
--- src/lib.rt:90:9
 add-a : tie.Need-add-a Inv-loop μ-loop
 add-a c = search needs
 
--- src/lib.rt:88:5
 loop-less : tie.Need-loop-less Inv-loop μ-loop
 loop-less c = search needs
 
--- src/lib.rt:88:5
 loop-again : tie.Need-loop-again Inv-loop μ-loop
 loop-again c = (omega (arith, c .before .before .loop-test .taken), highest-more (now (c .before .before .before .before .before .args .levels)) (c .before .before .before .loop .a) (c .before .before .before .loop .inv .1) (c .larger .ensures))
 
--- src/lib.rt:82:1
 returns : tie.Need-returns Inv-loop μ-loop
 returns c = highest-all (now (c .before .before .before .args .levels)) (c .before .loop .a) (c .before .before .before .args .n) (c .before .loop .inv .1) (c .before .loop .inv .0) (c .loop-test .left)
 

@@ -12,9 +12,6 @@ use Rattle.encoding.specs.Fill.{counter}
 use Rattle.results.proofs.Counting.{tabled-more, tabled-all}
 use Rattle.results.proofs.put_counters.Statement.{statement}
 use Rattle.results.proofs.put_counters.Tie as tie
-use Rattle.results.proofs.put_counters.Reads as reads
-use Rattle.results.proofs.put_counters.Lts as lts
-use Rattle.results.proofs.counter_of.Reads as counter-of-reads
 
 abbrev Inv-loop : tie.InvT-loop
 Inv-loop s assignment levels₀ a₀ levels a = (a ≤ s .n) × (length levels ≡ length levels₀) × (levels ≡ tab a (counter (sizesOf s) (valueIn assignment)) ++ drop a levels₀)
@@ -22,43 +19,33 @@ Inv-loop s assignment levels₀ a₀ levels a = (a ≤ s .n) × (length levels �
 abbrev μ-loop : tie.MeasureT-loop
 μ-loop s assignment levels₀ a₀ levels a = s .n - a
 
--- src/lib.rt:51:5
 loop-holds : tie.Need-loop-holds Inv-loop μ-loop
 loop-holds c = (omega arith, refl, refl)
 
--- src/lib.rt:52:61
 add-t7 : tie.Need-add-t7 Inv-loop μ-loop
 add-t7 c = search needs
 
--- src/lib.rt:52:30
 counter-of-requires : tie.Need-counter-of-requires Inv-loop μ-loop
 counter-of-requires c κs = (c .before .before .before .before .before .pre .0, omega arith, omega (arith, c .if1 .taken), c .before .before .before .before .before .pre .1)
 
--- src/lib.rt:52:16
 cast-levels : tie.Need-cast-levels Inv-loop μ-loop
 cast-levels c = search needs
 
--- src/lib.rt:52:9
 slice-write-levels : tie.Need-slice-write-levels Inv-loop μ-loop
 slice-write-levels c = omega (arith, c .before .before .before .loop .inv .1, c .before .before .before .before .before .before .pre .2, c .before .if1 .taken)
 
--- src/lib.rt:53:9
 add-a : tie.Need-add-a Inv-loop μ-loop
 add-a c = search needs
 
--- src/lib.rt:51:5
 loop-less : tie.Need-loop-less Inv-loop μ-loop
 loop-less c = search needs
 
--- src/lib.rt:51:5
 loop-again : tie.Need-loop-again Inv-loop μ-loop
 loop-again c = (omega (arith, c .before .if1 .taken), length-set (c .before .before .before .loop .levels) (c .before .before .before .loop .a) (c .counter-of .result) ∙ c .before .before .before .loop .inv .1, tabled-more (counter (sizesOf (c .before .before .before .before .before .before .args .s)) (valueIn (now (c .before .before .before .before .before .before .args .assignment)))) (now (c .before .before .before .before .before .before .args .levels)) (c .before .before .before .loop .levels) (c .before .before .before .loop .a) (omega (arith, c .before .before .before .before .before .before .pre .2, c .before .if1 .taken)) (c .before .before .before .loop .inv .2) (c .counter-of .ensures))
 
--- src/lib.rt:46:1
 same-length : tie.Need-same-length Inv-loop μ-loop
 same-length c = c .before .before .loop .inv .1
 
--- src/lib.rt:46:1
 returns : tie.Need-returns Inv-loop μ-loop
 returns c = tabled-all (counter (sizesOf (c .before .before .before .before .before .args .s)) (valueIn (now (c .before .before .before .before .before .args .assignment)))) (now (c .before .before .before .before .before .args .levels)) (c .before .before .loop .levels) (c .before .before .loop .a) (c .before .before .before .before .before .args .s .n) (c .before .before .loop .inv .2) (c .before .before .loop .inv .0) (c .if1 .left)
 

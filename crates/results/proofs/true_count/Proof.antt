@@ -8,9 +8,6 @@ use Rattle.results.specs.Results.{trueCount}
 use Rattle.results.proofs.Counting.{true-none, true-more, one-at-most, true-all}
 use Rattle.results.proofs.true_count.Statement.{statement}
 use Rattle.results.proofs.true_count.Tie as tie
-use Rattle.results.proofs.true_count.Reads as reads
-use Rattle.results.proofs.true_count.Lts as lts
-use Rattle.results.proofs.part.Reads as part-reads
 
 abbrev Inv-loop : tie.InvT-loop
 Inv-loop n assignment a₀ k₀ a k = (a ≤ n) × (k ≤ a) × (k ≡ trueCount a assignment)
@@ -18,43 +15,33 @@ Inv-loop n assignment a₀ k₀ a k = (a ≤ n) × (k ≤ a) × (k ≡ trueCount
 abbrev μ-loop : tie.MeasureT-loop
 μ-loop n assignment a₀ k₀ a k = n - a
 
--- src/lib.rt:64:5
 loop-holds : tie.Need-loop-holds Inv-loop μ-loop
 loop-holds c = (omega arith, omega arith, true-none _)
 
--- src/lib.rt:65:31
 cast-part : tie.Need-cast-part Inv-loop μ-loop
 cast-part c = search needs
 
--- src/lib.rt:65:31
 add-part : tie.Need-add-part Inv-loop μ-loop
 add-part c = search needs
 
--- src/lib.rt:65:14
 part-requires : tie.Need-part-requires Inv-loop μ-loop
 part-requires c κs = search needs
 
--- src/lib.rt:65:14
 cast-k : tie.Need-cast-k Inv-loop μ-loop
 cast-k c = search needs
 
--- src/lib.rt:65:9
 add-k : tie.Need-add-k Inv-loop μ-loop
 add-k c = omega (arith, c .before .before .loop .inv .0, c .before .before .loop .inv .1, c .before .before .before .before .fits .n, one-at-most (valueIn (now (c .before .before .before .before .args .assignment)) (c .before .before .loop .a + 1)) (c .part .ensures))
 
--- src/lib.rt:66:9
 add-a : tie.Need-add-a Inv-loop μ-loop
 add-a c = search needs
 
--- src/lib.rt:64:5
 loop-less : tie.Need-loop-less Inv-loop μ-loop
 loop-less c = search needs
 
--- src/lib.rt:64:5
 loop-again : tie.Need-loop-again Inv-loop μ-loop
 loop-again c = (omega (arith, c .before .loop-test .taken), omega (arith, c .before .before .loop .inv .1, one-at-most (valueIn (now (c .before .before .before .before .args .assignment)) (c .before .before .loop .a + 1)) (c .part .ensures)), true-more (now (c .before .before .before .before .args .assignment)) (c .before .before .loop .a) (c .before .before .loop .inv .2) (c .part .ensures))
 
--- src/lib.rt:58:1
 returns : tie.Need-returns Inv-loop μ-loop
 returns c = true-all (now (c .before .before .before .args .assignment)) (c .before .loop .a) (c .before .before .before .args .n) (c .before .loop .inv .2) (c .before .loop .inv .0) (c .loop-test .left)
 

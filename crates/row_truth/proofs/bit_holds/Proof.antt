@@ -6,24 +6,16 @@ use Rattle.row_truth.proofs.RowLaws.{further-bit, further-in}
 use borrow.Author.Needs.{needs}
 use Rattle.row_truth.proofs.bit_holds.Statement.{statement}
 use Rattle.row_truth.proofs.bit_holds.Tie as tie
-use Rattle.row_truth.proofs.bit_holds.Reads as reads
-use Rattle.row_truth.proofs.bit_holds.Lts as lts
-use Rattle.row_truth.proofs.first_bit_holds.Reads as first-bit-holds-reads
-use Rattle.row_truth.proofs.next_bit_holds.Reads as next-bit-holds-reads
 
--- src/lib.rt:187:9
 first-bit-holds-requires : tie.Need-first-bit-holds-requires
 first-bit-holds-requires c κs = search needs
 
--- src/lib.rt:187:9
 returns : tie.Need-returns
 returns c = c .first-bit-holds .ensures ∙ ap (bitTrue (valueIn (now (c .before .before .before .args .assignment))) (c .before .before .before .args .c)) (sym (c .before .if1 .taken))
 
--- src/lib.rt:189:5
 next-bit-holds-requires : tie.Need-next-bit-holds-requires
 next-bit-holds-requires c κs = further-in (c .before .before .pre) (c .if1 .left)
 
--- src/lib.rt:182:1
 returns-2 : tie.Need-returns-2
 returns-2 c = further-bit (valueIn (now (c .before .before .before .args .assignment))) (c .before .before .before .args .c) (c .before .if1 .left) (c .next-bit-holds .ensures)
 

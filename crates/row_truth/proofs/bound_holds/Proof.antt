@@ -10,11 +10,6 @@ use Rattle.row_truth.specs.Values.{valueIn}
 use Rattle.row_truth.proofs.RuleLaws.{body-in, next-in, notNext, bound-none, bound-more, bound-all}
 use Rattle.row_truth.proofs.bound_holds.Statement.{statement}
 use Rattle.row_truth.proofs.bound_holds.Tie as tie
-use Rattle.row_truth.proofs.bound_holds.Reads as reads
-use Rattle.row_truth.proofs.bound_holds.Lts as lts
-use Rattle.literals.proofs.body_var.Reads as body-var-reads
-use Rattle.literals.proofs.next_below_var.Reads as next-below-var-reads
-use Rattle.row_truth.proofs.signed_holds.Reads as signed-holds-reads
 
 abbrev Inv-loop : tie.InvT-loop
 Inv-loop s k b assignment low₀ j₀ low j = (j ≤ b) × (low ≡ (low₀ || anyTo j (notNext (valueIn assignment) (sizesOf s) k)))
@@ -22,47 +17,36 @@ Inv-loop s k b assignment low₀ j₀ low j = (j ≤ b) × (low ≡ (low₀ || a
 abbrev μ-loop : tie.MeasureT-loop
 μ-loop s k b assignment low₀ j₀ low j = b - j
 
--- src/lib.rt:220:39
 body-var-requires : tie.Need-body-var-requires Inv-loop μ-loop
 body-var-requires c κs = search needs
 
--- src/lib.rt:220:9
 signed-holds-requires : tie.Need-signed-holds-requires Inv-loop μ-loop
 signed-holds-requires c κs = body-in (sizesOf (c .before .before .args .s)) (c .before .before .args .r .0) (c .before .before .args .k) (c .before .before .args .b) (c .before .before .pre .1) (c .before .before .pre .2) (c .before .before .pre .4) (c .body-var .ensures)
 
--- src/lib.rt:222:5
 loop-holds : tie.Need-loop-holds Inv-loop μ-loop
 loop-holds c = (search needs, bound-none (valueIn (now (c .before .before .before .args .assignment))) (sizesOf (c .before .before .before .args .s)) (c .before .before .before .args .k) (c .signed-holds .result))
 
--- src/lib.rt:223:40
 add-next-below-var : tie.Need-add-next-below-var Inv-loop μ-loop
 add-next-below-var c = search needs
 
--- src/lib.rt:223:35
 add-next-below-var-2 : tie.Need-add-next-below-var-2 Inv-loop μ-loop
 add-next-below-var-2 c = search needs
 
--- src/lib.rt:223:13
 next-below-var-requires : tie.Need-next-below-var-requires Inv-loop μ-loop
 next-below-var-requires c κs = search needs
 
--- src/lib.rt:224:21
 signed-holds-requires-2 : tie.Need-signed-holds-requires-2 Inv-loop μ-loop
 signed-holds-requires-2 c κs = next-in (sizesOf (c .before .before .before .before .before .before .args .s)) (c .before .before .before .before .before .before .args .r .0) (c .before .before .before .before .before .before .args .k) (c .before .before .before .before .before .before .args .b) (c .before .before .before .before .before .before .pre .1) (c .before .before .before .before .before .before .pre .2) (c .before .before .before .before .before .before .pre .4) (c .before .before .loop .j) (c .before .loop-test .taken) (c .next-below-var .ensures)
 
--- src/lib.rt:225:9
 add-j : tie.Need-add-j Inv-loop μ-loop
 add-j c = search needs
 
--- src/lib.rt:222:5
 loop-less : tie.Need-loop-less Inv-loop μ-loop
 loop-less c = search needs
 
--- src/lib.rt:222:5
 loop-again : tie.Need-loop-again Inv-loop μ-loop
 loop-again c = (search needs, bound-more (valueIn (now (c .before .before .before .before .before .before .before .args .assignment))) (sizesOf (c .before .before .before .before .before .before .before .args .s)) (c .before .before .before .before .before .before .before .args .k) (c .before .before .before .before .signed-holds .result) (c .before .before .before .loop .j) (c .before .next-below-var .ensures) (c .before .before .before .loop .inv .1) (c .signed-holds2 .ensures))
 
--- src/lib.rt:216:1
 returns : tie.Need-returns Inv-loop μ-loop
 returns c = bound-all (valueIn (now (c .before .before .before .before .before .args .assignment))) (sizesOf (c .before .before .before .before .before .args .s)) (c .before .before .before .before .before .args .k) (c .before .before .before .before .before .args .r .0) (c .before .before .before .before .before .args .b) (c .before .before .before .body-var .ensures) (c .before .before .signed-holds .ensures) (c .before .loop .inv .0) (c .loop-test .left) (c .before .loop .inv .1)
 

@@ -4,24 +4,16 @@ use Rattle.row_truth.proofs.RowLaws.{first-bit}
 use borrow.Author.Needs.{needs}
 use Rattle.row_truth.proofs.first_bit_holds.Statement.{statement}
 use Rattle.row_truth.proofs.first_bit_holds.Tie as tie
-use Rattle.row_truth.proofs.first_bit_holds.Reads as reads
-use Rattle.row_truth.proofs.first_bit_holds.Lts as lts
-use Rattle.row_truth.proofs.three_hold.Reads as three-hold-reads
-use Rattle.row_truth.proofs.two_hold.Reads as two-hold-reads
 
--- src/lib.rt:160:5
 two-hold-requires : tie.Need-two-hold-requires
 two-hold-requires c κs = search needs
 
--- src/lib.rt:161:11
 two-hold-requires-2 : tie.Need-two-hold-requires-2
 two-hold-requires-2 c κs = search needs
 
--- src/lib.rt:162:11
 three-hold-requires : tie.Need-three-hold-requires
 three-hold-requires c κs = search needs
 
--- src/lib.rt:153:1
 returns : tie.Need-returns
 returns c = first-bit (valueIn (now (c .before .before .before .before .before .before .before .args .assignment))) (c .before .before .before .before .before .before .before .args .c) (c .before .before .two-hold .ensures) (c .before .two-hold2 .ensures) (c .three-hold .ensures)
 

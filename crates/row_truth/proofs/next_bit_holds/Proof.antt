@@ -5,35 +5,25 @@ use Rattle.row_truth.proofs.RowLaws.{next-bit}
 use borrow.Author.Needs.{needs}
 use Rattle.row_truth.proofs.next_bit_holds.Statement.{statement}
 use Rattle.row_truth.proofs.next_bit_holds.Tie as tie
-use Rattle.row_truth.proofs.next_bit_holds.Reads as reads
-use Rattle.row_truth.proofs.next_bit_holds.Lts as lts
-use Rattle.row_truth.proofs.three_hold.Reads as three-hold-reads
 
--- src/lib.rt:173:5
 three-hold-requires : tie.Need-three-hold-requires
 three-hold-requires c κs = search needs
 
--- src/lib.rt:174:11
 three-hold-requires-2 : tie.Need-three-hold-requires-2
 three-hold-requires-2 c κs = (c .before .before .before .before .before .before .pre .z-in, c .before .before .before .before .before .before .pre .x-in, c .before .before .before .before .before .before .pre .g-in (λ e. omega (arith, e)))
 
--- src/lib.rt:175:11
 three-hold-requires-3 : tie.Need-three-hold-requires-3
 three-hold-requires-3 c κs = (c .before .before .before .before .before .before .before .pre .z-in, c .before .before .before .before .before .before .before .pre .y-in, c .before .before .before .before .before .before .before .pre .g-in (λ e. omega (arith, e)))
 
--- src/lib.rt:176:11
 three-hold-requires-4 : tie.Need-three-hold-requires-4
 three-hold-requires-4 c κs = search needs
 
--- src/lib.rt:177:11
 three-hold-requires-5 : tie.Need-three-hold-requires-5
 three-hold-requires-5 c κs = (c .before .before .before .before .before .before .before .before .before .pre .z-in, c .before .before .before .before .before .before .before .before .before .pre .x-in, c .before .before .before .before .before .before .before .before .before .pre .g-in (λ e. omega (arith, e)))
 
--- src/lib.rt:178:11
 three-hold-requires-6 : tie.Need-three-hold-requires-6
 three-hold-requires-6 c κs = (c .before .before .before .before .before .before .before .before .before .before .pre .z-in, c .before .before .before .before .before .before .before .before .before .before .pre .y-in, c .before .before .before .before .before .before .before .before .before .before .pre .g-in (λ e. omega (arith, e)))
 
--- src/lib.rt:165:1
 returns : tie.Need-returns
 returns c = next-bit (valueIn (now (c .before .before .before .before .before .before .before .before .before .before .before .args .assignment))) (c .before .before .before .before .before .before .before .before .before .before .before .args .c) (c .before .before .before .before .before .three-hold .ensures) (c .before .before .before .before .three-hold2 .ensures) (c .before .before .before .three-hold3 .ensures) (c .before .before .three-hold4 .ensures) (c .before .three-hold5 .ensures) (c .three-hold6 .ensures)
 

@@ -12,13 +12,6 @@ use Rattle.row_truth.specs.Values.{valueIn}
 use Rattle.row_truth.proofs.RowLaws.{lowTo, lower-more, lower-fails, low-more, long-is}
 use Rattle.row_truth.proofs.next_row_holds.Statement.{statement}
 use Rattle.row_truth.proofs.next_row_holds.Tie as tie
-use Rattle.row_truth.proofs.next_row_holds.Reads as reads
-use Rattle.row_truth.proofs.next_row_holds.Lts as lts
-use Rattle.literals.proofs.level_var.Reads as level-var-reads
-use Rattle.literals.proofs.next_var.Reads as next-var-reads
-use Rattle.row_truth.proofs.long_hold.Reads as long-hold-reads
-use Rattle.row_truth.proofs.lower_holds.Reads as lower-holds-reads
-use Rattle.row_truth.proofs.signed_holds.Reads as signed-holds-reads
 
 abbrev Inv-loop : tie.InvT-loop
 Inv-loop s a i assignment u v low₀ j₀ low j = (j < i) × (allTo (2 * j) (nextClause (valueIn assignment) (sizesOf s) (a .0) i) ≡ true) × (low ≡ lowTo (valueIn assignment) (sizesOf s) (a .0) i j)
@@ -26,59 +19,45 @@ Inv-loop s a i assignment u v low₀ j₀ low j = (j < i) × (allTo (2 * j) (nex
 abbrev μ-loop : tie.MeasureT-loop
 μ-loop s a i assignment u v low₀ j₀ low j = i - j
 
--- src/lib.rt:215:9
 next-var-requires : tie.Need-next-var-requires Inv-loop μ-loop
 next-var-requires c κs = search needs
 
--- src/lib.rt:216:9
 level-var-requires : tie.Need-level-var-requires Inv-loop μ-loop
 level-var-requires c κs = search needs
 
--- src/lib.rt:219:5
 loop-holds : tie.Need-loop-holds Inv-loop μ-loop
 loop-holds c = (c .before .before .before .pre .3, refl, refl)
 
--- src/lib.rt:219:11
 add-loop : tie.Need-add-loop Inv-loop μ-loop
 add-loop c = search needs
 
--- src/lib.rt:220:33
 add-level-var : tie.Need-add-level-var Inv-loop μ-loop
 add-level-var c = search needs
 
--- src/lib.rt:220:13
 level-var-requires-2 : tie.Need-level-var-requires-2 Inv-loop μ-loop
 level-var-requires-2 c κs = search needs
 
--- src/lib.rt:221:13
 lower-holds-requires : tie.Need-lower-holds-requires Inv-loop μ-loop
 lower-holds-requires c κs = ((omega (arith, c .level-var2 .ensures), omega (arith, c .level-var2 .ensures, c .before .loop-test .taken)), (omega (arith, c .before .before .before .before .next-var .ensures), omega (arith, c .before .before .before .before .next-var .ensures)), (omega (arith, c .before .before .before .level-var .ensures), omega (arith, c .before .before .before .level-var .ensures)))
 
--- src/lib.rt:222:13
 returns : tie.Need-returns Inv-loop μ-loop
 returns c = lower-fails (valueIn (now (c .before .before .before .before .before .before .before .before .args .assignment))) (sizesOf (c .before .before .before .before .before .before .before .before .args .s)) (c .before .before .before .before .before .before .before .before .args .a .0) (c .before .before .before .before .before .before .before .before .args .i) (c .before .before .before .before .loop .j) (c .before .before .before .loop-test .taken) (c .before .before .level-var2 .ensures) (c .before .before .before .before .before .before .next-var .ensures) (c .before .before .before .before .before .level-var .ensures) (c .before .lower-holds .ensures) (not-true _ (c .if1 .taken))
 
--- src/lib.rt:224:21
 signed-holds-requires : tie.Need-signed-holds-requires Inv-loop μ-loop
 signed-holds-requires c κs = (omega (arith, c .before .before .level-var2 .ensures), omega (arith, c .before .before .level-var2 .ensures, c .before .before .before .loop-test .taken))
 
--- src/lib.rt:225:9
 add-j : tie.Need-add-j Inv-loop μ-loop
 add-j c = search needs
 
--- src/lib.rt:219:5
 loop-less : tie.Need-loop-less Inv-loop μ-loop
 loop-less c = search needs
 
--- src/lib.rt:219:5
 loop-again : tie.Need-loop-again Inv-loop μ-loop
 loop-again c = (search needs, lower-more (valueIn (now (c .before .before .before .before .before .before .before .before .before .args .assignment))) (sizesOf (c .before .before .before .before .before .before .before .before .before .args .s)) (c .before .before .before .before .before .before .before .before .before .args .a .0) (c .before .before .before .before .before .before .before .before .before .args .i) (c .before .before .before .before .before .loop .j) (c .before .before .before .before .loop-test .taken) (c .before .before .before .level-var2 .ensures) (c .before .before .before .before .before .before .before .next-var .ensures) (c .before .before .before .before .before .before .level-var .ensures) (c .before .before .lower-holds .ensures) (not-false _ (c .before .if1 .left)) (c .before .before .before .before .before .loop .inv .1), low-more (valueIn (now (c .before .before .before .before .before .before .before .before .before .args .assignment))) (sizesOf (c .before .before .before .before .before .before .before .before .before .args .s)) (c .before .before .before .before .before .before .before .before .before .args .a .0) (c .before .before .before .before .before .before .before .before .before .args .i) (c .before .before .before .before .before .loop .j) (c .before .before .before .level-var2 .ensures) (c .before .before .before .before .before .loop .inv .2) (c .signed-holds .ensures))
 
--- src/lib.rt:227:5
 long-hold-requires : tie.Need-long-hold-requires Inv-loop μ-loop
 long-hold-requires c κs = ((omega (arith, c .before .before .before .next-var .ensures), omega (arith, c .before .before .before .next-var .ensures)), (omega (arith, c .before .before .level-var .ensures), omega (arith, c .before .before .level-var .ensures)))
 
--- src/lib.rt:211:1
 returns-2 : tie.Need-returns-2 Inv-loop μ-loop
 returns-2 c = long-is (valueIn (now (c .before .before .before .before .before .before .args .assignment))) (sizesOf (c .before .before .before .before .before .before .args .s)) (c .before .before .before .before .before .before .args .a .0) (c .before .before .before .before .before .before .args .i) (c .before .before .loop .j) (c .before .before .loop .inv .0) (c .before .loop-test .left) (c .before .before .before .before .next-var .ensures) (c .before .before .before .level-var .ensures) (c .before .before .loop .inv .1) (c .before .before .loop .inv .2) (c .long-hold .ensures)
 

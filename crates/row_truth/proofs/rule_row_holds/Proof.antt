@@ -6,33 +6,22 @@ use Rattle.row_truth.proofs.RuleLaws.{rule-fails, rule-fact, rule-bound
 use borrow.Author.Needs.{needs}
 use Rattle.row_truth.proofs.rule_row_holds.Statement.{statement}
 use Rattle.row_truth.proofs.rule_row_holds.Tie as tie
-use Rattle.row_truth.proofs.rule_row_holds.Reads as reads
-use Rattle.row_truth.proofs.rule_row_holds.Lts as lts
-use Rattle.row_truth.proofs.bound_holds.Reads as bound-holds-reads
-use Rattle.row_truth.proofs.fact_holds.Reads as fact-holds-reads
-use Rattle.row_truth.proofs.founds_hold.Reads as founds-hold-reads
 
--- src/lib.rt:235:9
 founds-hold-requires : tie.Need-founds-hold-requires
 founds-hold-requires c κs = search needs
 
--- src/lib.rt:236:9
 returns : tie.Need-returns
 returns c = rule-fails (valueIn (now (c .before .before .before .args .assignment))) (sizesOf (c .before .before .before .args .s)) (c .before .before .before .args .r .0) (c .before .before .before .args .h .0) (c .before .before .before .args .k) (c .before .before .before .args .b) (c .before .founds-hold .ensures) (not-true _ (c .if1 .taken))
 
--- src/lib.rt:239:9
 fact-holds-requires : tie.Need-fact-holds-requires
 fact-holds-requires c κs = (c .before .before .before .before .pre .0, c .before .before .before .before .pre .1, c .before .before .before .before .pre .2, c .before .before .before .before .pre .3, c .before .before .before .before .pre .4, fact-asks (sizesOf (c .before .before .before .before .args .s)) (c .before .before .before .before .args .k) (c .before .before .before .before .args .b) (c .before .before .before .before .pre .6))
 
--- src/lib.rt:239:9
 returns-2 : tie.Need-returns-2
 returns-2 c = rule-fact (valueIn (now (c .before .before .before .before .before .args .assignment))) (sizesOf (c .before .before .before .before .before .args .s)) (c .before .before .before .before .before .args .r .0) (c .before .before .before .before .before .args .h .0) (c .before .before .before .before .before .args .k) (c .before .before .before .before .before .args .b) (c .before .before .before .founds-hold .ensures) (not-false _ (c .before .before .if1 .left)) (c .before .if2 .taken) (c .fact-holds .ensures)
 
--- src/lib.rt:241:5
 bound-holds-requires : tie.Need-bound-holds-requires
 bound-holds-requires c κs = search needs
 
--- src/lib.rt:231:1
 returns-3 : tie.Need-returns-3
 returns-3 c = rule-bound (valueIn (now (c .before .before .before .before .before .args .assignment))) (sizesOf (c .before .before .before .before .before .args .s)) (c .before .before .before .before .before .args .r .0) (c .before .before .before .before .before .args .h .0) (c .before .before .before .before .before .args .k) (c .before .before .before .before .before .args .b) (c .before .before .before .founds-hold .ensures) (not-false _ (c .before .before .if1 .left)) (c .before .if2 .left) (c .bound-holds .ensures)
 

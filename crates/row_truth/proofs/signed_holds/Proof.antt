@@ -11,33 +11,22 @@ use Rattle.row_truth.proofs.Values.{literal-asks, literal-true}
 use borrow.Author.Needs.{needs}
 use Rattle.row_truth.proofs.signed_holds.Statement.{statement}
 use Rattle.row_truth.proofs.signed_holds.Tie as tie
-use Rattle.row_truth.proofs.signed_holds.Reads as reads
-use Rattle.row_truth.proofs.signed_holds.Lts as lts
-use Rattle.literals.proofs.literal.Reads as literal-reads
-use Rattle.literals.proofs.negated.Reads as negated-reads
-use Rattle.row_truth.proofs.holds.Reads as holds-reads
 
--- src/lib.rt:55:22
 literal-requires : tie.Need-literal-requires
 literal-requires c κs = search needs
 
--- src/lib.rt:55:9
 holds-requires : tie.Need-holds-requires
 holds-requires c κs = literal-asks (now (c .before .before .before .args .assignment)) (var (c .before .before .before .args .v .0)) (toZ-ofZ (sfits-of {w = w32} (c .literal .ok)) ∙ c .literal .ensures) (c .before .before .before .pre .0) (search needs) (c .before .before .before .pre .1)
 
--- src/lib.rt:55:9
 returns : tie.Need-returns
 returns c = literal-true (now (c .before .before .before .before .args .assignment)) (var (c .before .before .before .before .args .v .0)) (toZ-ofZ (sfits-of {w = w32} (c .before .literal .ok)) ∙ c .before .literal .ensures) (c .before .before .before .before .pre .0) (c .holds .ensures) ∙ ap (λ (d : Bool). literalTrue (valueIn (now (c .before .before .before .before .args .assignment))) (signed d (c .before .before .before .before .args .v .0))) (sym (c .before .before .if1 .taken))
 
--- src/lib.rt:57:11
 negated-requires : tie.Need-negated-requires
 negated-requires c κs = search needs
 
--- src/lib.rt:57:5
 holds-requires-2 : tie.Need-holds-requires-2
 holds-requires-2 c κs = literal-asks (now (c .before .before .before .args .assignment)) (− (c .before .before .before .args .v .0)) (toZ-ofZ (sfits-of {w = w32} (c .negated .ok)) ∙ c .negated .ensures) (c .before .before .before .pre .0) (search needs) (c .before .before .before .pre .1)
 
--- src/lib.rt:50:1
 returns-2 : tie.Need-returns-2
 returns-2 c = literal-true (now (c .before .before .before .before .args .assignment)) (− (c .before .before .before .before .args .v .0)) (toZ-ofZ (sfits-of {w = w32} (c .before .negated .ok)) ∙ c .before .negated .ensures) (c .before .before .before .before .pre .0) (c .holds2 .ensures) ∙ ap (λ (d : Bool). literalTrue (valueIn (now (c .before .before .before .before .args .assignment))) (signed d (c .before .before .before .before .args .v .0))) (sym (c .before .before .if1 .left))
 

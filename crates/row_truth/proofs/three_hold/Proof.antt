@@ -1,23 +1,16 @@
 use borrow.Author.Needs.{needs}
 use Rattle.row_truth.proofs.three_hold.Statement.{statement}
 use Rattle.row_truth.proofs.three_hold.Tie as tie
-use Rattle.row_truth.proofs.three_hold.Reads as reads
-use Rattle.row_truth.proofs.three_hold.Lts as lts
-use Rattle.row_truth.proofs.signed_holds.Reads as signed-holds-reads
 
--- src/lib.rt:149:5
 signed-holds-requires : tie.Need-signed-holds-requires
 signed-holds-requires c κs = search needs
 
--- src/lib.rt:149:38
 signed-holds-requires-2 : tie.Need-signed-holds-requires-2
 signed-holds-requires-2 c κs = search needs
 
--- src/lib.rt:149:71
 signed-holds-requires-3 : tie.Need-signed-holds-requires-3
 signed-holds-requires-3 c κs = search needs
 
--- src/lib.rt:145:1
 returns : tie.Need-returns
 returns c = cc
 

@@ -1,19 +1,13 @@
 use borrow.Author.Needs.{needs}
 use Rattle.row_truth.proofs.two_hold.Statement.{statement}
 use Rattle.row_truth.proofs.two_hold.Tie as tie
-use Rattle.row_truth.proofs.two_hold.Reads as reads
-use Rattle.row_truth.proofs.two_hold.Lts as lts
-use Rattle.row_truth.proofs.signed_holds.Reads as signed-holds-reads
 
--- src/lib.rt:142:5
 signed-holds-requires : tie.Need-signed-holds-requires
 signed-holds-requires c κs = search needs
 
--- src/lib.rt:142:38
 signed-holds-requires-2 : tie.Need-signed-holds-requires-2
 signed-holds-requires-2 c κs = search needs
 
--- src/lib.rt:138:1
 returns : tie.Need-returns
 returns c = cc
 

@@ -12,11 +12,6 @@ use Rattle.row_truth.specs.Values.{valueIn}
 use Rattle.row_truth.proofs.RowLaws.{zero-more, zero-fails, zero-all}
 use Rattle.row_truth.proofs.zero_row_holds.Statement.{statement}
 use Rattle.row_truth.proofs.zero_row_holds.Tie as tie
-use Rattle.row_truth.proofs.zero_row_holds.Reads as reads
-use Rattle.row_truth.proofs.zero_row_holds.Lts as lts
-use Rattle.literals.proofs.level_var.Reads as level-var-reads
-use Rattle.numbers.proofs.atom_var.Reads as atom-var-reads
-use Rattle.row_truth.proofs.two_hold.Reads as two-hold-reads
 
 abbrev Inv-loop : tie.InvT-loop
 Inv-loop s a assignment w y₀ y = (y ≤ s .w) × (allTo y (zeroClause (valueIn assignment) (sizesOf s) (a .0)) ≡ true)
@@ -24,43 +19,33 @@ Inv-loop s a assignment w y₀ y = (y ≤ s .w) × (allTo y (zeroClause (valueIn
 abbrev μ-loop : tie.MeasureT-loop
 μ-loop s a assignment w y₀ y = w - y
 
--- src/lib.rt:237:5
 loop-holds : tie.Need-loop-holds Inv-loop μ-loop
 loop-holds c = (search needs, refl)
 
--- src/lib.rt:238:28
 atom-var-requires : tie.Need-atom-var-requires Inv-loop μ-loop
 atom-var-requires c κs = search needs
 
--- src/lib.rt:238:64
 add-level-var : tie.Need-add-level-var Inv-loop μ-loop
 add-level-var c = search needs
 
--- src/lib.rt:238:48
 level-var-requires : tie.Need-level-var-requires Inv-loop μ-loop
 level-var-requires c κs = search needs
 
--- src/lib.rt:238:13
 two-hold-requires : tie.Need-two-hold-requires Inv-loop μ-loop
 two-hold-requires c κs = ((omega (arith, c .before .atom-var .ensures), omega (arith, c .before .atom-var .ensures)), (omega (arith, c .level-var .ensures), omega (arith, c .level-var .ensures)))
 
--- src/lib.rt:239:13
 returns : tie.Need-returns Inv-loop μ-loop
 returns c = zero-fails (valueIn (now (c .before .before .before .before .before .before .before .args .assignment))) (sizesOf (c .before .before .before .before .before .before .before .args .s)) (c .before .before .before .before .before .before .before .args .a .0) (c .before .before .before .before .before .loop .y) (c .before .before .before .atom-var .ensures) (c .before .before .level-var .ensures) (c .before .two-hold .ensures) (search needs) (not-true _ (c .if1 .taken))
 
--- src/lib.rt:241:9
 add-y : tie.Need-add-y Inv-loop μ-loop
 add-y c = search needs
 
--- src/lib.rt:237:5
 loop-less : tie.Need-loop-less Inv-loop μ-loop
 loop-less c = search needs
 
--- src/lib.rt:237:5
 loop-again : tie.Need-loop-again Inv-loop μ-loop
 loop-again c = (search needs, zero-more (valueIn (now (c .before .before .before .before .before .before .before .args .assignment))) (sizesOf (c .before .before .before .before .before .before .before .args .s)) (c .before .before .before .before .before .before .before .args .a .0) (c .before .before .before .before .before .loop .y) (c .before .before .before .atom-var .ensures) (c .before .before .level-var .ensures) (c .before .two-hold .ensures) (not-false _ (c .if1 .left)) (c .before .before .before .before .before .loop .inv .1))
 
--- src/lib.rt:231:1
 returns-2 : tie.Need-returns-2 Inv-loop μ-loop
 returns-2 c = zero-all (valueIn (now (c .before .before .before .args .assignment))) (sizesOf (c .before .before .before .args .s)) (c .before .before .before .args .a .0) (c .before .loop .inv .0) (search needs) (c .before .loop .inv .1)
 

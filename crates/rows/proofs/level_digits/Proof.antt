@@ -4,20 +4,13 @@ use mathlib.Core.Path.{_∙_, ap}
 use borrow.Author.Needs.{needs}
 use Rattle.rows.proofs.level_digits.Statement.{statement}
 use Rattle.rows.proofs.level_digits.Tie as tie
-use Rattle.rows.proofs.level_digits.Reads as reads
-use Rattle.rows.proofs.level_digits.Lts as lts
-use Rattle.digits.proofs.numeral_of.Reads as numeral-of-reads
-use Rattle.literals.proofs.level_var.Reads as level-var-reads
 
--- src/lib.rt:129:16
 level-var-requires : tie.Need-level-var-requires
 level-var-requires c κs = search needs
 
--- src/lib.rt:129:5
 numeral-of-requires : tie.Need-numeral-of-requires
 numeral-of-requires c κs = number-fits (c .level-var .ensures) (level-short (c .before .args .s) (c .before .pre .0) (c .before .args .a .0) (c .before .pre .2) (c .before .args .j) (c .before .pre .3) (c .before .pre .4))
 
--- src/lib.rt:125:1
 returns : tie.Need-returns
 returns c = c .numeral-of .ensures ∙ ap numeralOf (c .before .level-var .ensures)
 

@@ -4,11 +4,6 @@ use Rattle.rows.proofs.Bits.{first-bit, next-bit, sign-fits}
 use borrow.Author.Needs.{needs}
 use Rattle.rows.proofs.put_bit.Statement.{statement}
 use Rattle.rows.proofs.put_bit.Tie as tie
-use Rattle.rows.proofs.put_bit.Reads as reads
-use Rattle.rows.proofs.put_bit.Lts as lts
-use Rattle.digits.proofs.numeral_of.Reads as numeral-of-reads
-use Rattle.rows.proofs.put_first_bit.Reads as put-first-bit-reads
-use Rattle.rows.proofs.put_next_bit.Reads as put-next-bit-reads
 
 numeral-of-requires : tie.Need-numeral-of-requires
 numeral-of-requires c κs = c .before .pre .0 .short-z .fits

@@ -4,8 +4,6 @@ use Rattle.rows.proofs.Bits.{end-stores}
 use borrow.Author.Needs.{needs}
 use Rattle.rows.proofs.put_end.Statement.{statement}
 use Rattle.rows.proofs.put_end.Tie as tie
-use Rattle.rows.proofs.put_end.Reads as reads
-use Rattle.rows.proofs.put_end.Lts as lts
 
 slice-write-buf : tie.Need-slice-write-buf
 slice-write-buf c = search needs

@@ -6,10 +6,6 @@ use Rattle.digits.proofs.Begins.{begins-word, begins-more, begins-room, begins-
 use borrow.Author.Needs.{needs}
 use Rattle.rows.proofs.put_first_bit.Statement.{statement}
 use Rattle.rows.proofs.put_first_bit.Tie as tie
-use Rattle.rows.proofs.put_first_bit.Reads as reads
-use Rattle.rows.proofs.put_first_bit.Lts as lts
-use Rattle.rows.proofs.put_three.Reads as put-three-reads
-use Rattle.rows.proofs.put_two.Reads as put-two-reads
 
 put-two-requires : tie.Need-put-two-requires
 unfolding firstText

@@ -6,9 +6,6 @@ use Rattle.digits.proofs.Begins.{begins-word, begins-more, begins-room, begins-
 use borrow.Author.Needs.{needs}
 use Rattle.rows.proofs.put_next_bit.Statement.{statement}
 use Rattle.rows.proofs.put_next_bit.Tie as tie
-use Rattle.rows.proofs.put_next_bit.Reads as reads
-use Rattle.rows.proofs.put_next_bit.Lts as lts
-use Rattle.rows.proofs.put_three.Reads as put-three-reads
 
 put-three-requires : tie.Need-put-three-requires
 unfolding nextText

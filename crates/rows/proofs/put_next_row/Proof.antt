@@ -10,87 +10,61 @@ use Prim.Native.Nat.{_-_}
 use borrow.Author.Needs.{needs}
 use Rattle.rows.proofs.put_next_row.Statement.{statement}
 use Rattle.rows.proofs.put_next_row.Tie as tie
-use Rattle.rows.proofs.put_next_row.Reads as reads
-use Rattle.rows.proofs.put_next_row.Lts as lts
-use Rattle.digits.proofs.numeral_of.Reads as numeral-of-reads
-use Rattle.literals.proofs.next_var.Reads as next-var-reads
-use Rattle.rows.proofs.level_digits.Reads as level-digits-reads
-use Rattle.rows.proofs.put_long.Reads as put-long-reads
-use Rattle.rows.proofs.put_pairs.Reads as put-pairs-reads
 
--- src/lib.rt:185:24
 next-var-requires : tie.Need-next-var-requires
 next-var-requires c κs = search needs
 
--- src/lib.rt:185:9
 numeral-of-requires : tie.Need-numeral-of-requires
 numeral-of-requires c κs = number-fits (c .next-var .ensures) (next-short (c .before .before .args .s) (c .before .before .pre .0) (c .before .before .args .a .0) (c .before .before .pre .2) (c .before .before .args .i) (c .before .before .pre .3) (c .before .before .pre .4))
 
--- src/lib.rt:186:9
 level-digits-requires : tie.Need-level-digits-requires
 level-digits-requires c κs = (c .before .before .before .pre .0, c .before .before .before .pre .1, c .before .before .before .pre .2, c .before .before .before .pre .3, c .before .before .before .pre .4)
 
--- src/lib.rt:187:34
 sub-put-pairs : tie.Need-sub-put-pairs
 sub-put-pairs c = search needs
 
--- src/lib.rt:187:9
 put-pairs-requires : tie.Need-put-pairs-requires
 put-pairs-requires c κs = (c .before .before .before .before .before .pre .0, c .before .before .before .before .before .pre .1, c .before .before .before .before .before .pre .2, omega (arith, c .before .before .before .before .before .pre .4), front-fits (pairsText (sizesOf (c .before .before .before .before .before .args .s)) (c .before .before .before .before .before .args .a .0) (c .before .before .before .before .before .args .i - 1) (c .before .before .numeral-of .result) (c .before .level-digits .result)) (longText (sizesOf (c .before .before .before .before .before .args .s)) (c .before .before .before .before .before .args .a .0) (c .before .before .before .before .before .args .i - 1) false (c .before .before .numeral-of .result) (c .before .level-digits .result)) (front-fits (pairsText (sizesOf (c .before .before .before .before .before .args .s)) (c .before .before .before .before .before .args .a .0) (c .before .before .before .before .before .args .i - 1) (c .before .before .numeral-of .result) (c .before .level-digits .result) ++ longText (sizesOf (c .before .before .before .before .before .args .s)) (c .before .before .before .before .before .args .a .0) (c .before .before .before .before .before .args .i - 1) false (c .before .before .numeral-of .result) (c .before .level-digits .result)) (longText (sizesOf (c .before .before .before .before .before .args .s)) (c .before .before .before .before .before .args .a .0) (c .before .before .before .before .before .args .i - 1) true (c .before .before .numeral-of .result) (c .before .level-digits .result)) (sign-fits (row-is (sizesOf (c .before .before .before .before .before .args .s)) (c .before .before .before .before .before .args .a .0) (c .before .before .before .before .before .args .i) (c .before .before .numeral-of .ensures) (c .before .before .before .next-var .ensures) (c .before .level-digits .ensures)) (c .before .before .before .before .before .pre .5))))
 
--- src/lib.rt:188:26
 sub-put-long : tie.Need-sub-put-long
 sub-put-long c = search needs
 
--- src/lib.rt:188:46
 sub-put-long-2 : tie.Need-sub-put-long-2
 sub-put-long-2 c = begins-room (begins-word (pairsText (sizesOf (c .before .before .before .before .before .before .before .before .args .s)) (c .before .before .before .before .before .before .before .before .args .a .0) (c .before .before .before .before .before .before .before .before .args .i - 1) (c .before .before .before .before .before .numeral-of .result) (c .before .before .before .before .level-digits .result)) (c .before .before .put-pairs .kept .1 .1 .1 .1 .1 .0) (c .before .before .put-pairs .ensures)) (longText (sizesOf (c .before .before .before .before .before .before .before .before .args .s)) (c .before .before .before .before .before .before .before .before .args .a .0) (c .before .before .before .before .before .before .before .before .args .i - 1) false (c .before .before .before .before .before .numeral-of .result) (c .before .before .before .before .level-digits .result)) (front-fits (pairsText (sizesOf (c .before .before .before .before .before .before .before .before .args .s)) (c .before .before .before .before .before .before .before .before .args .a .0) (c .before .before .before .before .before .before .before .before .args .i - 1) (c .before .before .before .before .before .numeral-of .result) (c .before .before .before .before .level-digits .result) ++ longText (sizesOf (c .before .before .before .before .before .before .before .before .args .s)) (c .before .before .before .before .before .before .before .before .args .a .0) (c .before .before .before .before .before .before .before .before .args .i - 1) false (c .before .before .before .before .before .numeral-of .result) (c .before .before .before .before .level-digits .result)) (longText (sizesOf (c .before .before .before .before .before .before .before .before .args .s)) (c .before .before .before .before .before .before .before .before .args .a .0) (c .before .before .before .before .before .before .before .before .args .i - 1) true (c .before .before .before .before .before .numeral-of .result) (c .before .before .before .before .level-digits .result)) (sign-fits (row-is (sizesOf (c .before .before .before .before .before .before .before .before .args .s)) (c .before .before .before .before .before .before .before .before .args .a .0) (c .before .before .before .before .before .before .before .before .args .i) (c .before .before .before .before .before .numeral-of .ensures) (c .before .before .before .before .before .before .next-var .ensures) (c .before .before .before .before .level-digits .ensures)) (c .before .before .before .before .before .before .before .before .pre .5)))
 
--- src/lib.rt:188:46
 part-put-long-start : tie.Need-part-put-long-start
 part-put-long-start c = begins-room (begins-word (pairsText (sizesOf (c .before .before .before .before .before .before .before .before .args .s)) (c .before .before .before .before .before .before .before .before .args .a .0) (c .before .before .before .before .before .before .before .before .args .i - 1) (c .before .before .before .before .before .numeral-of .result) (c .before .before .before .before .level-digits .result)) (c .before .before .put-pairs .kept .1 .1 .1 .1 .1 .0) (c .before .before .put-pairs .ensures)) (longText (sizesOf (c .before .before .before .before .before .before .before .before .args .s)) (c .before .before .before .before .before .before .before .before .args .a .0) (c .before .before .before .before .before .before .before .before .args .i - 1) false (c .before .before .before .before .before .numeral-of .result) (c .before .before .before .before .level-digits .result)) (front-fits (pairsText (sizesOf (c .before .before .before .before .before .before .before .before .args .s)) (c .before .before .before .before .before .before .before .before .args .a .0) (c .before .before .before .before .before .before .before .before .args .i - 1) (c .before .before .before .before .before .numeral-of .result) (c .before .before .before .before .level-digits .result) ++ longText (sizesOf (c .before .before .before .before .before .before .before .before .args .s)) (c .before .before .before .before .before .before .before .before .args .a .0) (c .before .before .before .before .before .before .before .before .args .i - 1) false (c .before .before .before .before .before .numeral-of .result) (c .before .before .before .before .level-digits .result)) (longText (sizesOf (c .before .before .before .before .before .before .before .before .args .s)) (c .before .before .before .before .before .before .before .before .args .a .0) (c .before .before .before .before .before .before .before .before .args .i - 1) true (c .before .before .before .before .before .numeral-of .result) (c .before .before .before .before .level-digits .result)) (sign-fits (row-is (sizesOf (c .before .before .before .before .before .before .before .before .args .s)) (c .before .before .before .before .before .before .before .before .args .a .0) (c .before .before .before .before .before .before .before .before .args .i) (c .before .before .before .before .before .numeral-of .ensures) (c .before .before .before .before .before .before .next-var .ensures) (c .before .before .before .before .level-digits .ensures)) (c .before .before .before .before .before .before .before .before .pre .5)))
 
--- src/lib.rt:188:46
 part-put-long-end : tie.Need-part-put-long-end
 part-put-long-end c = search needs
 
--- src/lib.rt:188:11
 put-long-requires : tie.Need-put-long-requires
 put-long-requires c κs = (c .before .before .before .before .before .before .before .before .before .pre .0, c .before .before .before .before .before .before .before .before .before .pre .1, c .before .before .before .before .before .before .before .before .before .pre .2, omega (arith, c .before .before .before .before .before .before .before .before .before .pre .4), begins-tail (begins-word (pairsText (sizesOf (c .before .before .before .before .before .before .before .before .before .args .s)) (c .before .before .before .before .before .before .before .before .before .args .a .0) (c .before .before .before .before .before .before .before .before .before .args .i - 1) (c .before .before .before .before .before .before .numeral-of .result) (c .before .before .before .before .before .level-digits .result)) (c .before .before .before .put-pairs .kept .1 .1 .1 .1 .1 .0) (c .before .before .before .put-pairs .ensures)) (longText (sizesOf (c .before .before .before .before .before .before .before .before .before .args .s)) (c .before .before .before .before .before .before .before .before .before .args .a .0) (c .before .before .before .before .before .before .before .before .before .args .i - 1) false (c .before .before .before .before .before .before .numeral-of .result) (c .before .before .before .before .before .level-digits .result)) (front-fits (pairsText (sizesOf (c .before .before .before .before .before .before .before .before .before .args .s)) (c .before .before .before .before .before .before .before .before .before .args .a .0) (c .before .before .before .before .before .before .before .before .before .args .i - 1) (c .before .before .before .before .before .before .numeral-of .result) (c .before .before .before .before .before .level-digits .result) ++ longText (sizesOf (c .before .before .before .before .before .before .before .before .before .args .s)) (c .before .before .before .before .before .before .before .before .before .args .a .0) (c .before .before .before .before .before .before .before .before .before .args .i - 1) false (c .before .before .before .before .before .before .numeral-of .result) (c .before .before .before .before .before .level-digits .result)) (longText (sizesOf (c .before .before .before .before .before .before .before .before .before .args .s)) (c .before .before .before .before .before .before .before .before .before .args .a .0) (c .before .before .before .before .before .before .before .before .before .args .i - 1) true (c .before .before .before .before .before .before .numeral-of .result) (c .before .before .before .before .before .level-digits .result)) (sign-fits (row-is (sizesOf (c .before .before .before .before .before .before .before .before .before .args .s)) (c .before .before .before .before .before .before .before .before .before .args .a .0) (c .before .before .before .before .before .before .before .before .before .args .i) (c .before .before .before .before .before .before .numeral-of .ensures) (c .before .before .before .before .before .before .before .next-var .ensures) (c .before .before .before .before .before .level-digits .ensures)) (c .before .before .before .before .before .before .before .before .before .pre .5))))
 
--- src/lib.rt:188:5
 add-at : tie.Need-add-at
 add-at c = omega (arith, c .before .before .before .before .before .before .before .before .before .before .before .before .good .1 .1 .1 .0, begins-sum (begins-word (pairsText (sizesOf (c .before .before .before .before .before .before .before .before .before .before .before .before .args .s)) (c .before .before .before .before .before .before .before .before .before .before .before .before .args .a .0) (c .before .before .before .before .before .before .before .before .before .before .before .before .args .i - 1) (c .before .before .before .before .before .before .before .before .before .numeral-of .result) (c .before .before .before .before .before .before .before .before .level-digits .result)) (c .before .before .before .before .before .before .put-pairs .kept .1 .1 .1 .1 .1 .0) (c .before .before .before .before .before .before .put-pairs .ensures)) (longText (sizesOf (c .before .before .before .before .before .before .before .before .before .before .before .before .args .s)) (c .before .before .before .before .before .before .before .before .before .before .before .before .args .a .0) (c .before .before .before .before .before .before .before .before .before .before .before .before .args .i - 1) false (c .before .before .before .before .before .before .before .before .before .numeral-of .result) (c .before .before .before .before .before .before .before .before .level-digits .result)) (c .before .before .put-long .ensures .0) (front-fits (pairsText (sizesOf (c .before .before .before .before .before .before .before .before .before .before .before .before .args .s)) (c .before .before .before .before .before .before .before .before .before .before .before .before .args .a .0) (c .before .before .before .before .before .before .before .before .before .before .before .before .args .i - 1) (c .before .before .before .before .before .before .before .before .before .numeral-of .result) (c .before .before .before .before .before .before .before .before .level-digits .result) ++ longText (sizesOf (c .before .before .before .before .before .before .before .before .before .before .before .before .args .s)) (c .before .before .before .before .before .before .before .before .before .before .before .before .args .a .0) (c .before .before .before .before .before .before .before .before .before .before .before .before .args .i - 1) false (c .before .before .before .before .before .before .before .before .before .numeral-of .result) (c .before .before .before .before .before .before .before .before .level-digits .result)) (longText (sizesOf (c .before .before .before .before .before .before .before .before .before .before .before .before .args .s)) (c .before .before .before .before .before .before .before .before .before .before .before .before .args .a .0) (c .before .before .before .before .before .before .before .before .before .before .before .before .args .i - 1) true (c .before .before .before .before .before .before .before .before .before .numeral-of .result) (c .before .before .before .before .before .before .before .before .level-digits .result)) (sign-fits (row-is (sizesOf (c .before .before .before .before .before .before .before .before .before .before .before .before .args .s)) (c .before .before .before .before .before .before .before .before .before .before .before .before .args .a .0) (c .before .before .before .before .before .before .before .before .before .before .before .before .args .i) (c .before .before .before .before .before .before .before .before .before .numeral-of .ensures) (c .before .before .before .before .before .before .before .before .before .before .next-var .ensures) (c .before .before .before .before .before .before .before .before .level-digits .ensures)) (c .before .before .before .before .before .before .before .before .before .before .before .before .pre .5))))
 
--- src/lib.rt:189:26
 sub-put-long-3 : tie.Need-sub-put-long-3
 sub-put-long-3 c = search needs
 
--- src/lib.rt:189:45
 sub-put-long-4 : tie.Need-sub-put-long-4
 sub-put-long-4 c = begins-room (begins-more (begins-word (pairsText (sizesOf (c .before .before .before .before .before .before .before .before .before .before .before .before .args .s)) (c .before .before .before .before .before .before .before .before .before .before .before .before .args .a .0) (c .before .before .before .before .before .before .before .before .before .before .before .before .args .i - 1) (c .before .before .before .before .before .before .before .before .before .numeral-of .result) (c .before .before .before .before .before .before .before .before .level-digits .result)) (c .before .before .before .before .before .before .put-pairs .kept .1 .1 .1 .1 .1 .0) (c .before .before .before .before .before .before .put-pairs .ensures)) (longText (sizesOf (c .before .before .before .before .before .before .before .before .before .before .before .before .args .s)) (c .before .before .before .before .before .before .before .before .before .before .before .before .args .a .0) (c .before .before .before .before .before .before .before .before .before .before .before .before .args .i - 1) false (c .before .before .before .before .before .before .before .before .before .numeral-of .result) (c .before .before .before .before .before .before .before .before .level-digits .result)) (c .before .before .put-long .kept .1 .1 .1 .1 .1 .1 .0) (c .before .before .put-long .ensures)) (longText (sizesOf (c .before .before .before .before .before .before .before .before .before .before .before .before .args .s)) (c .before .before .before .before .before .before .before .before .before .before .before .before .args .a .0) (c .before .before .before .before .before .before .before .before .before .before .before .before .args .i - 1) true (c .before .before .before .before .before .before .before .before .before .numeral-of .result) (c .before .before .before .before .before .before .before .before .level-digits .result)) (sign-fits (row-is (sizesOf (c .before .before .before .before .before .before .before .before .before .before .before .before .args .s)) (c .before .before .before .before .before .before .before .before .before .before .before .before .args .a .0) (c .before .before .before .before .before .before .before .before .before .before .before .before .args .i) (c .before .before .before .before .before .before .before .before .before .numeral-of .ensures) (c .before .before .before .before .before .before .before .before .before .before .next-var .ensures) (c .before .before .before .before .before .before .before .before .level-digits .ensures)) (c .before .before .before .before .before .before .before .before .before .before .before .before .pre .5))
 
--- src/lib.rt:189:45
 part-put-long-start-2 : tie.Need-part-put-long-start-2
 part-put-long-start-2 c = begins-room (begins-more (begins-word (pairsText (sizesOf (c .before .before .before .before .before .before .before .before .before .before .before .before .args .s)) (c .before .before .before .before .before .before .before .before .before .before .before .before .args .a .0) (c .before .before .before .before .before .before .before .before .before .before .before .before .args .i - 1) (c .before .before .before .before .before .before .before .before .before .numeral-of .result) (c .before .before .before .before .before .before .before .before .level-digits .result)) (c .before .before .before .before .before .before .put-pairs .kept .1 .1 .1 .1 .1 .0) (c .before .before .before .before .before .before .put-pairs .ensures)) (longText (sizesOf (c .before .before .before .before .before .before .before .before .before .before .before .before .args .s)) (c .before .before .before .before .before .before .before .before .before .before .before .before .args .a .0) (c .before .before .before .before .before .before .before .before .before .before .before .before .args .i - 1) false (c .before .before .before .before .before .before .before .before .before .numeral-of .result) (c .before .before .before .before .before .before .before .before .level-digits .result)) (c .before .before .put-long .kept .1 .1 .1 .1 .1 .1 .0) (c .before .before .put-long .ensures)) (longText (sizesOf (c .before .before .before .before .before .before .before .before .before .before .before .before .args .s)) (c .before .before .before .before .before .before .before .before .before .before .before .before .args .a .0) (c .before .before .before .before .before .before .before .before .before .before .before .before .args .i - 1) true (c .before .before .before .before .before .before .before .before .before .numeral-of .result) (c .before .before .before .before .before .before .before .before .level-digits .result)) (sign-fits (row-is (sizesOf (c .before .before .before .before .before .before .before .before .before .before .before .before .args .s)) (c .before .before .before .before .before .before .before .before .before .before .before .before .args .a .0) (c .before .before .before .before .before .before .before .before .before .before .before .before .args .i) (c .before .before .before .before .before .before .before .before .before .numeral-of .ensures) (c .before .before .before .before .before .before .before .before .before .before .next-var .ensures) (c .before .before .before .before .before .before .before .before .level-digits .ensures)) (c .before .before .before .before .before .before .before .before .before .before .before .before .pre .5))
 
--- src/lib.rt:189:45
 part-put-long-end-2 : tie.Need-part-put-long-end-2
 part-put-long-end-2 c = search needs
 
--- src/lib.rt:189:11
 put-long-requires-2 : tie.Need-put-long-requires-2
 put-long-requires-2 c κs = (c .before .before .before .before .before .before .before .before .before .before .before .before .before .pre .0, c .before .before .before .before .before .before .before .before .before .before .before .before .before .pre .1, c .before .before .before .before .before .before .before .before .before .before .before .before .before .pre .2, omega (arith, c .before .before .before .before .before .before .before .before .before .before .before .before .before .pre .4), begins-tail (begins-more (begins-word (pairsText (sizesOf (c .before .before .before .before .before .before .before .before .before .before .before .before .before .args .s)) (c .before .before .before .before .before .before .before .before .before .before .before .before .before .args .a .0) (c .before .before .before .before .before .before .before .before .before .before .before .before .before .args .i - 1) (c .before .before .before .before .before .before .before .before .before .before .numeral-of .result) (c .before .before .before .before .before .before .before .before .before .level-digits .result)) (c .before .before .before .before .before .before .before .put-pairs .kept .1 .1 .1 .1 .1 .0) (c .before .before .before .before .before .before .before .put-pairs .ensures)) (longText (sizesOf (c .before .before .before .before .before .before .before .before .before .before .before .before .before .args .s)) (c .before .before .before .before .before .before .before .before .before .before .before .before .before .args .a .0) (c .before .before .before .before .before .before .before .before .before .before .before .before .before .args .i - 1) false (c .before .before .before .before .before .before .before .before .before .before .numeral-of .result) (c .before .before .before .before .before .before .before .before .before .level-digits .result)) (c .before .before .before .put-long .kept .1 .1 .1 .1 .1 .1 .0) (c .before .before .before .put-long .ensures)) (longText (sizesOf (c .before .before .before .before .before .before .before .before .before .before .before .before .before .args .s)) (c .before .before .before .before .before .before .before .before .before .before .before .before .before .args .a .0) (c .before .before .before .before .before .before .before .before .before .before .before .before .before .args .i - 1) true (c .before .before .before .before .before .before .before .before .before .before .numeral-of .result) (c .before .before .before .before .before .before .before .before .before .level-digits .result)) (sign-fits (row-is (sizesOf (c .before .before .before .before .before .before .before .before .before .before .before .before .before .args .s)) (c .before .before .before .before .before .before .before .before .before .before .before .before .before .args .a .0) (c .before .before .before .before .before .before .before .before .before .before .before .before .before .args .i) (c .before .before .before .before .before .before .before .before .before .before .numeral-of .ensures) (c .before .before .before .before .before .before .before .before .before .before .before .next-var .ensures) (c .before .before .before .before .before .before .before .before .before .level-digits .ensures)) (c .before .before .before .before .before .before .before .before .before .before .before .before .before .pre .5)))
 
--- src/lib.rt:189:5
 add-at-2 : tie.Need-add-at-2
 add-at-2 c = omega (arith, c .before .before .before .before .before .before .before .before .before .before .before .before .before .before .before .before .good .1 .1 .1 .0, begins-sum (begins-more (begins-word (pairsText (sizesOf (c .before .before .before .before .before .before .before .before .before .before .before .before .before .before .before .before .args .s)) (c .before .before .before .before .before .before .before .before .before .before .before .before .before .before .before .before .args .a .0) (c .before .before .before .before .before .before .before .before .before .before .before .before .before .before .before .before .args .i - 1) (c .before .before .before .before .before .before .before .before .before .before .before .before .before .numeral-of .result) (c .before .before .before .before .before .before .before .before .before .before .before .before .level-digits .result)) (c .before .before .before .before .before .before .before .before .before .before .put-pairs .kept .1 .1 .1 .1 .1 .0) (c .before .before .before .before .before .before .before .before .before .before .put-pairs .ensures)) (longText (sizesOf (c .before .before .before .before .before .before .before .before .before .before .before .before .before .before .before .before .args .s)) (c .before .before .before .before .before .before .before .before .before .before .before .before .before .before .before .before .args .a .0) (c .before .before .before .before .before .before .before .before .before .before .before .before .before .before .before .before .args .i - 1) false (c .before .before .before .before .before .before .before .before .before .before .before .before .before .numeral-of .result) (c .before .before .before .before .before .before .before .before .before .before .before .before .level-digits .result)) (c .before .before .before .before .before .before .put-long .kept .1 .1 .1 .1 .1 .1 .0) (c .before .before .before .before .before .before .put-long .ensures)) (longText (sizesOf (c .before .before .before .before .before .before .before .before .before .before .before .before .before .before .before .before .args .s)) (c .before .before .before .before .before .before .before .before .before .before .before .before .before .before .before .before .args .a .0) (c .before .before .before .before .before .before .before .before .before .before .before .before .before .before .before .before .args .i - 1) true (c .before .before .before .before .before .before .before .before .before .before .before .before .before .numeral-of .result) (c .before .before .before .before .before .before .before .before .before .before .before .before .level-digits .result)) (c .before .before .put-long2 .ensures .0) (sign-fits (row-is (sizesOf (c .before .before .before .before .before .before .before .before .before .before .before .before .before .before .before .before .args .s)) (c .before .before .before .before .before .before .before .before .before .before .before .before .before .before .before .before .args .a .0) (c .before .before .before .before .before .before .before .before .before .before .before .before .before .before .before .before .args .i) (c .before .before .before .before .before .before .before .before .before .before .before .before .before .numeral-of .ensures) (c .before .before .before .before .before .before .before .before .before .before .before .before .before .before .next-var .ensures) (c .before .before .before .before .before .before .before .before .before .before .before .before .level-digits .ensures)) (c .before .before .before .before .before .before .before .before .before .before .before .before .before .before .before .before .pre .5)))
 
--- src/lib.rt:181:1
 same-length : tie.Need-same-length
 same-length c = begins-more (begins-more (begins-word (pairsText (sizesOf (c .before .before .before .before .before .before .before .before .before .before .before .before .before .before .before .before .args .s)) (c .before .before .before .before .before .before .before .before .before .before .before .before .before .before .before .before .args .a .0) (c .before .before .before .before .before .before .before .before .before .before .before .before .before .before .before .before .args .i - 1) (c .before .before .before .before .before .before .before .before .before .before .before .before .before .numeral-of .result) (c .before .before .before .before .before .before .before .before .before .before .before .before .level-digits .result)) (c .before .before .before .before .before .before .before .before .before .before .put-pairs .kept .1 .1 .1 .1 .1 .0) (c .before .before .before .before .before .before .before .before .before .before .put-pairs .ensures)) (longText (sizesOf (c .before .before .before .before .before .before .before .before .before .before .before .before .before .before .before .before .args .s)) (c .before .before .before .before .before .before .before .before .before .before .before .before .before .before .before .before .args .a .0) (c .before .before .before .before .before .before .before .before .before .before .before .before .before .before .before .before .args .i - 1) false (c .before .before .before .before .before .before .before .before .before .before .before .before .before .numeral-of .result) (c .before .before .before .before .before .before .before .before .before .before .before .before .level-digits .result)) (c .before .before .before .before .before .before .put-long .kept .1 .1 .1 .1 .1 .1 .0) (c .before .before .before .before .before .before .put-long .ensures)) (longText (sizesOf (c .before .before .before .before .before .before .before .before .before .before .before .before .before .before .before .before .args .s)) (c .before .before .before .before .before .before .before .before .before .before .before .before .before .before .before .before .args .a .0) (c .before .before .before .before .before .before .before .before .before .before .before .before .before .before .before .before .args .i - 1) true (c .before .before .before .before .before .before .before .before .before .before .before .before .before .numeral-of .result) (c .before .before .before .before .before .before .before .before .before .before .before .before .level-digits .result)) (c .before .before .put-long2 .kept .1 .1 .1 .1 .1 .1 .0) (c .before .before .put-long2 .ensures) .same
 
--- src/lib.rt:181:1
 returns : tie.Need-returns
 returns c = begins-whole (begins-same (begins-more (begins-more (begins-word (pairsText (sizesOf (c .before .before .before .before .before .before .before .before .before .before .before .before .before .before .before .before .args .s)) (c .before .before .before .before .before .before .before .before .before .before .before .before .before .before .before .before .args .a .0) (c .before .before .before .before .before .before .before .before .before .before .before .before .before .before .before .before .args .i - 1) (c .before .before .before .before .before .before .before .before .before .before .before .before .before .numeral-of .result) (c .before .before .before .before .before .before .before .before .before .before .before .before .level-digits .result)) (c .before .before .before .before .before .before .before .before .before .before .put-pairs .kept .1 .1 .1 .1 .1 .0) (c .before .before .before .before .before .before .before .before .before .before .put-pairs .ensures)) (longText (sizesOf (c .before .before .before .before .before .before .before .before .before .before .before .before .before .before .before .before .args .s)) (c .before .before .before .before .before .before .before .before .before .before .before .before .before .before .before .before .args .a .0) (c .before .before .before .before .before .before .before .before .before .before .before .before .before .before .before .before .args .i - 1) false (c .before .before .before .before .before .before .before .before .before .before .before .before .before .numeral-of .result) (c .before .before .before .before .before .before .before .before .before .before .before .before .level-digits .result)) (c .before .before .before .before .before .before .put-long .kept .1 .1 .1 .1 .1 .1 .0) (c .before .before .before .before .before .before .put-long .ensures)) (longText (sizesOf (c .before .before .before .before .before .before .before .before .before .before .before .before .before .before .before .before .args .s)) (c .before .before .before .before .before .before .before .before .before .before .before .before .before .before .before .before .args .a .0) (c .before .before .before .before .before .before .before .before .before .before .before .before .before .before .before .before .args .i - 1) true (c .before .before .before .before .before .before .before .before .before .before .before .before .before .numeral-of .result) (c .before .before .before .before .before .before .before .before .before .before .before .before .level-digits .result)) (c .before .before .put-long2 .kept .1 .1 .1 .1 .1 .1 .0) (c .before .before .put-long2 .ensures)) (row-is (sizesOf (c .before .before .before .before .before .before .before .before .before .before .before .before .before .before .before .before .args .s)) (c .before .before .before .before .before .before .before .before .before .before .before .before .before .before .before .before .args .a .0) (c .before .before .before .before .before .before .before .before .before .before .before .before .before .before .before .before .args .i) (c .before .before .before .before .before .before .before .before .before .before .before .before .before .numeral-of .ensures) (c .before .before .before .before .before .before .before .before .before .before .before .before .before .before .next-var .ensures) (c .before .before .before .before .before .before .before .before .before .before .before .before .level-digits .ensures)))
 

@@ -5,39 +5,28 @@ use native.Mathlib.Omega.{arith}
 use borrow.Author.Needs.{needs}
 use Rattle.rows.proofs.put_pair.Statement.{statement}
 use Rattle.rows.proofs.put_pair.Tie as tie
-use Rattle.rows.proofs.put_pair.Reads as reads
-use Rattle.rows.proofs.put_pair.Lts as lts
-use Rattle.rows.proofs.put_three.Reads as put-three-reads
 
--- src/lib.rt:142:9
 put-three-requires : tie.Need-put-three-requires
 put-three-requires c κs = front-fits (threeText true (c .before .before .args .x) false (c .before .before .args .u) true (c .before .before .args .v)) (threeText true (c .before .before .args .x) true (c .before .before .args .u) false (c .before .before .args .v)) (c .before .before .pre)
 
--- src/lib.rt:143:49
 sub-put-three : tie.Need-sub-put-three
 sub-put-three c = begins-room (begins-word (threeText true (c .before .before .before .before .before .args .x) false (c .before .before .before .before .before .args .u) true (c .before .before .before .before .before .args .v)) (c .before .before .put-three .kept .1 .1 .1 .1 .1 .1 .0) (c .before .before .put-three .ensures)) (threeText true (c .before .before .before .before .before .args .x) true (c .before .before .before .before .before .args .u) false (c .before .before .before .before .before .args .v)) (c .before .before .before .before .before .pre)
 
--- src/lib.rt:143:49
 part-put-three-start : tie.Need-part-put-three-start
 part-put-three-start c = begins-room (begins-word (threeText true (c .before .before .before .before .before .args .x) false (c .before .before .before .before .before .args .u) true (c .before .before .before .before .before .args .v)) (c .before .before .put-three .kept .1 .1 .1 .1 .1 .1 .0) (c .before .before .put-three .ensures)) (threeText true (c .before .before .before .before .before .args .x) true (c .before .before .before .before .before .args .u) false (c .before .before .before .before .before .args .v)) (c .before .before .before .before .before .pre)
 
--- src/lib.rt:143:49
 part-put-three-end : tie.Need-part-put-three-end
 part-put-three-end c = search needs
 
--- src/lib.rt:143:11
 put-three-requires-2 : tie.Need-put-three-requires-2
 put-three-requires-2 c κs = begins-tail (begins-word (threeText true (c .before .before .before .before .before .before .args .x) false (c .before .before .before .before .before .before .args .u) true (c .before .before .before .before .before .before .args .v)) (c .before .before .before .put-three .kept .1 .1 .1 .1 .1 .1 .0) (c .before .before .before .put-three .ensures)) (threeText true (c .before .before .before .before .before .before .args .x) true (c .before .before .before .before .before .before .args .u) false (c .before .before .before .before .before .before .args .v)) (c .before .before .before .before .before .before .pre)
 
--- src/lib.rt:143:5
 add-at : tie.Need-add-at
 add-at c = omega (arith, c .before .before .before .before .before .before .before .before .before .good .1 .1 .1 .0, begins-sum (begins-word (threeText true (c .before .before .before .before .before .before .before .before .before .args .x) false (c .before .before .before .before .before .before .before .before .before .args .u) true (c .before .before .before .before .before .before .before .before .before .args .v)) (c .before .before .before .before .before .before .put-three .kept .1 .1 .1 .1 .1 .1 .0) (c .before .before .before .before .before .before .put-three .ensures)) (threeText true (c .before .before .before .before .before .before .before .before .before .args .x) true (c .before .before .before .before .before .before .before .before .before .args .u) false (c .before .before .before .before .before .before .before .before .before .args .v)) (c .before .before .put-three2 .ensures .0) (c .before .before .before .before .before .before .before .before .before .pre))
 
--- src/lib.rt:138:1
 same-length : tie.Need-same-length
 same-length c = begins-more (begins-word (threeText true (c .before .before .before .before .before .before .before .before .before .args .x) false (c .before .before .before .before .before .before .before .before .before .args .u) true (c .before .before .before .before .before .before .before .before .before .args .v)) (c .before .before .before .before .before .before .put-three .kept .1 .1 .1 .1 .1 .1 .0) (c .before .before .before .before .before .before .put-three .ensures)) (threeText true (c .before .before .before .before .before .before .before .before .before .args .x) true (c .before .before .before .before .before .before .before .before .before .args .u) false (c .before .before .before .before .before .before .before .before .before .args .v)) (c .before .before .put-three2 .kept .1 .1 .1 .1 .1 .1 .0) (c .before .before .put-three2 .ensures) .same
 
--- src/lib.rt:138:1
 returns : tie.Need-returns
 returns c = begins-whole (begins-more (begins-word (threeText true (c .before .before .before .before .before .before .before .before .before .args .x) false (c .before .before .before .before .before .before .before .before .before .args .u) true (c .before .before .before .before .before .before .before .before .before .args .v)) (c .before .before .before .before .before .before .put-three .kept .1 .1 .1 .1 .1 .1 .0) (c .before .before .before .before .before .before .put-three .ensures)) (threeText true (c .before .before .before .before .before .before .before .before .before .args .x) true (c .before .before .before .before .before .before .before .before .before .args .u) false (c .before .before .before .before .before .before .before .before .before .args .v)) (c .before .before .put-three2 .kept .1 .1 .1 .1 .1 .1 .0) (c .before .before .put-three2 .ensures))
 

@@ -5,42 +5,28 @@ use denote.Ref.{now}
 use borrow.Author.Needs.{needs}
 use Rattle.rows.proofs.put_row.Statement.{statement}
 use Rattle.rows.proofs.put_row.Tie as tie
-use Rattle.rows.proofs.put_row.Reads as reads
-use Rattle.rows.proofs.put_row.Lts as lts
-use Rattle.layout.proofs.chain_at.Reads as chain-at-reads
-use Rattle.rows.proofs.put_bit.Reads as put-bit-reads
-use Rattle.rows.proofs.put_next_row.Reads as put-next-row-reads
-use Rattle.slots.proofs.chain_bit.Reads as chain-bit-reads
 
--- src/lib.rt:205:13
 chain-at-requires : tie.Need-chain-at-requires
 chain-at-requires c κs = search needs
 
--- src/lib.rt:206:27
 chain-bit-requires : tie.Need-chain-bit-requires
 chain-bit-requires c κs = search needs
 
--- src/lib.rt:206:9
 put-bit-requires : tie.Need-put-bit-requires
 put-bit-requires c κs = (bit-short (c .before .before .before .before .before .before .before .before .before .before .before .pre .0) (c .before .before .before .before .before .before .before .before .before .before .before .pre .1) (c .before .before .before .if1 .taken) (c .before .before .chain-at .ensures) (c .before .chain-bit .ensures), sign-fits (bit-row (c .before .before .before .before .before .before .before .before .before .before .before .pre .0) (c .before .before .before .before .before .before .before .before .before .before .before .pre .1) (c .before .before .before .if1 .taken) (c .before .before .chain-at .ensures) (c .before .chain-bit .ensures)) (c .before .before .before .before .before .before .before .before .before .before .before .pre .3))
 
--- src/lib.rt:206:9
 same-length : tie.Need-same-length
 same-length c = search needs
 
--- src/lib.rt:206:9
 returns : tie.Need-returns
 returns c = row-put (now (c .before .before .before .before .before .before .before .before .before .before .before .before .before .before .args .buf)) (bit-row (c .before .before .before .before .before .before .before .before .before .before .before .before .before .before .pre .0) (c .before .before .before .before .before .before .before .before .before .before .before .before .before .before .pre .1) (c .before .before .before .before .before .before .if1 .taken) (c .before .before .before .before .before .chain-at .ensures) (c .before .before .before .before .chain-bit .ensures)) (c .before .before .put-bit .ensures)
 
--- src/lib.rt:208:5
 put-next-row-requires : tie.Need-put-next-row-requires
 put-next-row-requires c κs = next-row-asks (c .before .before .before .before .before .before .before .before .before .pre .0) (c .before .before .before .before .before .before .before .before .before .pre .1) (rowed-not-five _ (c .before .before .before .before .before .before .before .before .before .pre .2) (c .before .if1 .left)) (c .before .before .before .before .before .before .before .before .before .pre .3)
 
--- src/lib.rt:188:1
 same-length-2 : tie.Need-same-length-2
 same-length-2 c = search needs
 
--- src/lib.rt:188:1
 returns-2 : tie.Need-returns-2
 returns-2 c = row-put (now (c .before .before .before .before .before .before .before .before .before .before .before .before .args .buf)) (next-row (c .before .before .before .before .before .before .before .before .before .before .before .before .pre .0) (c .before .before .before .before .before .before .before .before .before .before .before .before .pre .1) (rowed-not-five _ (c .before .before .before .before .before .before .before .before .before .before .before .before .pre .2) (c .before .before .before .before .if1 .left))) (c .before .before .put-next-row .ensures)
 

@@ -7,9 +7,6 @@ use Rattle.digits.proofs.NumeralLaws.{numeral-short}
 use borrow.Author.Needs.{needs}
 use Rattle.rows.proofs.put_sign.Statement.{statement}
 use Rattle.rows.proofs.put_sign.Tie as tie
-use Rattle.rows.proofs.put_sign.Reads as reads
-use Rattle.rows.proofs.put_sign.Lts as lts
-use Rattle.digits.proofs.put_numeral.Reads as put-numeral-reads
 
 put-numeral-requires : tie.Need-put-numeral-requires
 put-numeral-requires c κs = sign-fits (sign-yes (c .before .before .before .args .x) (c .before .if1 .taken)) (c .before .before .before .pre)

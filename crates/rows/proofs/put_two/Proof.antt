@@ -5,10 +5,6 @@ use Rattle.digits.proofs.Begins.{begins-word, begins-more, begins-room, begins-
 use borrow.Author.Needs.{needs}
 use Rattle.rows.proofs.put_two.Statement.{statement}
 use Rattle.rows.proofs.put_two.Tie as tie
-use Rattle.rows.proofs.put_two.Reads as reads
-use Rattle.rows.proofs.put_two.Lts as lts
-use Rattle.rows.proofs.put_end.Reads as put-end-reads
-use Rattle.rows.proofs.put_sign.Reads as put-sign-reads
 
 put-sign-requires : tie.Need-put-sign-requires
 put-sign-requires c κs = (front-fits (signText (c .before .before .args .p) (c .before .before .args .x)) (signText (c .before .before .args .q) (c .before .before .args .y)) (front-fits ((signText (c .before .before .args .p) (c .before .before .args .x)) ++ (signText (c .before .before .args .q) (c .before .before .args .y))) (48 ∷ 10 ∷ []) (c .before .before .pre)))

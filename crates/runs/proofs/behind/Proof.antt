@@ -4,33 +4,22 @@ use native.Mathlib.Omega.{arith}
 use borrow.Author.Needs.{needs}
 use Rattle.runs.proofs.behind.Statement.{statement}
 use Rattle.runs.proofs.behind.Tie as tie
-use Rattle.runs.proofs.behind.Reads as reads
-use Rattle.runs.proofs.behind.Lts as lts
-use Rattle.layout.proofs.size.Reads as size-reads
-use Rattle.places.proofs.further_row.Reads as further-row-reads
-use Rattle.places.proofs.past_row.Reads as past-row-reads
 
--- src/lib.rt:148:13
 add-size : tie.Need-add-size
 add-size c = omega (arith, behind-adds (c .before .before .before .before .before .before .before .before .before .before .pre .0) (c .before .before .before .before .before .before .before .before .before .before .pre .1) (c .before .before .before .before .before .before .before .before .before .before .pre .2) (c .before .if1 .taken))
 
--- src/lib.rt:138:13
 size-requires : tie.Need-size-requires
 size-requires c κs = (c .before .before .before .before .before .before .before .before .before .before .pre .0, behind-at (c .before .before .before .before .before .before .before .before .before .before .pre .0) (c .before .before .before .before .before .before .before .before .before .before .pre .1) (c .before .before .before .before .before .before .before .before .before .before .pre .2) (c .before .if1 .taken))
 
--- src/lib.rt:151:13
 further-row-requires : tie.Need-further-row-requires
 further-row-requires c κs = (behind-sum (c .before .before .before .before .before .before .before .before .before .before .before .before .pre .0) (c .before .before .before .before .before .before .before .before .before .before .before .before .pre .1) (c .before .before .before .before .before .before .before .before .before .before .before .before .pre .2), behind-adds (c .before .before .before .before .before .before .before .before .before .before .before .before .pre .0) (c .before .before .before .before .before .before .before .before .before .before .before .before .pre .1) (c .before .before .before .before .before .before .before .before .before .before .before .before .pre .2) (c .before .before .before .if1 .taken), c .before .before .before .if1 .taken, c .if2 .taken)
 
--- src/lib.rt:151:13
 returns : tie.Need-returns
 returns c = (c .further-row .ensures ∙ behind-is (c .before .before .before .before .before .before .before .before .before .before .before .before .before .pre .0) (c .before .before .before .before .before .before .before .before .before .before .before .before .before .pre .1) (c .before .before .before .before .before .before .before .before .before .before .before .before .before .pre .2) (c .before .before .before .before .if1 .taken) (c .before .before .size .ensures) (c .before .if2 .taken) .0, behind-is (c .before .before .before .before .before .before .before .before .before .before .before .before .before .pre .0) (c .before .before .before .before .before .before .before .before .before .before .before .before .before .pre .1) (c .before .before .before .before .before .before .before .before .before .before .before .before .before .pre .2) (c .before .before .before .before .if1 .taken) (c .before .before .size .ensures) (c .before .if2 .taken) .1)
 
--- src/lib.rt:154:5
 past-row-requires : tie.Need-past-row-requires
 past-row-requires c κs = search needs
 
--- src/lib.rt:123:1
 returns-2 : tie.Need-returns-2
 returns-2 c = search needs
 

@@ -4,24 +4,16 @@ use lib.ListN.{length}
 use mathlib.Core.Path.{_∙_, ap}
 use Rattle.runs.proofs.line_length.Statement.{statement}
 use Rattle.runs.proofs.line_length.Tie as tie
-use Rattle.runs.proofs.line_length.Reads as reads
-use Rattle.runs.proofs.line_length.Lts as lts
-use Rattle.printing.proofs.clause_length.Reads as clause-length-reads
-use Rattle.printing.proofs.header_length.Reads as header-length-reads
 
--- src/lib.rt:59:9
 header-length-requires : tie.Need-header-length-requires
 header-length-requires c κs = header-asks (c .before .before .before .before .before .before .before .before .pre .0)
 
--- src/lib.rt:59:9
 returns : tie.Need-returns
 returns c = c .header-length .ensures ∙ ap length (header-line (c .before .before .before .before .before .before .before .before .before .pre .0) (c .before .if1 .taken))
 
--- src/lib.rt:62:5
 clause-length-requires : tie.Need-clause-length-requires
 clause-length-requires c κs = (c .before .before .before .before .before .before .before .before .before .pre .0, placed-at (c .before .before .before .before .before .before .before .before .before .pre .0) (c .before .before .before .before .before .before .before .before .before .pre .1) (some-number (c .before .if1 .left)) (c .before .before .before .before .before .before .before .before .before .pre .2))
 
--- src/lib.rt:54:1
 returns-2 : tie.Need-returns-2
 returns-2 c = c .clause-length .ensures ∙ ap length (clause-is (c .before .before .before .before .before .before .before .before .before .before .pre .0) (c .before .before .before .before .before .before .before .before .before .before .pre .1) (some-number (c .before .before .if1 .left)) (c .before .before .before .before .before .before .before .before .before .before .pre .2))
 

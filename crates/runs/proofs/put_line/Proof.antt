@@ -4,32 +4,22 @@ use denote.Ref.{now}
 use borrow.Author.Needs.{needs}
 use Rattle.runs.proofs.put_line.Statement.{statement}
 use Rattle.runs.proofs.put_line.Tie as tie
-use Rattle.runs.proofs.put_line.Reads as reads
-use Rattle.runs.proofs.put_line.Lts as lts
-use Rattle.printing.proofs.put_clause.Reads as put-clause-reads
-use Rattle.printing.proofs.put_header.Reads as put-header-reads
 
--- src/lib.rt:71:9
 put-header-requires : tie.Need-put-header-requires
 put-header-requires c κs = (header-asks (c .before .before .before .before .before .before .before .before .before .before .pre .0) .0, header-asks (c .before .before .before .before .before .before .before .before .before .before .pre .0) .1, line-in-room (header-line (c .before .before .before .before .before .before .before .before .before .before .pre .0) (c .before .if1 .taken)) (c .before .before .before .before .before .before .before .before .before .before .pre .3))
 
--- src/lib.rt:71:9
 same-length : tie.Need-same-length
 same-length c = search needs
 
--- src/lib.rt:71:9
 returns : tie.Need-returns
 returns c = as-line (now (c .before .before .before .before .before .before .before .before .before .before .before .before .before .args .buf)) (header-line (c .before .before .before .before .before .before .before .before .before .before .before .before .before .pre .0) (c .before .before .before .before .if1 .taken)) (c .before .before .put-header .ensures .0) (c .before .before .put-header .ensures .1)
 
--- src/lib.rt:74:5
 put-clause-requires : tie.Need-put-clause-requires
 put-clause-requires c κs = (c .before .before .before .before .before .before .before .before .before .before .before .pre .0, placed-at (c .before .before .before .before .before .before .before .before .before .before .before .pre .0) (c .before .before .before .before .before .before .before .before .before .before .before .pre .1) (some-number (c .before .before .if1 .left)) (c .before .before .before .before .before .before .before .before .before .before .before .pre .2), line-in-room (clause-is (c .before .before .before .before .before .before .before .before .before .before .before .pre .0) (c .before .before .before .before .before .before .before .before .before .before .before .pre .1) (some-number (c .before .before .if1 .left)) (c .before .before .before .before .before .before .before .before .before .before .before .pre .2)) (c .before .before .before .before .before .before .before .before .before .before .before .pre .3))
 
--- src/lib.rt:66:1
 same-length-2 : tie.Need-same-length-2
 same-length-2 c = search needs
 
--- src/lib.rt:66:1
 returns-2 : tie.Need-returns-2
 returns-2 c = as-line (now (c .before .before .before .before .before .before .before .before .before .before .before .before .before .before .args .buf)) (clause-is (c .before .before .before .before .before .before .before .before .before .before .before .before .before .before .pre .0) (c .before .before .before .before .before .before .before .before .before .before .before .before .before .before .pre .1) (some-number (c .before .before .before .before .before .if1 .left)) (c .before .before .before .before .before .before .before .before .before .before .before .before .before .before .pre .2)) (c .before .before .put-clause .ensures .0) (c .before .before .put-clause .ensures .1)
 

@@ -9,10 +9,6 @@ use Rattle.runs.proofs.Runs.{Going, begun, part-out, part-full, line-as
 use borrow.Author.Tests.{not-true, not-false}
 use Rattle.runs.proofs.put_lines.Statement.{statement}
 use Rattle.runs.proofs.put_lines.Tie as tie
-use Rattle.runs.proofs.put_lines.Reads as reads
-use Rattle.runs.proofs.put_lines.Lts as lts
-use Rattle.runs.proofs.fits.Reads as fits-reads
-use Rattle.runs.proofs.put_some.Reads as put-some-reads
 
 abbrev Inv-loop : tie.InvT-loop
 Inv-loop t heads starts bodies before partners owners buf₀ at₀ lines₀ to₀ buf at lines to = (at ≡ placeAt (programIn (t .sizes) heads starts bodies) (t .sizes .w) (at .number)) × (at .number ≤ suc (t .clauses)) × Going (linesOf (programIn (t .sizes) heads starts bodies)) (at₀ .number) buf₀ (at .number) lines to buf
@@ -20,63 +16,48 @@ Inv-loop t heads starts bodies before partners owners buf₀ at₀ lines₀ to�
 abbrev μ-loop : tie.MeasureT-loop
 μ-loop t heads starts bodies before partners owners buf₀ at₀ lines₀ to₀ buf at lines to = suc (t .clauses) - at .number
 
--- src/lib.rt:284:5
 loop-holds : tie.Need-loop-holds Inv-loop μ-loop
 loop-holds c = (c .before .before .before .before .before .before .before .pre .1, c .before .before .before .before .before .before .before .pre .2, begun _ _ _)
 
--- src/lib.rt:294:13
 sub-fits : tie.Need-sub-fits Inv-loop μ-loop
 sub-fits c = search needs
 
--- src/lib.rt:285:13
 fits-requires : tie.Need-fits-requires Inv-loop μ-loop
 fits-requires c κs = (c .before .before .before .before .before .before .before .before .before .before .before .pre .0, c .before .before .before .loop .inv .0, c .if1 .taken)
 
--- src/lib.rt:296:13
 same-length : tie.Need-same-length Inv-loop μ-loop
 same-length c = search needs
 
--- src/lib.rt:296:13
 returns : tie.Need-returns Inv-loop μ-loop
 returns c = part-full (c .before .before .before .before .before .before .before .before .before .before .before .before .before .pre .0) _ _ (c .before .before .before .before .before .loop .inv .0) (c .before .before .before .before .before .loop .inv .2) (c .before .before .if1 .taken) (c .before .fits2 .ensures) (not-true _ (c .if2 .taken))
 
--- src/lib.rt:311:13
 sub-put-some : tie.Need-sub-put-some Inv-loop μ-loop
 sub-put-some c = search needs
 
--- src/lib.rt:311:13
 part-put-some-start : tie.Need-part-put-some-start Inv-loop μ-loop
 part-put-some-start c = search needs
 
--- src/lib.rt:311:13
 part-put-some-end : tie.Need-part-put-some-end Inv-loop μ-loop
 part-put-some-end c = search needs
 
--- src/lib.rt:302:13
 put-some-requires : tie.Need-put-some-requires Inv-loop μ-loop
 put-some-requires c κs = (c .before .before .before .before .before .before .before .before .before .before .before .before .before .before .pre .0, c .before .before .before .before .before .before .loop .inv .0, c .before .before .before .if1 .taken, line-asks (c .before .before .before .before .before .before .before .before .before .before .before .before .before .before .pre .0) _ _ (c .before .before .before .before .before .before .loop .inv .0) (c .before .before .before .before .before .before .loop .inv .2) (c .before .before .before .if1 .taken) (c .before .before .fits2 .ensures) (not-false _ (c .before .if2 .left)))
 
--- src/lib.rt:313:9
 add-to : tie.Need-add-to Inv-loop μ-loop
 add-to c = omega (arith, c .before .before .before .before .before .before .before .before .before .before .before .before .before .before .before .before .before .before .good .1 .1 .1 .1 .1 .1 .1 .1 .0 .0, sum-fits (c .before .before .before .before .before .before .before .before .before .before .before .before .before .before .before .before .before .before .pre .0) _ _ (c .before .before .before .before .before .before .before .before .before .before .loop .inv .0) (c .before .before .before .before .before .before .before .before .before .before .loop .inv .2) (c .before .before .before .before .before .before .before .if1 .taken) (c .before .before .before .put-some .ensures))
 
--- src/lib.rt:314:9
 add-lines : tie.Need-add-lines Inv-loop μ-loop
 add-lines c = omega (arith, lines-fit (c .before .before .before .before .before .before .before .before .before .before .before .before .before .before .before .before .before .before .before .pre .0) _ _ (c .before .before .before .before .before .before .before .before .before .before .before .loop .inv .0) (c .before .before .before .before .before .before .before .before .before .before .before .loop .inv .2) (c .before .before .before .before .before .before .before .before .if1 .taken) (c .before .before .before .before .put-some .ensures))
 
--- src/lib.rt:284:5
 loop-less : tie.Need-loop-less Inv-loop μ-loop
 loop-less c = run-less (c .before .before .before .before .before .before .before .before .before .before .before .before .before .before .before .before .before .before .before .before .pre .0) _ _ (c .before .before .before .before .before .before .before .before .before .before .before .before .loop .inv .0) (c .before .before .before .before .before .before .before .before .before .before .before .before .loop .inv .2) (c .before .before .before .before .before .before .before .before .before .if1 .taken) (c .before .before .before .before .before .put-some .ensures)
 
--- src/lib.rt:284:5
 loop-again : tie.Need-loop-again Inv-loop μ-loop
 loop-again c = run-goes-on (c .before .before .before .before .before .before .before .before .before .before .before .before .before .before .before .before .before .before .before .before .pre .0) _ _ (c .before .before .before .before .before .before .before .before .before .before .before .before .loop .inv .0) (c .before .before .before .before .before .before .before .before .before .before .before .before .loop .inv .2) (c .before .before .before .before .before .before .before .before .before .if1 .taken) (c .before .before .before .before .before .put-some .ensures)
 
--- src/lib.rt:267:1
 same-length-2 : tie.Need-same-length-2 Inv-loop μ-loop
 same-length-2 c = search needs
 
--- src/lib.rt:267:1
 returns-2 : tie.Need-returns-2 Inv-loop μ-loop
 returns-2 c = part-out (c .before .before .before .before .before .before .before .before .before .before .before .pre .0) _ _ (c .before .before .before .loop .inv .0) (c .before .before .before .loop .inv .2) (c .if1 .left)
 

@@ -3,24 +3,16 @@ use Rattle.runs.proofs.Steps.{one-taken}
 use borrow.Author.Needs.{needs}
 use Rattle.runs.proofs.put_one.Statement.{statement}
 use Rattle.runs.proofs.put_one.Tie as tie
-use Rattle.runs.proofs.put_one.Reads as reads
-use Rattle.runs.proofs.put_one.Lts as lts
-use Rattle.runs.proofs.put_line.Reads as put-line-reads
-use Rattle.places.proofs.next.Reads as next-reads
 
--- src/lib.rt:203:9
 put-line-requires : tie.Need-put-line-requires
 put-line-requires c κs = search needs
 
--- src/lib.rt:217:16
 next-requires : tie.Need-next-requires
 next-requires c κs = search needs
 
--- src/lib.rt:189:1
 same-length : tie.Need-same-length
 same-length c = search needs
 
--- src/lib.rt:189:1
 returns : tie.Need-returns
 returns c = one-taken (c .before .before .before .before .before .before .before .before .before .before .before .before .pre .0) (c .before .before .before .before .before .before .before .before .before .before .before .before .pre .1) (c .before .before .before .before .before .before .before .before .before .before .before .before .pre .2) (now (c .before .before .before .before .before .before .before .before .before .before .before .before .args .buf)) (c .before .before .before .before .before .before .before .before .before .before .before .before .pre .3) (c .before .before .before .put-line .ensures) (c .next .ensures)
 

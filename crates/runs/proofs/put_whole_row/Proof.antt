@@ -3,32 +3,22 @@ use denote.Ref.{now}
 use borrow.Author.Needs.{needs}
 use Rattle.runs.proofs.put_whole_row.Statement.{statement}
 use Rattle.runs.proofs.put_whole_row.Tie as tie
-use Rattle.runs.proofs.put_whole_row.Reads as reads
-use Rattle.runs.proofs.put_whole_row.Lts as lts
-use Rattle.runs.proofs.behind.Reads as behind-reads
-use Rattle.rows.proofs.put_row.Reads as put-row-reads
 
--- src/lib.rt:165:9
 put-row-requires : tie.Need-put-row-requires
 put-row-requires c κs = row-asks (c .before .before .before .before .before .before .before .before .before .pre .0) (c .before .before .before .before .before .before .before .before .before .pre .1) (c .before .before .before .before .before .before .before .before .before .pre .2) (c .before .before .before .before .before .before .before .before .before .pre .4) (c .before .before .before .before .before .before .before .before .before .pre .3) (c .before .before .before .before .before .before .before .before .before .pre .5)
 
--- src/lib.rt:179:16
 cast-t14 : tie.Need-cast-t14
 cast-t14 c = search needs
 
--- src/lib.rt:179:16
 add-t15 : tie.Need-add-t15
 add-t15 c = search needs
 
--- src/lib.rt:181:16
 behind-requires : tie.Need-behind-requires
 behind-requires c κs = search needs
 
--- src/lib.rt:150:1
 same-length : tie.Need-same-length
 same-length c = search needs
 
--- src/lib.rt:150:1
 returns : tie.Need-returns
 returns c = row-taken (c .before .before .before .before .before .before .before .before .before .before .before .before .before .before .pre .0) (c .before .before .before .before .before .before .before .before .before .before .before .before .before .before .pre .1) (c .before .before .before .before .before .before .before .before .before .before .before .before .before .before .pre .2) (c .before .before .before .before .before .before .before .before .before .before .before .before .before .before .pre .4) (c .behind .ensures .1) (now (c .before .before .before .before .before .before .before .before .before .before .before .before .before .before .args .buf)) (c .before .before .before .before .before .before .before .before .before .before .before .before .before .before .pre .3) (c .before .before .before .before .before .before .before .before .before .before .before .before .before .before .pre .5) (c .before .before .before .before .put-row .ensures) (c .behind .ensures .0)
 

@@ -4,62 +4,44 @@ use Rattle.showing.proofs.Shown.{model-atoms, text-model, text-refused,
 use borrow.Author.Needs.{needs}
 use Rattle.showing.proofs.put_checked.Statement.{statement}
 use Rattle.showing.proofs.put_checked.Tie as tie
-use Rattle.showing.proofs.put_checked.Reads as reads
-use Rattle.showing.proofs.put_checked.Lts as lts
-use Rattle.checking.proofs.check_read.Reads as check-read-reads
-use Rattle.models.proofs.put_shown_model.Reads as put-shown-model-reads
-use Rattle.showing.proofs.put_refused.Reads as put-refused-reads
 
--- src/lib.rt:38:42
 slice-aggregate-check-read : tie.Need-slice-aggregate-check-read
 slice-aggregate-check-read c = search needs
 
--- src/lib.rt:38:59
 slice-aggregate-check-read-2 : tie.Need-slice-aggregate-check-read-2
 slice-aggregate-check-read-2 c = search needs
 
--- src/lib.rt:38:9
 check-read-requires : tie.Need-check-read-requires
 check-read-requires c κs = search needs
 
--- src/lib.rt:39:29
 enum-known-v : tie.Need-enum-known-v
 enum-known-v c = search needs
 
--- src/lib.rt:40:31
 enum-told : tie.Need-enum-told
 enum-told c = search needs
 
--- src/lib.rt:40:9
 put-refused-requires : tie.Need-put-refused-requires
 put-refused-requires c κs = omega (arith, c .before .before .before .before .before .before .before .before .before .before .pre .1)
 
--- src/lib.rt:40:9
 same-length : tie.Need-same-length
 same-length c = search needs
 
--- src/lib.rt:40:9
 returns : tie.Need-returns
 returns c = same-text (now (c .before .before .before .before .before .before .before .before .before .before .before .before .before .args .out)) (text-refused (c .before .before .before .before .before .before .before .before .before .before .before .before .before .args .x) (now (c .before .before .before .before .before .before .before .before .before .before .before .before .before .args .answer)) (c .before .before .before .before .before .before .before .before .before .before .before .before .before .args .total) (c .before .before .before .before .before .before .before .before .check-read .ensures) (c .before .before .before .before .before .match .keys2)) (c .before .before .put-refused .ensures)
 
--- src/lib.rt:42:41
 slice-aggregate-put-shown-model : tie.Need-slice-aggregate-put-shown-model
 slice-aggregate-put-shown-model c = search needs
 
--- src/lib.rt:42:54
 slice-aggregate-put-shown-model-2 : tie.Need-slice-aggregate-put-shown-model-2
 slice-aggregate-put-shown-model-2 c = search needs
 
--- src/lib.rt:42:5
 put-shown-model-requires : tie.Need-put-shown-model-requires
 put-shown-model-requires c κs = let q = model-atoms (c .before .before .before .before .before .before .before .before .before .before .before .before .before .args .x) (now (c .before .before .before .before .before .before .before .before .before .before .before .before .before .args .answer)) (c .before .before .before .before .before .before .before .before .before .before .before .before .before .args .total) (c .before .before .before .before .before .before .before .before .check-read .ensures) (c .before .before .before .before .before .before .before .before .before .before .before .before .before .pre .0) (c .before .before .before .before .v .given .1) in
     (q, omega (arith, q), omega (arith, q), c .before .before .before .before .before .before .before .before .before .before .before .before .before .pre .1)
 
--- src/lib.rt:32:1
 same-length-2 : tie.Need-same-length-2
 same-length-2 c = search needs
 
--- src/lib.rt:32:1
 returns-2 : tie.Need-returns-2
 returns-2 c = same-text (now (c .before .before .before .before .before .before .before .before .before .before .before .before .before .before .before .before .args .out)) (text-model (c .before .before .before .before .before .before .before .before .before .before .before .before .before .before .before .before .args .x) (now (c .before .before .before .before .before .before .before .before .before .before .before .before .before .before .before .before .args .answer)) (c .before .before .before .before .before .before .before .before .before .before .before .before .before .before .before .before .args .total) (c .before .before .before .before .before .before .before .before .before .before .before .check-read .ensures) (c .before .before .before .before .before .before .before .v .given .1)) (c .before .before .put-shown-model .ensures)
 

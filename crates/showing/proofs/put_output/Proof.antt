@@ -7,24 +7,16 @@ use Rattle.input.proofs.Counted.{counted-stored}
 use borrow.Author.Needs.{needs}
 use Rattle.showing.proofs.put_output.Statement.{statement}
 use Rattle.showing.proofs.put_output.Tie as tie
-use Rattle.showing.proofs.put_output.Reads as reads
-use Rattle.showing.proofs.put_output.Lts as lts
-use Rattle.input.proofs.read_counted.Reads as read-counted-reads
-use Rattle.showing.proofs.put_checked.Reads as put-checked-reads
 
--- src/lib.rt:47:9
 read-counted-requires : tie.Need-read-counted-requires
 read-counted-requires c κs = search needs
 
--- src/lib.rt:48:5
 put-checked-requires : tie.Need-put-checked-requires
 put-checked-requires c κs = (counted-stored _ _ (c .before .read-counted .ensures), c .before .before .before .before .before .pre)
 
--- src/lib.rt:37:1
 same-length : tie.Need-same-length
 same-length c = search needs
 
--- src/lib.rt:37:1
 returns : tie.Need-returns
 unfolding outputText
 returns c = same-text (now (c .before .before .before .before .before .before .before .before .args .out)) (ap (λ (x : Reading). outputOf x (now (c .before .before .before .before .before .before .before .before .args .answer)) (c .before .before .before .before .before .before .before .before .args .total)) (c .before .before .before .before .read-counted .ensures)) (c .before .before .put-checked .ensures)

@@ -6,32 +6,22 @@ use Prim.Native.Nat.{ℕ}
 use borrow.Author.Needs.{needs}
 use Rattle.slots.proofs.atom_at.Statement.{statement}
 use Rattle.slots.proofs.atom_at.Tie as tie
-use Rattle.slots.proofs.atom_at.Reads as reads
-use Rattle.slots.proofs.atom_at.Lts as lts
-use Rattle.numbers.proofs.atom_var.Reads as atom-var-reads
-use Rattle.numbers.proofs.wide.Reads as wide-reads
 
--- src/lib.rt:213:18
 sub-wide : tie.Need-sub-wide
 sub-wide c = search needs
 
--- src/lib.rt:213:9
 wide-requires : tie.Need-wide-requires
 wide-requires c κs = search needs
 
--- src/lib.rt:214:19
 mul-t5 : tie.Need-mul-t5
 mul-t5 c = search needs
 
--- src/lib.rt:214:19
 shared-slice-read-t4 : tie.Need-shared-slice-read-t4
 shared-slice-read-t4 c = search needs
 
--- src/lib.rt:214:5
 atom-var-requires : tie.Need-atom-var-requires
 atom-var-requires c κs = search needs
 
--- src/lib.rt:209:1
 returns : tie.Need-returns
 returns c = c .atom-var .ensures ∙ ap (λ (i : ℕ). getD (now (c .before .before .before .before .args .body)) i 0) (c .before .before .wide .ensures ∙ one-before (c .before .before .before .before .args .x))
 

@@ -10,68 +10,46 @@ use Prim.Native.Nat.{ℕ, _-_, _≤_, _<_}
 use borrow.Author.Needs.{needs}
 use Rattle.slots.proofs.body_slot.Statement.{statement}
 use Rattle.slots.proofs.body_slot.Tie as tie
-use Rattle.slots.proofs.body_slot.Reads as reads
-use Rattle.slots.proofs.body_slot.Lts as lts
-use Rattle.literals.proofs.body_var.Reads as body-var-reads
-use Rattle.slots.proofs.atom_at.Reads as atom-at-reads
-use Rattle.slots.proofs.no.Reads as no-reads
-use Rattle.numbers.proofs.wide.Reads as wide-reads
-use Rattle.slots.proofs.with_sign.Reads as with-sign-reads
-use Rattle.slots.proofs.yes.Reads as yes-reads
 
--- src/lib.rt:222:9
 body-var-requires : tie.Need-body-var-requires
 body-var-requires c κs = search needs
 
--- src/lib.rt:223:8
 wide-requires : tie.Need-wide-requires
 wide-requires c κs = search needs
 
--- src/lib.rt:225:13
 no-requires : tie.Need-no-requires
 no-requires c κs = search needs
 
--- src/lib.rt:225:13
 returns : tie.Need-returns
 returns c = c .no .ensures ∙ ap −_ (c .before .before .before .before .body-var .ensures) ∙ short-first (sizesOf (c .before .before .before .before .before .before .args .s)) (c .before .before .before .before .before .before .args .r .0) (now (c .before .before .before .before .before .before .args .body)) (c .before .before .before .before .before .before .args .p) (c .before .before .before .before .before .before .args .y) (c .before .before .before .before .before .before .args .l) (subst (λ (x : ℕ). x ≤ length (now (c .before .before .before .before .before .before .args .body))) (c .before .before .before .wide .ensures) (c .before .before .if1 .taken)) (c .before .if2 .taken)
 
--- src/lib.rt:228:34
 atom-at-requires : tie.Need-atom-at-requires
 atom-at-requires c κs = search needs
 
--- src/lib.rt:228:9
 with-sign-requires : tie.Need-with-sign-requires
 with-sign-requires c κs = search needs
 
--- src/lib.rt:228:9
 returns-2 : tie.Need-returns-2
 returns-2 c = c .with-sign .ensures ∙ ap (signed (leb (c .before .before .before .before .before .before .before .args .y) (c .before .before .before .before .before .before .before .args .p))) (c .before .atom-at .ensures) ∙ short-second (sizesOf (c .before .before .before .before .before .before .before .args .s)) (c .before .before .before .before .before .before .before .args .r .0) (now (c .before .before .before .before .before .before .before .args .body)) (c .before .before .before .before .before .before .before .args .p) (c .before .before .before .before .before .before .before .args .y) (c .before .before .before .before .before .before .before .args .l) (subst (λ (x : ℕ). x ≤ length (now (c .before .before .before .before .before .before .before .args .body))) (c .before .before .before .before .wide .ensures) (c .before .before .before .if1 .taken)) (c .before .before .if2 .left)
 
--- src/lib.rt:231:9
 yes-requires : tie.Need-yes-requires
 yes-requires c κs = search needs
 
--- src/lib.rt:231:9
 returns-3 : tie.Need-returns-3
 returns-3 c = c .yes .ensures ∙ ap var (c .before .before .before .before .body-var .ensures) ∙ long-first (sizesOf (c .before .before .before .before .before .before .args .s)) (c .before .before .before .before .before .before .args .r .0) (now (c .before .before .before .before .before .before .args .body)) (c .before .before .before .before .before .before .args .p) (c .before .before .before .before .before .before .args .y) (c .before .before .before .before .before .before .args .l) (subst (λ (x : ℕ). length (now (c .before .before .before .before .before .before .args .body)) < x) (c .before .before .before .wide .ensures) (c .before .before .if1 .left)) (c .before .if3 .taken)
 
--- src/lib.rt:233:22
 sub-stands : tie.Need-sub-stands
 sub-stands c = search needs
 
--- src/lib.rt:234:37
 sub-atom-at : tie.Need-sub-atom-at
 sub-atom-at c = search needs
 
--- src/lib.rt:234:23
 atom-at-requires-2 : tie.Need-atom-at-requires-2
 atom-at-requires-2 c κs = long-fits (sizesOf (c .before .before .before .before .before .args .s)) (c .before .before .before .before .before .args .r .0) (now (c .before .before .before .before .before .args .body)) (c .before .before .before .before .before .args .p) (c .before .before .before .before .before .args .y) (c .before .before .before .before .before .args .l) (subst (λ (x : ℕ). length (now (c .before .before .before .before .before .args .body)) < x) (c .before .before .wide .ensures) (c .before .if1 .left)) (c .before .before .before .before .before .pre .3) (c .if3 .left) (c .before .before .before .before .before .pre .4)
 
--- src/lib.rt:234:5
 with-sign-requires-2 : tie.Need-with-sign-requires-2
 with-sign-requires-2 c κs = search needs
 
--- src/lib.rt:218:1
 returns-4 : tie.Need-returns-4
 returns-4 c = c .with-sign2 .ensures ∙ ap (signed (ltb (c .before .before .before .before .before .before .before .args .p) (c .before .before .before .before .before .before .before .args .l - 1))) (c .before .atom-at2 .ensures) ∙ long-next (sizesOf (c .before .before .before .before .before .before .before .args .s)) (c .before .before .before .before .before .before .before .args .r .0) (now (c .before .before .before .before .before .before .before .args .body)) (c .before .before .before .before .before .before .before .args .p) (c .before .before .before .before .before .before .before .args .y) (c .before .before .before .before .before .before .before .args .l) (subst (λ (x : ℕ). length (now (c .before .before .before .before .before .before .before .args .body)) < x) (c .before .before .before .before .wide .ensures) (c .before .before .before .if1 .left)) (c .before .before .if3 .left)
 

@@ -4,18 +4,13 @@ use mathlib.Core.Path.{refl}
 use borrow.Author.Needs.{needs}
 use Rattle.slots.proofs.body_slots.Statement.{statement}
 use Rattle.slots.proofs.body_slots.Tie as tie
-use Rattle.slots.proofs.body_slots.Reads as reads
-use Rattle.slots.proofs.body_slots.Lts as lts
 
--- src/lib.rt:301:9
 returns : tie.Need-returns
 returns c = simp (le-leb _ _ (c .if1 .taken)) refl
 
--- src/lib.rt:303:5
 add-result : tie.Need-add-result
 add-result c = search needs
 
--- src/lib.rt:296:1
 returns-2 : tie.Need-returns-2
 returns-2 c = body-long (c .before .args .b) (c .before .args .y) (c .if1 .left)
 

@@ -4,62 +4,43 @@ use mathlib.Core.Path.{_∙_}
 use borrow.Author.Needs.{needs}
 use Rattle.slots.proofs.chain_first.Statement.{statement}
 use Rattle.slots.proofs.chain_first.Tie as tie
-use Rattle.slots.proofs.chain_first.Reads as reads
-use Rattle.slots.proofs.chain_first.Lts as lts
-use Rattle.slots.proofs.no.Reads as no-reads
-use Rattle.slots.proofs.three.Reads as three-reads
-use Rattle.slots.proofs.two.Reads as two-reads
-use Rattle.slots.proofs.yes.Reads as yes-reads
 
--- src/lib.rt:71:20
 no-requires : tie.Need-no-requires
 no-requires c κs = search needs
 
--- src/lib.rt:71:27
 no-requires-2 : tie.Need-no-requires-2
 no-requires-2 c κs = search needs
 
--- src/lib.rt:71:9
 two-requires : tie.Need-two-requires
 two-requires c κs = search needs
 
--- src/lib.rt:71:9
 returns : tie.Need-returns
 returns c = simp (eq-eqb _ _ (c .before .before .before .if1 .taken)) (c .two .ensures ∙ two-is (c .before .before .before .before .args .l) (c .before .before .no .ensures) (c .before .no2 .ensures))
 
--- src/lib.rt:74:20
 no-requires-3 : tie.Need-no-requires-3
 no-requires-3 c κs = search needs
 
--- src/lib.rt:74:27
 yes-requires : tie.Need-yes-requires
 yes-requires c κs = search needs
 
--- src/lib.rt:74:9
 two-requires-2 : tie.Need-two-requires-2
 two-requires-2 c κs = search needs
 
--- src/lib.rt:74:9
 returns-2 : tie.Need-returns-2
 returns-2 c = simp (ne-eqb _ _ (c .before .before .before .before .if1 .left), eq-eqb _ _ (c .before .before .before .if2 .taken)) (c .two2 .ensures ∙ two-is (c .before .before .before .before .before .args .l) (c .before .before .no3 .ensures) (c .before .yes .ensures))
 
--- src/lib.rt:76:11
 yes-requires-2 : tie.Need-yes-requires-2
 yes-requires-2 c κs = search needs
 
--- src/lib.rt:76:19
 yes-requires-3 : tie.Need-yes-requires-3
 yes-requires-3 c κs = search needs
 
--- src/lib.rt:76:27
 no-requires-4 : tie.Need-no-requires-4
 no-requires-4 c κs = search needs
 
--- src/lib.rt:76:5
 three-requires : tie.Need-three-requires
 three-requires c κs = search needs
 
--- src/lib.rt:67:1
 returns-3 : tie.Need-returns-3
 returns-3 c = simp (ne-eqb _ _ (c .before .before .before .before .before .if1 .left), ne-eqb _ _ (c .before .before .before .before .if2 .left)) (c .three .ensures ∙ three-is (c .before .before .before .before .before .before .args .l) (c .before .before .before .yes2 .ensures) (c .before .before .yes3 .ensures) (c .before .no4 .ensures))
 

@@ -3,62 +3,43 @@ use Rattle.literals.specs.Sizes.{sizesOf}
 use borrow.Author.Needs.{needs}
 use Rattle.slots.proofs.chain_of.Statement.{statement}
 use Rattle.slots.proofs.chain_of.Tie as tie
-use Rattle.slots.proofs.chain_of.Reads as reads
-use Rattle.slots.proofs.chain_of.Lts as lts
-use Rattle.literals.proofs.below_var.Reads as below-var-reads
-use Rattle.literals.proofs.level_var.Reads as level-var-reads
-use Rattle.literals.proofs.next_below_var.Reads as next-below-var-reads
-use Rattle.literals.proofs.next_var.Reads as next-var-reads
 
--- src/lib.rt:174:16
 below-var-requires : tie.Need-below-var-requires
 below-var-requires c κs = search needs
 
--- src/lib.rt:175:16
 level-var-requires : tie.Need-level-var-requires
 level-var-requires c κs = search needs
 
--- src/lib.rt:176:16
 level-var-requires-2 : tie.Need-level-var-requires-2
 level-var-requires-2 c κs = search needs
 
--- src/lib.rt:177:32
 sub-below-var : tie.Need-sub-below-var
 sub-below-var c = search needs
 
--- src/lib.rt:177:16
 below-var-requires-2 : tie.Need-below-var-requires-2
 below-var-requires-2 c κs = search needs
 
--- src/lib.rt:173:9
 returns : tie.Need-returns
 returns c = with-first (sizesOf (c .before .before .before .before .before .args .s)) (c .before .before .before .before .before .args .k) (c .before .before .before .before .before .args .b .0) (c .before .before .before .before .before .args .h .0) (c .before .before .before .before .before .args .i) (c .before .before .before .before .if1 .taken) (c .before .before .before .below-var .ensures) (c .before .before .level-var .ensures) (c .before .level-var2 .ensures) (c .below-var2 .ensures)
 
--- src/lib.rt:180:13
 sub-j : tie.Need-sub-j
 sub-j c = search needs
 
--- src/lib.rt:182:12
 next-below-var-requires : tie.Need-next-below-var-requires
 next-below-var-requires c κs = search needs
 
--- src/lib.rt:183:12
 next-var-requires : tie.Need-next-var-requires
 next-var-requires c κs = search needs
 
--- src/lib.rt:184:12
 level-var-requires-3 : tie.Need-level-var-requires-3
 level-var-requires-3 c κs = search needs
 
--- src/lib.rt:185:33
 sub-next-below-var : tie.Need-sub-next-below-var
 sub-next-below-var c = search needs
 
--- src/lib.rt:185:12
 next-below-var-requires-2 : tie.Need-next-below-var-requires-2
 next-below-var-requires-2 c κs = search needs
 
--- src/lib.rt:167:1
 returns-2 : tie.Need-returns-2
 returns-2 c = with-second (sizesOf (c .before .before .before .before .before .args .s)) (c .before .before .before .before .before .args .k) (c .before .before .before .before .before .args .b .0) (c .before .before .before .before .before .args .h .0) (c .before .before .before .before .before .args .i) (c .before .before .before .before .if1 .left) (c .before .before .before .next-below-var .ensures) (c .before .before .next-var .ensures) (c .before .level-var3 .ensures) (c .next-below-var2 .ensures)
 

@@ -2,14 +2,10 @@ use borrow.Author.Tests.{eq-eqb, ne-eqb}
 use mathlib.Core.Path.{refl}
 use Rattle.slots.proofs.chain_size.Statement.{statement}
 use Rattle.slots.proofs.chain_size.Tie as tie
-use Rattle.slots.proofs.chain_size.Reads as reads
-use Rattle.slots.proofs.chain_size.Lts as lts
 
--- src/lib.rt:331:9
 returns : tie.Need-returns
 returns c = simp (eq-eqb _ _ (c .if1 .taken)) refl
 
--- src/lib.rt:327:1
 returns-2 : tie.Need-returns-2
 returns-2 c = simp (ne-eqb _ _ (c .if1 .left)) refl
 

@@ -2,24 +2,16 @@ use borrow.Author.Tests.{eq-eqb, ne-eqb}
 use borrow.Author.Needs.{needs}
 use Rattle.slots.proofs.chain_slot.Statement.{statement}
 use Rattle.slots.proofs.chain_slot.Tie as tie
-use Rattle.slots.proofs.chain_slot.Reads as reads
-use Rattle.slots.proofs.chain_slot.Lts as lts
-use Rattle.slots.proofs.chain_first.Reads as chain-first-reads
-use Rattle.slots.proofs.chain_next.Reads as chain-next-reads
 
--- src/lib.rt:105:9
 chain-first-requires : tie.Need-chain-first-requires
 chain-first-requires c κs = search needs
 
--- src/lib.rt:105:9
 returns : tie.Need-returns
 returns c = simp (eq-eqb _ _ (c .before .if1 .taken)) (c .chain-first .ensures)
 
--- src/lib.rt:107:5
 chain-next-requires : tie.Need-chain-next-requires
 chain-next-requires c κs = search needs
 
--- src/lib.rt:101:1
 returns-2 : tie.Need-returns-2
 returns-2 c = simp (ne-eqb _ _ (c .before .if1 .left)) (c .chain-next .ensures)
 

@@ -2,18 +2,13 @@ use borrow.Author.Tests.{eq-eqb, ne-eqb}
 use mathlib.Core.Path.{refl}
 use Rattle.slots.proofs.chain_slots.Statement.{statement}
 use Rattle.slots.proofs.chain_slots.Tie as tie
-use Rattle.slots.proofs.chain_slots.Reads as reads
-use Rattle.slots.proofs.chain_slots.Lts as lts
 
--- src/lib.rt:341:13
 returns : tie.Need-returns
 returns c = simp (eq-eqb _ _ (c .before .if1 .taken), eq-eqb _ _ (c .if2 .taken)) refl
 
--- src/lib.rt:343:9
 returns-2 : tie.Need-returns-2
 returns-2 c = simp (eq-eqb _ _ (c .before .if1 .taken), ne-eqb _ _ (c .if2 .left)) refl
 
--- src/lib.rt:336:1
 returns-3 : tie.Need-returns-3
 returns-3 c = simp (ne-eqb _ _ (c .if1 .left)) refl
 

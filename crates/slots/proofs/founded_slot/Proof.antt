@@ -4,55 +4,37 @@ use mathlib.Core.Path.{_∙_, ap}
 use borrow.Author.Needs.{needs}
 use Rattle.slots.proofs.founded_slot.Statement.{statement}
 use Rattle.slots.proofs.founded_slot.Tie as tie
-use Rattle.slots.proofs.founded_slot.Reads as reads
-use Rattle.slots.proofs.founded_slot.Lts as lts
-use Rattle.literals.proofs.below_var.Reads as below-var-reads
-use Rattle.literals.proofs.body_var.Reads as body-var-reads
-use Rattle.literals.proofs.founds_var.Reads as founds-var-reads
-use Rattle.slots.proofs.no.Reads as no-reads
-use Rattle.slots.proofs.yes.Reads as yes-reads
 
--- src/lib.rt:159:20
 founds-var-requires : tie.Need-founds-var-requires
 founds-var-requires c κs = search needs
 
--- src/lib.rt:159:9
 yes-requires : tie.Need-yes-requires
 yes-requires c κs = search needs
 
--- src/lib.rt:159:9
 returns : tie.Need-returns
 returns c = simp (eq-eqb _ _ (c .before .before .if1 .taken)) (c .yes .ensures ∙ ap var (c .before .founds-var .ensures))
 
--- src/lib.rt:162:19
 body-var-requires : tie.Need-body-var-requires
 body-var-requires c κs = search needs
 
--- src/lib.rt:162:9
 no-requires : tie.Need-no-requires
 no-requires c κs = search needs
 
--- src/lib.rt:162:9
 returns-2 : tie.Need-returns-2
 returns-2 c = simp (ne-eqb _ _ (c .before .before .before .if1 .left), eq-eqb _ _ (c .before .before .if2 .taken)) (c .no .ensures ∙ ap −_ (c .before .body-var .ensures))
 
--- src/lib.rt:164:26
 sub-below-var : tie.Need-sub-below-var
 sub-below-var c = search needs
 
--- src/lib.rt:164:21
 add-below-var : tie.Need-add-below-var
 add-below-var c = search needs
 
--- src/lib.rt:164:8
 below-var-requires : tie.Need-below-var-requires
 below-var-requires c κs = search needs
 
--- src/lib.rt:164:5
 no-requires-2 : tie.Need-no-requires-2
 no-requires-2 c κs = search needs
 
--- src/lib.rt:154:1
 returns-3 : tie.Need-returns-3
 returns-3 c = simp (ne-eqb _ _ (c .before .before .before .if1 .left), ne-eqb _ _ (c .before .before .if2 .left)) (c .no2 .ensures ∙ ap −_ (c .before .below-var .ensures))
 

@@ -6,50 +6,34 @@ use denote.Ref.{now}
 use borrow.Author.Needs.{needs}
 use Rattle.slots.proofs.head_slot.Statement.{statement}
 use Rattle.slots.proofs.head_slot.Tie as tie
-use Rattle.slots.proofs.head_slot.Reads as reads
-use Rattle.slots.proofs.head_slot.Lts as lts
-use Rattle.numbers.proofs.atom_var.Reads as atom-var-reads
-use Rattle.program.proofs.head.Reads as head-reads
-use Rattle.slots.proofs.no.Reads as no-reads
-use Rattle.slots.proofs.yes.Reads as yes-reads
 
--- src/lib.rt:286:19
 atom-var-requires : tie.Need-atom-var-requires
 atom-var-requires c κs = search needs
 
--- src/lib.rt:286:9
 no-requires : tie.Need-no-requires
 no-requires c κs = search needs
 
--- src/lib.rt:286:9
 returns : tie.Need-returns
 returns c = c .no .ensures ∙ ap −_ (c .before .atom-var .ensures) ∙ head-first (now (c .before .before .before .before .args .heads)) (c .before .before .before .before .args .a .0) (c .before .before .before .before .args .base) (c .before .before .before .before .args .l) (c .before .before .if1 .taken)
 
--- src/lib.rt:288:13
 sub-r : tie.Need-sub-r
 sub-r c = search needs
 
--- src/lib.rt:289:8
 head-requires : tie.Need-head-requires
 head-requires c κs = search needs
 
--- src/lib.rt:290:24
 add-t10 : tie.Need-add-t10
 add-t10 c = search needs
 
--- src/lib.rt:290:9
 yes-requires : tie.Need-yes-requires
 yes-requires c κs = search needs
 
--- src/lib.rt:290:9
 returns-2 : tie.Need-returns-2
 returns-2 c = c .yes .ensures ∙ head-own (now (c .before .before .before .before .before .before .before .args .heads)) (c .before .before .before .before .before .before .before .args .a .0) (c .before .before .before .before .before .before .before .args .base) (c .before .before .before .before .before .before .before .args .l) (c .before .before .before .before .before .if1 .left) (sym (c .before .before .before .before .head .ensures) ∙ c .before .if2 .taken)
 
--- src/lib.rt:292:5
 no-requires-2 : tie.Need-no-requires-2
 no-requires-2 c κs = search needs
 
--- src/lib.rt:281:1
 returns-3 : tie.Need-returns-3
 returns-3 c = c .no2 .ensures ∙ head-other (now (c .before .before .before .before .before .before .before .args .heads)) (c .before .before .before .before .before .before .before .args .a .0) (c .before .before .before .before .before .before .before .args .base) (c .before .before .before .before .before .before .before .args .l) (c .before .before .before .before .before .if1 .left) (λ e. c .before .if2 .left (c .before .before .before .before .head .ensures ∙ e))
 

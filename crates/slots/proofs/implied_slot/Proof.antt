@@ -4,35 +4,22 @@ use mathlib.Core.Path.{_∙_, ap}
 use borrow.Author.Needs.{needs}
 use Rattle.slots.proofs.implied_slot.Statement.{statement}
 use Rattle.slots.proofs.implied_slot.Tie as tie
-use Rattle.slots.proofs.implied_slot.Reads as reads
-use Rattle.slots.proofs.implied_slot.Lts as lts
-use Rattle.literals.proofs.body_var.Reads as body-var-reads
-use Rattle.numbers.proofs.atom_var.Reads as atom-var-reads
-use Rattle.slots.proofs.no.Reads as no-reads
-use Rattle.slots.proofs.two.Reads as two-reads
-use Rattle.slots.proofs.yes.Reads as yes-reads
 
--- src/lib.rt:277:13
 atom-var-requires : tie.Need-atom-var-requires
 atom-var-requires c κs = search needs
 
--- src/lib.rt:277:9
 yes-requires : tie.Need-yes-requires
 yes-requires c κs = search needs
 
--- src/lib.rt:277:30
 body-var-requires : tie.Need-body-var-requires
 body-var-requires c κs = search needs
 
--- src/lib.rt:277:27
 no-requires : tie.Need-no-requires
 no-requires c κs = search needs
 
--- src/lib.rt:277:5
 two-requires : tie.Need-two-requires
 two-requires c κs = search needs
 
--- src/lib.rt:273:1
 returns : tie.Need-returns
 returns c = c .two .ensures ∙ two-is (c .before .before .before .before .before .args .l) (c .before .before .before .yes .ensures ∙ ap var (c .before .before .before .before .atom-var .ensures)) (c .before .no .ensures ∙ ap −_ (c .before .before .body-var .ensures))
 

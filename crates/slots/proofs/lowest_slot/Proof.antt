@@ -8,41 +8,28 @@ use Prim.Native.Nat.{ℕ, _+_}
 use borrow.Author.Needs.{needs}
 use Rattle.slots.proofs.lowest_slot.Statement.{statement}
 use Rattle.slots.proofs.lowest_slot.Tie as tie
-use Rattle.slots.proofs.lowest_slot.Reads as reads
-use Rattle.slots.proofs.lowest_slot.Lts as lts
-use Rattle.literals.proofs.body_var.Reads as body-var-reads
-use Rattle.literals.proofs.next_below_var.Reads as next-below-var-reads
-use Rattle.slots.proofs.no.Reads as no-reads
 
--- src/lib.rt:173:19
 body-var-requires : tie.Need-body-var-requires
 body-var-requires c κs = search needs
 
--- src/lib.rt:173:9
 no-requires : tie.Need-no-requires
 no-requires c κs = search needs
 
--- src/lib.rt:173:9
 returns : tie.Need-returns
 returns c = simp (eq-eqb _ _ (c .before .before .if1 .taken)) (c .no .ensures ∙ ap −_ (c .before .body-var .ensures))
 
--- src/lib.rt:175:31
 sub-next-below-var : tie.Need-sub-next-below-var
 sub-next-below-var c = search needs
 
--- src/lib.rt:175:26
 add-next-below-var : tie.Need-add-next-below-var
 add-next-below-var c = search needs
 
--- src/lib.rt:175:8
 next-below-var-requires : tie.Need-next-below-var-requires
 next-below-var-requires c κs = search needs
 
--- src/lib.rt:175:5
 no-requires-2 : tie.Need-no-requires-2
 no-requires-2 c κs = search needs
 
--- src/lib.rt:168:1
 returns-2 : tie.Need-returns-2
 returns-2 c = simp (ne-eqb _ _ (c .before .before .if1 .left)) (c .no2 .ensures ∙ ap −_ (c .before .next-below-var .ensures ∙ ap (λ (x : ℕ). nextBelowVar (sizesOf (c .before .before .before .args .s)) (c .before .before .before .args .k + x) (c .before .before .before .args .s .w)) (one-before (c .before .before .before .args .l))))
 

@@ -10,80 +10,55 @@ use mathlib.Core.Path.{_∙_, ap}
 use borrow.Author.Needs.{needs}
 use Rattle.slots.proofs.next_slot.Statement.{statement}
 use Rattle.slots.proofs.next_slot.Tie as tie
-use Rattle.slots.proofs.next_slot.Reads as reads
-use Rattle.slots.proofs.next_slot.Lts as lts
-use Rattle.literals.proofs.level_var.Reads as level-var-reads
-use Rattle.literals.proofs.next_var.Reads as next-var-reads
-use Rattle.slots.proofs.no.Reads as no-reads
-use Rattle.slots.proofs.three.Reads as three-reads
-use Rattle.slots.proofs.with_sign.Reads as with-sign-reads
-use Rattle.slots.proofs.yes.Reads as yes-reads
 
--- src/lib.rt:123:14
 sub-j : tie.Need-sub-j
 sub-j c = search needs
 
--- src/lib.rt:123:13
 add-j : tie.Need-add-j
 add-j c = search needs
 
--- src/lib.rt:125:9
 next-var-requires : tie.Need-next-var-requires
 next-var-requires c κs = search needs
 
--- src/lib.rt:126:9
 level-var-requires : tie.Need-level-var-requires
 level-var-requires c κs = search needs
 
--- src/lib.rt:128:26
 level-var-requires-2 : tie.Need-level-var-requires-2
 level-var-requires-2 c κs = search needs
 
--- src/lib.rt:128:22
 yes-requires : tie.Need-yes-requires
 yes-requires c κs = search needs
 
--- src/lib.rt:128:47
 with-sign-requires : tie.Need-with-sign-requires
 with-sign-requires c κs = search needs
 
--- src/lib.rt:128:69
 with-sign-requires-2 : tie.Need-with-sign-requires-2
 with-sign-requires-2 c κs = search needs
 
--- src/lib.rt:128:9
 three-requires : tie.Need-three-requires
 three-requires c κs = search needs
 
--- src/lib.rt:128:9
 returns : tie.Need-returns
 returns c = c .three .ensures ∙ three-is (c .before .before .before .before .before .before .before .before .args .l) (c .before .before .before .yes .ensures ∙ ap var (c .before .before .before .before .level-var2 .ensures)) (c .before .before .with-sign .ensures ∙ ap (signed (eqb (c .before .before .before .before .before .before .before .before .args .y % 2) 0)) (c .before .before .before .before .before .before .before .next-var .ensures)) (c .before .with-sign2 .ensures ∙ ap (signed (not (eqb (c .before .before .before .before .before .before .before .before .args .y % 2) 0))) (c .before .before .before .before .before .before .level-var .ensures)) ∙ next-short (sizesOf (c .before .before .before .before .before .before .before .before .args .s)) (c .before .before .before .before .before .before .before .before .args .a .0) (c .before .before .before .before .before .before .before .before .args .i) (c .before .before .before .before .before .before .before .before .args .y) (c .before .before .before .before .before .before .before .before .args .l) (c .before .before .before .before .before .if1 .taken)
 
--- src/lib.rt:131:19
 level-var-requires-3 : tie.Need-level-var-requires-3
 level-var-requires-3 c κs = search needs
 
--- src/lib.rt:131:9
 no-requires : tie.Need-no-requires
 no-requires c κs = search needs
 
--- src/lib.rt:131:9
 returns-2 : tie.Need-returns-2
 returns-2 c = c .no .ensures ∙ ap −_ (c .before .level-var3 .ensures) ∙ next-flip (sizesOf (c .before .before .before .before .before .before .args .s)) (c .before .before .before .before .before .before .args .a .0) (c .before .before .before .before .before .before .args .i) (c .before .before .before .before .before .before .args .y) (c .before .before .before .before .before .before .args .l) (c .before .before .before .if1 .left) (c .before .before .if2 .taken)
 
--- src/lib.rt:134:9
 with-sign-requires-3 : tie.Need-with-sign-requires-3
 with-sign-requires-3 c κs = search needs
 
--- src/lib.rt:134:9
 returns-3 : tie.Need-returns-3
 returns-3 c = c .with-sign3 .ensures ∙ ap (signed (eqb (c .before .before .before .before .before .before .args .y % 2) 0)) (c .before .before .before .before .before .next-var .ensures) ∙ next-u (sizesOf (c .before .before .before .before .before .before .args .s)) (c .before .before .before .before .before .before .args .a .0) (c .before .before .before .before .before .before .args .i) (c .before .before .before .before .before .before .args .y) (c .before .before .before .before .before .before .args .l) (c .before .before .before .if1 .left) (c .before .before .if2 .left) (c .before .if3 .taken)
 
--- src/lib.rt:136:5
 with-sign-requires-4 : tie.Need-with-sign-requires-4
 with-sign-requires-4 c κs = search needs
 
--- src/lib.rt:119:1
 returns-4 : tie.Need-returns-4
 returns-4 c = c .with-sign4 .ensures ∙ ap (signed (eqb (c .before .before .before .before .before .before .args .y % 2) 0)) (c .before .before .before .before .level-var .ensures) ∙ next-v (sizesOf (c .before .before .before .before .before .before .args .s)) (c .before .before .before .before .before .before .args .a .0) (c .before .before .before .before .before .before .args .i) (c .before .before .before .before .before .before .args .y) (c .before .before .before .before .before .before .args .l) (c .before .before .before .if1 .left) (c .before .before .if2 .left) (c .before .if3 .left)
 

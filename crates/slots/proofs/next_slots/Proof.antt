@@ -2,26 +2,19 @@ use Rattle.slots.proofs.Counts.{next-short-slots, next-long-slots}
 use borrow.Author.Needs.{needs}
 use Rattle.slots.proofs.next_slots.Statement.{statement}
 use Rattle.slots.proofs.next_slots.Tie as tie
-use Rattle.slots.proofs.next_slots.Reads as reads
-use Rattle.slots.proofs.next_slots.Lts as lts
 
--- src/lib.rt:311:9
 sub-if1 : tie.Need-sub-if1
 sub-if1 c = search needs
 
--- src/lib.rt:311:8
 add-if1 : tie.Need-add-if1
 add-if1 c = search needs
 
--- src/lib.rt:312:9
 returns : tie.Need-returns
 returns c = next-short-slots (c .before .args .i) (c .before .args .y) (c .if1 .taken)
 
--- src/lib.rt:314:5
 add-result : tie.Need-add-result
 add-result c = search needs
 
--- src/lib.rt:307:1
 returns-2 : tie.Need-returns-2
 returns-2 c = next-long-slots (c .before .args .i) (c .before .args .y) (c .if1 .left)
 

@@ -4,25 +4,16 @@ use mathlib.Core.Path.{_∙_}
 use borrow.Author.Needs.{needs}
 use Rattle.slots.proofs.pair_slot.Statement.{statement}
 use Rattle.slots.proofs.pair_slot.Tie as tie
-use Rattle.slots.proofs.pair_slot.Reads as reads
-use Rattle.slots.proofs.pair_slot.Lts as lts
-use Rattle.slots.proofs.chain_bit.Reads as chain-bit-reads
-use Rattle.slots.proofs.chain_literal.Reads as chain-literal-reads
-use Rattle.slots.proofs.chain_of.Reads as chain-of-reads
 
--- src/lib.rt:201:9
 chain-of-requires : tie.Need-chain-of-requires
 chain-of-requires c κs = search needs
 
--- src/lib.rt:202:22
 chain-bit-requires : tie.Need-chain-bit-requires
 chain-bit-requires c κs = search needs
 
--- src/lib.rt:202:5
 chain-literal-requires : tie.Need-chain-literal-requires
 chain-literal-requires c κs = search needs
 
--- src/lib.rt:197:1
 returns : tie.Need-returns
 returns c = c .chain-literal .ensures ∙ by-chain (sizesOf (c .before .before .before .args .s)) (c .before .before .before .args .k) (c .before .before .before .args .b .0) (c .before .before .before .args .h .0) (c .before .before .before .args .i) (c .before .before .before .args .y) (c .before .before .before .args .l) (c .before .before .chain-of .ensures) (c .before .chain-bit .ensures)
 

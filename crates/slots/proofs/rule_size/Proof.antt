@@ -2,22 +2,16 @@ use Rattle.slots.proofs.Counts.{size-none, size-some}
 use borrow.Author.Needs.{needs}
 use Rattle.slots.proofs.rule_size.Statement.{statement}
 use Rattle.slots.proofs.rule_size.Tie as tie
-use Rattle.slots.proofs.rule_size.Reads as reads
-use Rattle.slots.proofs.rule_size.Lts as lts
 
--- src/lib.rt:354:16
 add-result : tie.Need-add-result
 add-result c = search needs
 
--- src/lib.rt:354:9
 returns : tie.Need-returns
 returns c = size-none (c .before .args .w) (c .before .args .b) (c .if1 .taken)
 
--- src/lib.rt:356:5
 add-result-2 : tie.Need-add-result-2
 add-result-2 c = search needs
 
--- src/lib.rt:349:1
 returns-2 : tie.Need-returns-2
 returns-2 c = size-some (c .before .args .w) (c .before .args .b) (c .if1 .left)
 

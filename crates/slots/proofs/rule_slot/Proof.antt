@@ -9,124 +9,85 @@ use native.Mathlib.Omega.{arith}
 use borrow.Author.Needs.{needs}
 use Rattle.slots.proofs.rule_slot.Statement.{statement}
 use Rattle.slots.proofs.rule_slot.Tie as tie
-use Rattle.slots.proofs.rule_slot.Reads as reads
-use Rattle.slots.proofs.rule_slot.Lts as lts
-use Rattle.literals.proofs.below_var.Reads as below-var-reads
-use Rattle.literals.proofs.body_var.Reads as body-var-reads
-use Rattle.literals.proofs.founds_var.Reads as founds-var-reads
-use Rattle.literals.proofs.level_var.Reads as level-var-reads
-use Rattle.slots.proofs.founded_slot.Reads as founded-slot-reads
-use Rattle.slots.proofs.lowest_slot.Reads as lowest-slot-reads
-use Rattle.slots.proofs.no.Reads as no-reads
-use Rattle.slots.proofs.two.Reads as two-reads
-use Rattle.slots.proofs.with_sign.Reads as with-sign-reads
-use Rattle.slots.proofs.yes.Reads as yes-reads
 
--- src/lib.rt:185:23
 founds-var-requires : tie.Need-founds-var-requires
 founds-var-requires c κs = search needs
 
--- src/lib.rt:185:20
 no-requires : tie.Need-no-requires
 no-requires c κs = search needs
 
--- src/lib.rt:185:46
 body-var-requires : tie.Need-body-var-requires
 body-var-requires c κs = search needs
 
--- src/lib.rt:185:42
 yes-requires : tie.Need-yes-requires
 yes-requires c κs = search needs
 
--- src/lib.rt:185:9
 two-requires : tie.Need-two-requires
 two-requires c κs = search needs
 
--- src/lib.rt:185:9
 returns : tie.Need-returns
 returns c = c .two .ensures ∙ two-is (c .before .before .before .before .before .before .args .l) (c .before .before .before .no .ensures ∙ ap −_ (c .before .before .before .before .founds-var .ensures)) (c .before .yes .ensures ∙ ap var (c .before .before .body-var .ensures)) ∙ at-first (sizesOf (c .before .before .before .before .before .before .args .s)) (c .before .before .before .before .before .before .args .r .0) (c .before .before .before .before .before .before .args .h .0) (c .before .before .before .before .before .before .args .k) (c .before .before .before .before .before .before .args .b) (c .before .before .before .before .before .before .args .y) (c .before .before .before .before .before .before .args .l) (c .before .before .before .before .before .if1 .taken)
 
--- src/lib.rt:187:13
 add-if2 : tie.Need-add-if2
 add-if2 c = search needs
 
--- src/lib.rt:188:23
 founds-var-requires-2 : tie.Need-founds-var-requires-2
 founds-var-requires-2 c κs = search needs
 
--- src/lib.rt:188:20
 no-requires-2 : tie.Need-no-requires-2
 no-requires-2 c κs = search needs
 
--- src/lib.rt:188:64
 sub-below-var : tie.Need-sub-below-var
 sub-below-var c = search needs
 
--- src/lib.rt:188:59
 add-below-var : tie.Need-add-below-var
 add-below-var c = search needs
 
--- src/lib.rt:188:46
 below-var-requires : tie.Need-below-var-requires
 below-var-requires c κs = search needs
 
--- src/lib.rt:188:42
 yes-requires-2 : tie.Need-yes-requires-2
 yes-requires-2 c κs = search needs
 
--- src/lib.rt:188:9
 two-requires-2 : tie.Need-two-requires-2
 two-requires-2 c κs = search needs
 
--- src/lib.rt:188:9
 returns-2 : tie.Need-returns-2
 returns-2 c = c .two2 .ensures ∙ two-is (c .before .before .before .before .before .before .before .args .l) (c .before .before .before .no2 .ensures ∙ ap −_ (c .before .before .before .before .founds-var2 .ensures)) (c .before .yes2 .ensures ∙ ap var (c .before .before .below-var .ensures)) ∙ at-below (sizesOf (c .before .before .before .before .before .before .before .args .s)) (c .before .before .before .before .before .before .before .args .r .0) (c .before .before .before .before .before .before .before .args .h .0) (c .before .before .before .before .before .before .before .args .k) (c .before .before .before .before .before .before .before .args .b) (c .before .before .before .before .before .before .before .args .y) (c .before .before .before .before .before .before .before .args .l) (c .before .before .before .before .before .before .if1 .left) (c .before .before .before .before .before .if2 .taken)
 
--- src/lib.rt:190:13
 add-if3 : tie.Need-add-if3
 add-if3 c = search needs
 
--- src/lib.rt:191:9
 founded-slot-requires : tie.Need-founded-slot-requires
 founded-slot-requires c κs = (c .before .before .before .pre .0, c .before .before .before .pre .1, c .before .before .before .pre .7, omega (arith, c .before .before .before .pre .4, long-fits (sizesOf (c .before .before .before .args .s)) (c .before .before .before .args .r .0) (c .before .before .before .args .h .0) (c .before .before .before .args .k) (c .before .before .before .args .b) (c .before .before .before .args .y) (c .before .before .before .args .l) (c .before .if2 .left) (c .if3 .taken) (c .before .before .before .pre .8)))
 
--- src/lib.rt:191:9
 returns-3 : tie.Need-returns-3
 returns-3 c = c .founded-slot .ensures ∙ at-long (sizesOf (c .before .before .before .before .args .s)) (c .before .before .before .before .args .r .0) (c .before .before .before .before .args .h .0) (c .before .before .before .before .args .k) (c .before .before .before .before .args .b) (c .before .before .before .before .args .y) (c .before .before .before .before .args .l) (c .before .before .before .if1 .left) (c .before .before .if2 .left) (c .before .if3 .taken)
 
--- src/lib.rt:195:23
 body-var-requires-2 : tie.Need-body-var-requires-2
 body-var-requires-2 c κs = search needs
 
--- src/lib.rt:195:20
 no-requires-3 : tie.Need-no-requires-3
 no-requires-3 c κs = search needs
 
--- src/lib.rt:195:73
 sub-level-var : tie.Need-sub-level-var
 sub-level-var c = search needs
 
--- src/lib.rt:195:57
 level-var-requires : tie.Need-level-var-requires
 level-var-requires c κs = (c .before .before .before .before .before .before .pre .0, c .before .before .before .before .before .before .pre .2, c .before .before .before .before .before .before .pre .3, omega (arith, c .before .before .before .before .before .before .pre .0 .bits, bit-fits (c .before .before .before .before .before .before .args .s .w) (c .before .before .before .before .before .before .args .b) (c .before .before .before .before .before .before .args .y) (c .before .before .if4 .taken) (c .before .before .before .before .before .before .pre .6)))
 
--- src/lib.rt:195:40
 with-sign-requires : tie.Need-with-sign-requires
 with-sign-requires c κs = search needs
 
--- src/lib.rt:195:9
 two-requires-3 : tie.Need-two-requires-3
 two-requires-3 c κs = search needs
 
--- src/lib.rt:195:9
 returns-4 : tie.Need-returns-4
 returns-4 c = c .two3 .ensures ∙ two-is (c .before .before .before .before .before .before .before .before .before .args .l) (c .before .before .before .no3 .ensures ∙ ap −_ (c .before .before .before .before .body-var2 .ensures)) (c .before .with-sign .ensures ∙ ap (signed (eqb (c .before .before .before .before .before .before .before .before .before .args .y) 3)) (c .before .before .level-var .ensures)) ∙ at-bit (sizesOf (c .before .before .before .before .before .before .before .before .before .args .s)) (c .before .before .before .before .before .before .before .before .before .args .r .0) (c .before .before .before .before .before .before .before .before .before .args .h .0) (c .before .before .before .before .before .before .before .before .before .args .k) (c .before .before .before .before .before .before .before .before .before .args .b) (c .before .before .before .before .before .before .before .before .before .args .y) (c .before .before .before .before .before .before .before .before .before .args .l) (c .before .before .before .before .before .before .before .before .if1 .left) (c .before .before .before .before .before .before .before .if2 .left) (c .before .before .before .before .before .before .if3 .left) (c .before .before .before .before .before .if4 .taken)
 
--- src/lib.rt:197:5
 lowest-slot-requires : tie.Need-lowest-slot-requires
 lowest-slot-requires c κs = (c .before .before .before .before .pre .0, c .before .before .before .before .pre .1, c .before .before .before .before .pre .7, omega (arith, c .before .before .before .before .pre .4, last-fits (sizesOf (c .before .before .before .before .args .s)) (c .before .before .before .before .args .r .0) (c .before .before .before .before .args .h .0) (c .before .before .before .before .args .k) (c .before .before .before .before .args .b) (c .before .before .before .before .args .y) (c .before .before .before .before .args .l) (c .before .before .if2 .left) (c .before .if3 .left) (c .if4 .left) (c .before .before .before .before .pre .8)))
 
--- src/lib.rt:179:1
 returns-5 : tie.Need-returns-5
 returns-5 c = c .lowest-slot .ensures ∙ at-last (sizesOf (c .before .before .before .before .before .args .s)) (c .before .before .before .before .before .args .r .0) (c .before .before .before .before .before .args .h .0) (c .before .before .before .before .before .args .k) (c .before .before .before .before .before .args .b) (c .before .before .before .before .before .args .y) (c .before .before .before .before .before .args .l) (c .before .before .before .before .if1 .left) (c .before .before .before .if2 .left) (c .before .before .if3 .left) (c .before .if4 .left)
 

@@ -2,38 +2,28 @@ use Rattle.slots.proofs.Counts.{rule-short, rule-long, rule-bit, rule-l
 use borrow.Author.Needs.{needs}
 use Rattle.slots.proofs.rule_slots.Statement.{statement}
 use Rattle.slots.proofs.rule_slots.Tie as tie
-use Rattle.slots.proofs.rule_slots.Reads as reads
-use Rattle.slots.proofs.rule_slots.Lts as lts
 
--- src/lib.rt:363:13
 add-if1 : tie.Need-add-if1
 add-if1 c = search needs
 
--- src/lib.rt:364:9
 returns : tie.Need-returns
 returns c = rule-short (c .before .args .b) (c .before .args .y) (c .if1 .taken)
 
--- src/lib.rt:366:13
 add-if2 : tie.Need-add-if2
 add-if2 c = search needs
 
--- src/lib.rt:367:16
 add-result : tie.Need-add-result
 add-result c = search needs
 
--- src/lib.rt:367:9
 returns-2 : tie.Need-returns-2
 returns-2 c = rule-long (c .before .before .args .b) (c .before .before .args .y) (c .before .if1 .left) (c .if2 .taken)
 
--- src/lib.rt:370:9
 returns-3 : tie.Need-returns-3
 returns-3 c = rule-bit (c .before .before .before .args .b) (c .before .before .before .args .y) (c .before .before .if1 .left) (c .before .if2 .left) (c .if3 .taken)
 
--- src/lib.rt:372:5
 add-result-2 : tie.Need-add-result-2
 add-result-2 c = search needs
 
--- src/lib.rt:359:1
 returns-4 : tie.Need-returns-4
 returns-4 c = rule-last (c .before .before .before .args .b) (c .before .before .before .args .y) (c .before .before .if1 .left) (c .before .if2 .left) (c .if3 .left)
 

@@ -2,18 +2,13 @@ use borrow.Author.Tests.{eq-eqb, ne-eqb}
 use mathlib.Core.Path.{refl}
 use Rattle.slots.proofs.three.Statement.{statement}
 use Rattle.slots.proofs.three.Tie as tie
-use Rattle.slots.proofs.three.Reads as reads
-use Rattle.slots.proofs.three.Lts as lts
 
--- src/lib.rt:58:9
 returns : tie.Need-returns
 returns c = simp (eq-eqb _ _ (c .if1 .taken)) refl
 
--- src/lib.rt:61:9
 returns-2 : tie.Need-returns-2
 returns-2 c = simp (ne-eqb _ _ (c .before .if1 .left), eq-eqb _ _ (c .if2 .taken)) refl
 
--- src/lib.rt:54:1
 returns-3 : tie.Need-returns-3
 returns-3 c = simp (ne-eqb _ _ (c .before .if1 .left), ne-eqb _ _ (c .if2 .left)) refl
 

@@ -11,9 +11,6 @@ use Rattle.stages.specs.Levels.{levelAt}
 use Rattle.stages.proofs.Scans.{scan-asks, scan-more, scan-fails, scan-all}
 use Rattle.stages.proofs.all_below.Statement.{statement}
 use Rattle.stages.proofs.all_below.Tie as tie
-use Rattle.stages.proofs.all_below.Reads as reads
-use Rattle.stages.proofs.all_below.Lts as lts
-use Rattle.stages.proofs.byte_of.Reads as byte-of-reads
 
 abbrev Inv-loop : tie.InvT-loop
 Inv-loop atoms bytes x j₀ j = (j ≤ length atoms) × So (all (λ b. ltb (levelAt bytes b) x) (take j atoms))
@@ -21,39 +18,30 @@ Inv-loop atoms bytes x j₀ j = (j ≤ length atoms) × So (all (λ b. ltb (leve
 abbrev μ-loop : tie.MeasureT-loop
 μ-loop atoms bytes x j₀ j = length atoms - j
 
--- src/lib.rt:75:5
 loop-holds : tie.Need-loop-holds Inv-loop μ-loop
 loop-holds c = (search needs, refl)
 
--- src/lib.rt:76:32
 mul-byte-of : tie.Need-mul-byte-of Inv-loop μ-loop
 mul-byte-of c = search needs
 
--- src/lib.rt:76:32
 shared-slice-read-byte-of : tie.Need-shared-slice-read-byte-of Inv-loop μ-loop
 shared-slice-read-byte-of c = search needs
 
--- src/lib.rt:76:17
 byte-of-requires : tie.Need-byte-of-requires Inv-loop μ-loop
 byte-of-requires c κs = scan-asks _ (now (c .before .before .before .before .before .args .atoms)) (c .before .before .loop .j) (c .before .before .before .before .before .pre) (c .before .loop-test .taken)
 
--- src/lib.rt:77:13
 returns : tie.Need-returns Inv-loop μ-loop
 returns c = scan-fails (λ b. ltb (levelAt (now (c .before .before .before .before .before .before .before .args .bytes)) b) (c .before .before .before .before .before .before .before .args .x)) (now (c .before .before .before .before .before .before .before .args .atoms)) (c .before .before .before .before .loop .j) (c .before .before .before .loop-test .taken) (ap (λ (k : ℕ). ltb k (c .before .before .before .before .before .before .before .args .x)) (sym (c .before .byte-of .ensures)) ∙ le-ltb _ _ (c .if1 .taken))
 
--- src/lib.rt:79:9
 add-j : tie.Need-add-j Inv-loop μ-loop
 add-j c = search needs
 
--- src/lib.rt:75:5
 loop-less : tie.Need-loop-less Inv-loop μ-loop
 loop-less c = search needs
 
--- src/lib.rt:75:5
 loop-again : tie.Need-loop-again Inv-loop μ-loop
 loop-again c = (search needs, scan-more (λ b. ltb (levelAt (now (c .before .before .before .before .before .before .before .args .bytes)) b) (c .before .before .before .before .before .before .before .args .x)) (now (c .before .before .before .before .before .before .before .args .atoms)) (c .before .before .before .before .loop .j) (c .before .before .before .loop-test .taken) (c .before .before .before .before .loop .inv .1) (ap (λ (k : ℕ). ltb k (c .before .before .before .before .before .before .before .args .x)) (sym (c .before .byte-of .ensures)) ∙ lt-ltb _ _ (c .if1 .left)))
 
--- src/lib.rt:70:1
 returns-2 : tie.Need-returns-2 Inv-loop μ-loop
 returns-2 c = scan-all (λ b. ltb (levelAt (now (c .before .before .before .before .args .bytes)) b) (c .before .before .before .before .args .x)) (now (c .before .before .before .before .args .atoms)) (c .before .loop .j) (c .loop-test .left) (c .before .loop .inv .1)
 

@@ -3,23 +3,16 @@ use Rattle.stages.proofs.Scans.{byte-is}
 use borrow.Author.Needs.{needs}
 use Rattle.stages.proofs.byte_of.Statement.{statement}
 use Rattle.stages.proofs.byte_of.Tie as tie
-use Rattle.stages.proofs.byte_of.Reads as reads
-use Rattle.stages.proofs.byte_of.Lts as lts
-use Rattle.numbers.proofs.wide.Reads as wide-reads
 
--- src/lib.rt:30:11
 wide-requires : tie.Need-wide-requires
 wide-requires c κs = search needs
 
--- src/lib.rt:30:11
 sub-result : tie.Need-sub-result
 sub-result c = search needs
 
--- src/lib.rt:30:5
 shared-slice-read-result : tie.Need-shared-slice-read-result
 shared-slice-read-result c = search needs
 
--- src/lib.rt:26:1
 returns : tie.Need-returns
 returns c = byte-is (now (c .before .before .before .args .bytes)) (c .before .wide .ensures)
 

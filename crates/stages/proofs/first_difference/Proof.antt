@@ -5,10 +5,6 @@ use native.Mathlib.Omega.{arith}
 use Rattle.stages.proofs.Scans.{Alike, alike-more, unlike-here, unlike-nowhere}
 use Rattle.stages.proofs.first_difference.Statement.{statement}
 use Rattle.stages.proofs.first_difference.Tie as tie
-use Rattle.stages.proofs.first_difference.Reads as reads
-use Rattle.stages.proofs.first_difference.Lts as lts
-use Rattle.stages.proofs.unlike.Reads as unlike-reads
-use Rattle.numbers.proofs.wide.Reads as wide-reads
 
 abbrev Inv-loop : tie.InvT-loop
 Inv-loop n set levels a₀ a = (a ≤ n) × Alike set levels a
@@ -16,47 +12,36 @@ Inv-loop n set levels a₀ a = (a ≤ n) × Alike set levels a
 abbrev μ-loop : tie.MeasureT-loop
 μ-loop n set levels a₀ a = n - a
 
--- src/lib.rt:264:5
 loop-holds : tie.Need-loop-holds Inv-loop μ-loop
 loop-holds c = (search needs, λ i h. absurd (omega (arith, h)))
 
--- src/lib.rt:264:15
 wide-requires : tie.Need-wide-requires Inv-loop μ-loop
 wide-requires c κs = search needs
 
--- src/lib.rt:265:19
 shared-slice-read-unlike : tie.Need-shared-slice-read-unlike Inv-loop μ-loop
 shared-slice-read-unlike c = omega (arith, c .before .before .before .before .before .before .pre .0, c .before .if1 .taken, c .before .before .wide .ensures)
 
--- src/lib.rt:265:27
 shared-slice-read-unlike-2 : tie.Need-shared-slice-read-unlike-2 Inv-loop μ-loop
 shared-slice-read-unlike-2 c = omega (arith, c .before .before .before .before .before .before .before .pre .1, c .before .before .if1 .taken, c .before .before .before .wide .ensures)
 
--- src/lib.rt:265:12
 unlike-requires : tie.Need-unlike-requires Inv-loop μ-loop
 unlike-requires c κs = search needs
 
--- src/lib.rt:266:20
 add-result : tie.Need-add-result Inv-loop μ-loop
 add-result c = search needs
 
--- src/lib.rt:266:13
 returns : tie.Need-returns Inv-loop μ-loop
 returns c = unlike-here (now (c .before .before .before .before .before .before .before .before .before .args .set)) (now (c .before .before .before .before .before .before .before .before .before .args .levels)) _ _ (c .before .before .before .before .before .before .loop .inv .1) (omega (arith, c .before .before .before .before .if1 .taken, c .before .before .before .before .before .wide .ensures)) (c .before .unlike .ensures) (c .if2 .taken)
 
--- src/lib.rt:268:9
 add-a : tie.Need-add-a Inv-loop μ-loop
 add-a c = search needs
 
--- src/lib.rt:264:5
 loop-less : tie.Need-loop-less Inv-loop μ-loop
 loop-less c = omega (arith, c .before .before .before .before .if1 .taken, c .before .before .before .before .before .wide .ensures)
 
--- src/lib.rt:264:5
 loop-again : tie.Need-loop-again Inv-loop μ-loop
 loop-again c = (omega (arith, c .before .before .before .before .if1 .taken, c .before .before .before .before .before .wide .ensures), alike-more (now (c .before .before .before .before .before .before .before .before .before .args .set)) (now (c .before .before .before .before .before .before .before .before .before .args .levels)) _ (c .before .before .before .before .before .before .loop .inv .1) (c .before .unlike .ensures) (c .if2 .left))
 
--- src/lib.rt:259:1
 returns-2 : tie.Need-returns-2 Inv-loop μ-loop
 returns-2 c = unlike-nowhere (now (c .before .before .before .before .before .args .set)) (now (c .before .before .before .before .before .args .levels)) _ _ (c .before .before .loop .inv .1) (omega (arith, c .if1 .left, c .before .wide .ensures))
 

@@ -5,39 +5,28 @@ use Prim.Native.Nat.{ℕ, _+_, _*_}
 use borrow.Author.Needs.{needs}
 use Rattle.stages.proofs.list_start.Statement.{statement}
 use Rattle.stages.proofs.list_start.Tie as tie
-use Rattle.stages.proofs.list_start.Reads as reads
-use Rattle.stages.proofs.list_start.Lts as lts
-use Rattle.numbers.proofs.wide.Reads as wide-reads
 
--- src/lib.rt:89:22
 sub-wide : tie.Need-sub-wide
 sub-wide c = search needs
 
--- src/lib.rt:89:17
 wide-requires : tie.Need-wide-requires
 wide-requires c κs = search needs
 
--- src/lib.rt:89:13
 mul-j : tie.Need-mul-j
 mul-j c = search needs
 
--- src/lib.rt:89:13
 add-j : tie.Need-add-j
 add-j c = search needs
 
--- src/lib.rt:90:10
 mul-wide : tie.Need-mul-wide
 mul-wide c = search needs
 
--- src/lib.rt:90:10
 shared-slice-read-wide : tie.Need-shared-slice-read-wide
 shared-slice-read-wide c = search needs
 
--- src/lib.rt:90:5
 wide-requires-2 : tie.Need-wide-requires-2
 wide-requires-2 c κs = search needs
 
--- src/lib.rt:85:1
 returns : tie.Need-returns
 returns c = c .wide2 .ensures ∙ ap (λ (j : ℕ). getD (now (c .before .before .before .before .args .starts)) (2 * j + c .before .before .before .before .args .k) 0) (c .before .before .wide .ensures)
 

@@ -6,40 +6,28 @@ use mathlib.Core.Path.{_∙_, ap}
 use Rattle.stages.proofs.Rules.{start-asks, negative-part, negatives-asked}
 use Rattle.stages.proofs.negatives_out.Statement.{statement}
 use Rattle.stages.proofs.negatives_out.Tie as tie
-use Rattle.stages.proofs.negatives_out.Reads as reads
-use Rattle.stages.proofs.negatives_out.Lts as lts
-use Rattle.stages.proofs.list_start.Reads as list-start-reads
-use Rattle.stages.proofs.none_in.Reads as none-in-reads
 
--- src/lib.rt:108:9
 list-start-requires : tie.Need-list-start-requires
 list-start-requires c κs = start-asks (c .before .before .before .before .before .before .before .pre .0) (c .before .before .before .before .before .before .before .args .r) (c .before .before .before .before .before .before .before .pre .1) (c .before .before .before .before .before .before .before .pre .2) _ (omega arith)
 
--- src/lib.rt:109:9
 list-start-requires-2 : tie.Need-list-start-requires-2
 list-start-requires-2 c κs = start-asks (c .before .before .before .before .before .before .before .before .pre .0) (c .before .before .before .before .before .before .before .before .args .r) (c .before .before .before .before .before .before .before .before .pre .1) (c .before .before .before .before .before .before .before .before .pre .2) _ (omega arith)
 
--- src/lib.rt:110:13
 mul-none-in : tie.Need-mul-none-in
 mul-none-in c = let q = negative-part (c .before .before .before .before .before .before .before .before .before .pre .0) (c .before .before .before .before .before .before .before .before .before .args .r) (c .before .before .before .before .before .before .before .before .before .pre .1) (c .before .before .before .before .before .before .before .before .before .pre .2) (c .before .list-start .ensures) (c .list-start2 .ensures) in omega (arith, q .up, q .short, q .within)
 
--- src/lib.rt:110:13
 sub-none-in : tie.Need-sub-none-in
 sub-none-in c = let q = negative-part (c .before .before .before .before .before .before .before .before .before .pre .0) (c .before .before .before .before .before .before .before .before .before .args .r) (c .before .before .before .before .before .before .before .before .before .pre .1) (c .before .before .before .before .before .before .before .before .before .pre .2) (c .before .list-start .ensures) (c .list-start2 .ensures) in omega (arith, q .up, q .short, q .within)
 
--- src/lib.rt:110:13
 part-none-in-start : tie.Need-part-none-in-start
 part-none-in-start c = let q = negative-part (c .before .before .before .before .before .before .before .before .before .pre .0) (c .before .before .before .before .before .before .before .before .before .args .r) (c .before .before .before .before .before .before .before .before .before .pre .1) (c .before .before .before .before .before .before .before .before .before .pre .2) (c .before .list-start .ensures) (c .list-start2 .ensures) in q .up
 
--- src/lib.rt:110:13
 part-none-in-end : tie.Need-part-none-in-end
 part-none-in-end c = let q = negative-part (c .before .before .before .before .before .before .before .before .before .pre .0) (c .before .before .before .before .before .before .before .before .before .args .r) (c .before .before .before .before .before .before .before .before .before .pre .1) (c .before .before .before .before .before .before .before .before .before .pre .2) (c .before .list-start .ensures) (c .list-start2 .ensures) in q .within
 
--- src/lib.rt:110:5
 none-in-requires : tie.Need-none-in-requires
 none-in-requires c κs = negatives-asked (c .before .before .before .before .before .before .before .before .before .before .pre .0) (c .before .before .before .before .before .before .before .before .before .before .args .r) (c .before .before .before .before .before .before .before .before .before .before .pre .1) (c .before .before .before .before .before .before .before .before .before .before .pre .2) (now (c .before .before .before .before .before .before .before .before .before .before .args .bytes)) (c .before .before .before .before .before .before .before .before .before .before .pre .3) (negative-part (c .before .before .before .before .before .before .before .before .before .before .pre .0) (c .before .before .before .before .before .before .before .before .before .before .args .r) (c .before .before .before .before .before .before .before .before .before .before .pre .1) (c .before .before .before .before .before .before .before .before .before .before .pre .2) (c .before .before .list-start .ensures) (c .before .list-start2 .ensures))
 
--- src/lib.rt:94:1
 returns : tie.Need-returns
 returns c = c .none-in .ensures ∙ ap (noneIn (valueIn (now (c .before .before .before .before .before .before .before .before .before .before .before .args .bytes)))) (negative-part (c .before .before .before .before .before .before .before .before .before .before .before .pre .0) (c .before .before .before .before .before .before .before .before .before .before .before .args .r) (c .before .before .before .before .before .before .before .before .before .before .before .pre .1) (c .before .before .before .before .before .before .before .before .before .before .before .pre .2) (c .before .before .before .list-start .ensures) (c .before .before .list-start2 .ensures) .list-is)
 

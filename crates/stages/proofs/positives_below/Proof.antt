@@ -7,40 +7,28 @@ use mathlib.Core.Path.{_∙_, ap}
 use Rattle.stages.proofs.Rules.{start-asks, positive-part, positives-asked}
 use Rattle.stages.proofs.positives_below.Statement.{statement}
 use Rattle.stages.proofs.positives_below.Tie as tie
-use Rattle.stages.proofs.positives_below.Reads as reads
-use Rattle.stages.proofs.positives_below.Lts as lts
-use Rattle.stages.proofs.all_below.Reads as all-below-reads
-use Rattle.stages.proofs.list_start.Reads as list-start-reads
 
--- src/lib.rt:147:9
 list-start-requires : tie.Need-list-start-requires
 list-start-requires c κs = start-asks (c .before .before .before .before .before .before .before .pre .0) (c .before .before .before .before .before .before .before .args .r) (c .before .before .before .before .before .before .before .pre .1) (c .before .before .before .before .before .before .before .pre .2) 0 (omega arith)
 
--- src/lib.rt:148:9
 list-start-requires-2 : tie.Need-list-start-requires-2
 list-start-requires-2 c κs = start-asks (c .before .before .before .before .before .before .before .before .pre .0) (c .before .before .before .before .before .before .before .before .args .r) (c .before .before .before .before .before .before .before .before .pre .1) (c .before .before .before .before .before .before .before .before .pre .2) 1 (omega arith)
 
--- src/lib.rt:149:15
 mul-all-below : tie.Need-mul-all-below
 mul-all-below c = let q = positive-part (c .before .before .before .before .before .before .before .before .before .pre .0) (c .before .before .before .before .before .before .before .before .before .args .r) (c .before .before .before .before .before .before .before .before .before .pre .1) (c .before .before .before .before .before .before .before .before .before .pre .2) (c .before .list-start .ensures) (c .list-start2 .ensures) in omega (arith, q .up, q .short, q .within)
 
--- src/lib.rt:149:15
 sub-all-below : tie.Need-sub-all-below
 sub-all-below c = let q = positive-part (c .before .before .before .before .before .before .before .before .before .pre .0) (c .before .before .before .before .before .before .before .before .before .args .r) (c .before .before .before .before .before .before .before .before .before .pre .1) (c .before .before .before .before .before .before .before .before .before .pre .2) (c .before .list-start .ensures) (c .list-start2 .ensures) in omega (arith, q .up, q .short, q .within)
 
--- src/lib.rt:149:15
 part-all-below-start : tie.Need-part-all-below-start
 part-all-below-start c = let q = positive-part (c .before .before .before .before .before .before .before .before .before .pre .0) (c .before .before .before .before .before .before .before .before .before .args .r) (c .before .before .before .before .before .before .before .before .before .pre .1) (c .before .before .before .before .before .before .before .before .before .pre .2) (c .before .list-start .ensures) (c .list-start2 .ensures) in q .up
 
--- src/lib.rt:149:15
 part-all-below-end : tie.Need-part-all-below-end
 part-all-below-end c = let q = positive-part (c .before .before .before .before .before .before .before .before .before .pre .0) (c .before .before .before .before .before .before .before .before .before .args .r) (c .before .before .before .before .before .before .before .before .before .pre .1) (c .before .before .before .before .before .before .before .before .before .pre .2) (c .before .list-start .ensures) (c .list-start2 .ensures) in q .within
 
--- src/lib.rt:149:5
 all-below-requires : tie.Need-all-below-requires
 all-below-requires c κs = positives-asked (c .before .before .before .before .before .before .before .before .before .before .pre .0) (c .before .before .before .before .before .before .before .before .before .before .args .r) (c .before .before .before .before .before .before .before .before .before .before .pre .1) (c .before .before .before .before .before .before .before .before .before .before .pre .2) (now (c .before .before .before .before .before .before .before .before .before .before .args .bytes)) (c .before .before .before .before .before .before .before .before .before .before .pre .3) (positive-part (c .before .before .before .before .before .before .before .before .before .before .pre .0) (c .before .before .before .before .before .before .before .before .before .before .args .r) (c .before .before .before .before .before .before .before .before .before .before .pre .1) (c .before .before .before .before .before .before .before .before .before .before .pre .2) (c .before .before .list-start .ensures) (c .before .list-start2 .ensures))
 
--- src/lib.rt:132:1
 returns : tie.Need-returns
 returns c = c .all-below .ensures ∙ ap (all (λ b. ltb (levelAt (now (c .before .before .before .before .before .before .before .before .before .before .before .args .bytes)) b) (c .before .before .before .before .before .before .before .before .before .before .before .args .y))) (positive-part (c .before .before .before .before .before .before .before .before .before .before .before .pre .0) (c .before .before .before .before .before .before .before .before .before .before .before .args .r) (c .before .before .before .before .before .before .before .before .before .before .before .pre .1) (c .before .before .before .before .before .before .before .before .before .before .before .pre .2) (c .before .before .before .list-start .ensures) (c .before .before .list-start2 .ensures) .list-is)
 

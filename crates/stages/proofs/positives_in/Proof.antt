@@ -6,40 +6,28 @@ use mathlib.Core.Path.{_∙_, ap}
 use Rattle.stages.proofs.Rules.{start-asks, positive-part, positives-asked}
 use Rattle.stages.proofs.positives_in.Statement.{statement}
 use Rattle.stages.proofs.positives_in.Tie as tie
-use Rattle.stages.proofs.positives_in.Reads as reads
-use Rattle.stages.proofs.positives_in.Lts as lts
-use Rattle.stages.proofs.all_in.Reads as all-in-reads
-use Rattle.stages.proofs.list_start.Reads as list-start-reads
 
--- src/lib.rt:127:9
 list-start-requires : tie.Need-list-start-requires
 list-start-requires c κs = start-asks (c .before .before .before .before .before .before .before .pre .0) (c .before .before .before .before .before .before .before .args .r) (c .before .before .before .before .before .before .before .pre .1) (c .before .before .before .before .before .before .before .pre .2) 0 (omega arith)
 
--- src/lib.rt:128:9
 list-start-requires-2 : tie.Need-list-start-requires-2
 list-start-requires-2 c κs = start-asks (c .before .before .before .before .before .before .before .before .pre .0) (c .before .before .before .before .before .before .before .before .args .r) (c .before .before .before .before .before .before .before .before .pre .1) (c .before .before .before .before .before .before .before .before .pre .2) 1 (omega arith)
 
--- src/lib.rt:129:12
 mul-all-in : tie.Need-mul-all-in
 mul-all-in c = let q = positive-part (c .before .before .before .before .before .before .before .before .before .pre .0) (c .before .before .before .before .before .before .before .before .before .args .r) (c .before .before .before .before .before .before .before .before .before .pre .1) (c .before .before .before .before .before .before .before .before .before .pre .2) (c .before .list-start .ensures) (c .list-start2 .ensures) in omega (arith, q .up, q .short, q .within)
 
--- src/lib.rt:129:12
 sub-all-in : tie.Need-sub-all-in
 sub-all-in c = let q = positive-part (c .before .before .before .before .before .before .before .before .before .pre .0) (c .before .before .before .before .before .before .before .before .before .args .r) (c .before .before .before .before .before .before .before .before .before .pre .1) (c .before .before .before .before .before .before .before .before .before .pre .2) (c .before .list-start .ensures) (c .list-start2 .ensures) in omega (arith, q .up, q .short, q .within)
 
--- src/lib.rt:129:12
 part-all-in-start : tie.Need-part-all-in-start
 part-all-in-start c = let q = positive-part (c .before .before .before .before .before .before .before .before .before .pre .0) (c .before .before .before .before .before .before .before .before .before .args .r) (c .before .before .before .before .before .before .before .before .before .pre .1) (c .before .before .before .before .before .before .before .before .before .pre .2) (c .before .list-start .ensures) (c .list-start2 .ensures) in q .up
 
--- src/lib.rt:129:12
 part-all-in-end : tie.Need-part-all-in-end
 part-all-in-end c = let q = positive-part (c .before .before .before .before .before .before .before .before .before .pre .0) (c .before .before .before .before .before .before .before .before .before .args .r) (c .before .before .before .before .before .before .before .before .before .pre .1) (c .before .before .before .before .before .before .before .before .before .pre .2) (c .before .list-start .ensures) (c .list-start2 .ensures) in q .within
 
--- src/lib.rt:129:5
 all-in-requires : tie.Need-all-in-requires
 all-in-requires c κs = positives-asked (c .before .before .before .before .before .before .before .before .before .before .pre .0) (c .before .before .before .before .before .before .before .before .before .before .args .r) (c .before .before .before .before .before .before .before .before .before .before .pre .1) (c .before .before .before .before .before .before .before .before .before .before .pre .2) (now (c .before .before .before .before .before .before .before .before .before .before .args .bytes)) (c .before .before .before .before .before .before .before .before .before .before .pre .3) (positive-part (c .before .before .before .before .before .before .before .before .before .before .pre .0) (c .before .before .before .before .before .before .before .before .before .before .args .r) (c .before .before .before .before .before .before .before .before .before .before .pre .1) (c .before .before .before .before .before .before .before .before .before .before .pre .2) (c .before .before .list-start .ensures) (c .before .list-start2 .ensures))
 
--- src/lib.rt:113:1
 returns : tie.Need-returns
 returns c = c .all-in .ensures ∙ ap (all (valueIn (now (c .before .before .before .before .before .before .before .before .before .before .before .args .bytes)))) (positive-part (c .before .before .before .before .before .before .before .before .before .before .before .pre .0) (c .before .before .before .before .before .before .before .before .before .before .before .args .r) (c .before .before .before .before .before .before .before .before .before .before .before .pre .1) (c .before .before .before .before .before .before .before .before .before .before .before .pre .2) (c .before .before .before .list-start .ensures) (c .before .before .list-start2 .ensures) .list-is)
 

@@ -3,27 +3,19 @@ use Rattle.stages.proofs.Scans.{byte-put}
 use borrow.Author.Needs.{needs}
 use Rattle.stages.proofs.put_byte.Statement.{statement}
 use Rattle.stages.proofs.put_byte.Tie as tie
-use Rattle.stages.proofs.put_byte.Reads as reads
-use Rattle.stages.proofs.put_byte.Lts as lts
-use Rattle.numbers.proofs.wide.Reads as wide-reads
 
--- src/lib.rt:37:13
 wide-requires : tie.Need-wide-requires
 wide-requires c κs = search needs
 
--- src/lib.rt:37:13
 sub-i : tie.Need-sub-i
 sub-i c = search needs
 
--- src/lib.rt:38:5
 slice-write-bytes : tie.Need-slice-write-bytes
 slice-write-bytes c = search needs
 
--- src/lib.rt:33:1
 same-length : tie.Need-same-length
 same-length c = search needs
 
--- src/lib.rt:33:1
 returns : tie.Need-returns
 returns c = byte-put (now (c .before .before .args .bytes)) (c .before .before .args .x) (c .wide .ensures)
 

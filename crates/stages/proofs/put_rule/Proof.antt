@@ -5,50 +5,34 @@ use mathlib.Core.Path.{refl}
 use borrow.Author.Tests.{not-true, not-false}
 use Rattle.stages.proofs.put_rule.Statement.{statement}
 use Rattle.stages.proofs.put_rule.Tie as tie
-use Rattle.stages.proofs.put_rule.Reads as reads
-use Rattle.stages.proofs.put_rule.Lts as lts
-use Rattle.program.proofs.head.Reads as head-reads
-use Rattle.stages.proofs.byte_of.Reads as byte-of-reads
-use Rattle.stages.proofs.put_byte.Reads as put-byte-reads
-use Rattle.stages.proofs.rule_enters.Reads as rule-enters-reads
 
--- src/lib.rt:226:13
 head-requires : tie.Need-head-requires
 head-requires c κs = head-asks (c .before .before .before .before .before .before .before .before .pre .0) (c .before .before .before .before .before .before .before .before .args .r) (c .before .before .before .before .before .before .before .before .pre .1) (c .before .before .before .before .before .before .before .before .pre .2)
 
--- src/lib.rt:227:8
 byte-of-requires : tie.Need-byte-of-requires
 byte-of-requires c κs = head-fits (c .before .before .before .before .before .before .before .before .before .before .pre .0) (c .before .before .before .before .before .before .before .before .before .before .args .r) (c .before .before .before .before .before .before .before .before .before .before .pre .1) (c .before .before .before .before .before .before .before .before .before .before .pre .2) (now (c .before .before .before .before .before .before .before .before .before .before .args .levels)) (c .before .before .before .before .before .before .before .before .before .before .pre .4) (c .before .head .ensures)
 
--- src/lib.rt:228:9
 same-length : tie.Need-same-length
 same-length c = refl
 
--- src/lib.rt:228:9
 returns : tie.Need-returns
 returns c = headed (c .before .before .before .before .before .before .before .before .before .before .before .before .pre .0) (now (c .before .before .before .before .before .before .before .before .before .before .before .before .args .set)) (now (c .before .before .before .before .before .before .before .before .before .before .before .before .args .levels)) (c .before .before .before .before .before .before .before .before .before .before .before .before .args .i) (c .before .before .before .before .before .before .before .before .before .before .before .before .args .r) (c .before .before .before .before .before .before .before .before .before .before .before .before .pre .1) (c .before .before .before .before .before .before .before .before .before .before .before .before .pre .2) (c .before .before .before .head .ensures) (c .before .byte-of .ensures) (c .if1 .taken)
 
--- src/lib.rt:230:9
 rule-enters-requires : tie.Need-rule-enters-requires
 rule-enters-requires c κs = (c .before .before .before .before .before .before .before .before .before .before .before .before .before .pre .0, c .before .before .before .before .before .before .before .before .before .before .before .before .before .pre .1, c .before .before .before .before .before .before .before .before .before .before .before .before .before .pre .2, c .before .before .before .before .before .before .before .before .before .before .before .before .before .pre .3, c .before .before .before .before .before .before .before .before .before .before .before .before .before .pre .4)
 
--- src/lib.rt:243:9
 same-length-2 : tie.Need-same-length-2
 same-length-2 c = refl
 
--- src/lib.rt:243:9
 returns-2 : tie.Need-returns-2
 returns-2 c = unmet (c .before .before .before .before .before .before .before .before .before .before .before .before .before .before .before .pre .0) (now (c .before .before .before .before .before .before .before .before .before .before .before .before .before .before .before .args .set)) (now (c .before .before .before .before .before .before .before .before .before .before .before .before .before .before .before .args .levels)) (c .before .before .before .before .before .before .before .before .before .before .before .before .before .before .before .args .i) (c .before .before .before .before .before .before .before .before .before .before .before .before .before .before .before .args .r) (c .before .before .before .before .before .before .before .before .before .before .before .before .before .before .before .pre .1) (c .before .before .before .before .before .before .before .before .before .before .before .before .before .before .before .pre .2) (c .before .before .before .before .before .before .head .ensures) (c .before .before .before .before .byte-of .ensures) (c .before .before .before .if1 .left) (c .before .rule-enters .ensures) (not-true _ (c .if2 .taken))
 
--- src/lib.rt:245:5
 put-byte-requires : tie.Need-put-byte-requires
 put-byte-requires c κs = head-fits (c .before .before .before .before .before .before .before .before .before .before .before .before .before .before .before .before .pre .0) (c .before .before .before .before .before .before .before .before .before .before .before .before .before .before .before .before .args .r) (c .before .before .before .before .before .before .before .before .before .before .before .before .before .before .before .before .pre .1) (c .before .before .before .before .before .before .before .before .before .before .before .before .before .before .before .before .pre .2) (now (c .before .before .before .before .before .before .before .before .before .before .before .before .before .before .before .before .args .levels)) (c .before .before .before .before .before .before .before .before .before .before .before .before .before .before .before .before .pre .4) (c .before .before .before .before .before .before .before .head .ensures)
 
--- src/lib.rt:210:1
 same-length-3 : tie.Need-same-length-3
 same-length-3 c = c .before .before .put-byte .kept .0
 
--- src/lib.rt:210:1
 returns-3 : tie.Need-returns-3
 returns-3 c = fired (c .before .before .before .before .before .before .before .before .before .before .before .before .before .before .before .before .before .before .before .pre .0) (now (c .before .before .before .before .before .before .before .before .before .before .before .before .before .before .before .before .before .before .before .args .set)) (now (c .before .before .before .before .before .before .before .before .before .before .before .before .before .before .before .before .before .before .before .args .levels)) (c .before .before .before .before .before .before .before .before .before .before .before .before .before .before .before .before .before .before .before .args .i) (c .before .before .before .before .before .before .before .before .before .before .before .before .before .before .before .before .before .before .before .args .r) (c .before .before .before .before .before .before .before .before .before .before .before .before .before .before .before .before .before .before .before .pre .1) (c .before .before .before .before .before .before .before .before .before .before .before .before .before .before .before .before .before .before .before .pre .2) (c .before .before .before .before .before .before .before .before .before .before .head .ensures) (c .before .before .before .before .before .before .before .before .byte-of .ensures) (c .before .before .before .before .before .before .before .if1 .left) (c .before .before .before .before .before .rule-enters .ensures) (not-false _ (c .before .before .before .before .if2 .left)) (c .before .before .put-byte .ensures)
 

@@ -5,10 +5,6 @@ use Rattle.tables.specs.Tables.{programIn}
 use Rattle.stages.proofs.Turns.{Turned, begins, asks, goes, ends}
 use Rattle.stages.proofs.round.Statement.{statement}
 use Rattle.stages.proofs.round.Tie as tie
-use Rattle.stages.proofs.round.Reads as reads
-use Rattle.stages.proofs.round.Lts as lts
-use Rattle.stages.proofs.either.Reads as either-reads
-use Rattle.stages.proofs.put_rule.Reads as put-rule-reads
 
 abbrev Inv-loop : tie.InvT-loop
 Inv-loop t heads starts bodies before partners owners i set levels₀ given₀ r₀ levels given r = Turned (programIn (t .sizes) heads starts bodies) t set levels₀ i r levels given
@@ -16,39 +12,30 @@ Inv-loop t heads starts bodies before partners owners i set levels₀ given₀ r
 abbrev μ-loop : tie.MeasureT-loop
 μ-loop t heads starts bodies before partners owners i set levels₀ given₀ r₀ levels given r = t .sizes .m - r
 
--- src/lib.rt:276:5
 loop-holds : tie.Need-loop-holds Inv-loop μ-loop
 loop-holds c = begins (c .before .before .before .before .before .before .before .before .pre .0) (now (c .before .before .before .before .before .before .before .before .args .set)) (now (c .before .before .before .before .before .before .before .before .args .levels)) (c .before .before .before .before .before .before .before .before .args .i) (c .before .before .before .before .before .before .before .before .pre .3)
 
--- src/lib.rt:285:13
 add-put-rule : tie.Need-add-put-rule Inv-loop μ-loop
 add-put-rule c = search needs
 
--- src/lib.rt:277:13
 put-rule-requires : tie.Need-put-rule-requires Inv-loop μ-loop
 put-rule-requires c κs = let q = asks (c .before .before .before .before .before .before .before .before .before .before .before .before .pre .0) (now (c .before .before .before .before .before .before .before .before .before .before .before .before .args .set)) (now (c .before .before .before .before .before .before .before .before .before .before .before .before .args .levels)) (c .before .before .before .before .before .before .before .before .before .before .before .before .args .i) (c .before .before .before .loop .inv) (c .before .if1 .taken) (c .before .before .before .before .before .before .before .before .before .before .before .before .pre .3) in (c .before .before .before .before .before .before .before .before .before .before .before .before .pre .0, q .0, q .1, c .before .before .before .before .before .before .before .before .before .before .before .before .pre .2, q .2)
 
--- src/lib.rt:290:9
 either-requires : tie.Need-either-requires Inv-loop μ-loop
 either-requires c κs = search needs
 
--- src/lib.rt:291:9
 add-r : tie.Need-add-r Inv-loop μ-loop
 add-r c = search needs
 
--- src/lib.rt:276:5
 loop-less : tie.Need-loop-less Inv-loop μ-loop
 loop-less c = search needs
 
--- src/lib.rt:276:5
 loop-again : tie.Need-loop-again Inv-loop μ-loop
 loop-again c = goes (c .before .before .before .before .before .before .before .before .before .before .before .before .before .before .before .before .pre .0) (now (c .before .before .before .before .before .before .before .before .before .before .before .before .before .before .before .before .args .set)) (now (c .before .before .before .before .before .before .before .before .before .before .before .before .before .before .before .before .args .levels)) (c .before .before .before .before .before .before .before .before .before .before .before .before .before .before .before .before .args .i) (c .before .before .before .before .before .before .before .loop .inv) (c .before .before .before .before .before .before .before .before .before .before .before .before .before .before .before .before .pre .1) (c .before .before .before .before .before .if1 .taken) (c .before .before .before .put-rule .kept .1 .1 .1 .1 .1 .1 .1 .1 .1 .1 .0) (c .before .before .before .put-rule .ensures) (c .either .ensures)
 
--- src/lib.rt:259:1
 same-length : tie.Need-same-length Inv-loop μ-loop
 same-length c = c .before .before .loop .inv .same
 
--- src/lib.rt:259:1
 returns : tie.Need-returns Inv-loop μ-loop
 returns c = ends (c .before .before .before .before .before .before .before .before .before .before .before .pre .0) (now (c .before .before .before .before .before .before .before .before .before .before .before .args .set)) (now (c .before .before .before .before .before .before .before .before .before .before .before .args .levels)) (c .before .before .before .before .before .before .before .before .before .before .before .args .i) (c .before .before .loop .inv) (c .if1 .left)
 

@@ -9,9 +9,6 @@ use Rattle.tables.specs.Tables.{programIn}
 use Rattle.stages.proofs.Turns.{Staged, first-round, round-asks, next-round, last-round, rounds-over}
 use Rattle.stages.proofs.rounds.Statement.{statement}
 use Rattle.stages.proofs.rounds.Tie as tie
-use Rattle.stages.proofs.rounds.Reads as reads
-use Rattle.stages.proofs.rounds.Lts as lts
-use Rattle.stages.proofs.round.Reads as round-reads
 
 abbrev Inv-loop : tie.InvT-loop
 Inv-loop t heads starts bodies before partners owners set levels₀ i₀ levels i = Staged (programIn (t .sizes) heads starts bodies) t set levels₀ i levels
@@ -19,47 +16,36 @@ Inv-loop t heads starts bodies before partners owners set levels₀ i₀ levels 
 abbrev μ-loop : tie.MeasureT-loop
 μ-loop t heads starts bodies before partners owners set levels₀ i₀ levels i = t .sizes .n - i
 
--- src/lib.rt:323:5
 loop-holds : tie.Need-loop-holds Inv-loop μ-loop
 loop-holds c = first-round (c .before .before .before .before .before .before .before .before .pre .0) (now (c .before .before .before .before .before .before .before .before .args .set)) (now (c .before .before .before .before .before .before .before .before .args .levels)) (c .before .before .before .before .before .before .before .before .pre .3)
 
--- src/lib.rt:323:12
 cast-if1 : tie.Need-cast-if1 Inv-loop μ-loop
 cast-if1 c = search needs
 
--- src/lib.rt:332:13
 add-round : tie.Need-add-round Inv-loop μ-loop
 add-round c = omega (arith, c .if1 .taken, bounded _ _ _ _ _ _ _ _ (c .before .before .before .before .before .before .before .before .before .before .before .pre .0) .atoms)
 
--- src/lib.rt:324:13
 round-requires : tie.Need-round-requires Inv-loop μ-loop
 round-requires c κs = let q = round-asks (c .before .before .before .before .before .before .before .before .before .before .before .before .pre .0) (now (c .before .before .before .before .before .before .before .before .before .before .before .before .args .set)) (now (c .before .before .before .before .before .before .before .before .before .before .before .before .args .levels)) (c .before .before .before .loop .inv) (c .before .if1 .taken) (c .before .before .before .before .before .before .before .before .before .before .before .before .pre .2) in (c .before .before .before .before .before .before .before .before .before .before .before .before .pre .0, q .0, c .before .before .before .before .before .before .before .before .before .before .before .before .pre .1, q .1)
 
--- src/lib.rt:336:13
 same-length : tie.Need-same-length Inv-loop μ-loop
 same-length c = c .before .before .before .round .kept .1 .1 .1 .1 .1 .1 .1 .1 .1 .0 ∙ c .before .before .before .before .before .before .before .loop .inv .same
 
--- src/lib.rt:336:13
 returns : tie.Need-returns Inv-loop μ-loop
 returns c = last-round (c .before .before .before .before .before .before .before .before .before .before .before .before .before .before .before .before .pre .0) (now (c .before .before .before .before .before .before .before .before .before .before .before .before .before .before .before .before .args .set)) (now (c .before .before .before .before .before .before .before .before .before .before .before .before .before .before .before .before .args .levels)) (c .before .before .before .before .before .before .before .loop .inv) (c .before .before .before .before .before .if1 .taken) (c .before .before .before .round .ensures) (not-true _ (c .if2 .taken))
 
--- src/lib.rt:338:9
 add-i : tie.Need-add-i Inv-loop μ-loop
 add-i c = omega (arith, c .before .before .before .before .before .if1 .taken, bounded _ _ _ _ _ _ _ _ (c .before .before .before .before .before .before .before .before .before .before .before .before .before .before .before .before .pre .0) .atoms)
 
--- src/lib.rt:323:5
 loop-less : tie.Need-loop-less Inv-loop μ-loop
 loop-less c = search needs
 
--- src/lib.rt:323:5
 loop-again : tie.Need-loop-again Inv-loop μ-loop
 loop-again c = next-round (c .before .before .before .before .before .before .before .before .before .before .before .before .before .before .before .before .pre .0) (now (c .before .before .before .before .before .before .before .before .before .before .before .before .before .before .before .before .args .set)) (now (c .before .before .before .before .before .before .before .before .before .before .before .before .before .before .before .before .args .levels)) (c .before .before .before .before .before .before .before .loop .inv) (c .before .before .before .before .before .if1 .taken) (c .before .before .before .round .ensures) (c .before .before .before .round .kept .1 .1 .1 .1 .1 .1 .1 .1 .1 .0)
 
--- src/lib.rt:308:1
 same-length-2 : tie.Need-same-length-2 Inv-loop μ-loop
 same-length-2 c = c .before .before .loop .inv .same
 
--- src/lib.rt:308:1
 returns-2 : tie.Need-returns-2 Inv-loop μ-loop
 returns-2 c = rounds-over (c .before .before .before .before .before .before .before .before .before .before .before .pre .0) (now (c .before .before .before .before .before .before .before .before .before .before .before .args .set)) (now (c .before .before .before .before .before .before .before .before .before .before .before .args .levels)) (c .before .before .loop .inv) (c .if1 .left)
 

@@ -3,33 +3,22 @@ use borrow.Author.Tests.{not-true, not-false}
 use Rattle.stages.proofs.Rules.{rule-atoms, enters-not-kept, enters-unmet, enters-is}
 use Rattle.stages.proofs.rule_enters.Statement.{statement}
 use Rattle.stages.proofs.rule_enters.Tie as tie
-use Rattle.stages.proofs.rule_enters.Reads as reads
-use Rattle.stages.proofs.rule_enters.Lts as lts
-use Rattle.stages.proofs.negatives_out.Reads as negatives-out-reads
-use Rattle.stages.proofs.positives_below.Reads as positives-below-reads
-use Rattle.stages.proofs.positives_in.Reads as positives-in-reads
 
--- src/lib.rt:169:9
 negatives-out-requires : tie.Need-negatives-out-requires
 negatives-out-requires c κs = (c .before .before .before .before .before .before .before .before .pre .0, c .before .before .before .before .before .before .before .before .pre .1, c .before .before .before .before .before .before .before .before .pre .2, c .before .before .before .before .before .before .before .before .pre .3)
 
--- src/lib.rt:180:9
 returns : tie.Need-returns
 returns c = enters-not-kept (rule-atoms (c .before .before .before .before .before .before .before .before .before .before .pre .0) (c .before .before .before .before .before .before .before .before .before .before .args .r) (c .before .before .before .before .before .before .before .before .before .before .pre .1) (c .before .before .before .before .before .before .before .before .before .before .pre .2)) (now (c .before .before .before .before .before .before .before .before .before .before .args .set)) (now (c .before .before .before .before .before .before .before .before .before .before .args .levels)) (c .before .before .before .before .before .before .before .before .before .before .args .i) (c .before .negatives-out .ensures) (not-true _ (c .if1 .taken))
 
--- src/lib.rt:182:9
 positives-in-requires : tie.Need-positives-in-requires
 positives-in-requires c κs = (c .before .before .before .before .before .before .before .before .before .before .pre .0, c .before .before .before .before .before .before .before .before .before .before .pre .1, c .before .before .before .before .before .before .before .before .before .before .pre .2, c .before .before .before .before .before .before .before .before .before .before .pre .4)
 
--- src/lib.rt:193:9
 returns-2 : tie.Need-returns-2
 returns-2 c = enters-unmet (rule-atoms (c .before .before .before .before .before .before .before .before .before .before .before .before .pre .0) (c .before .before .before .before .before .before .before .before .before .before .before .before .args .r) (c .before .before .before .before .before .before .before .before .before .before .before .before .pre .1) (c .before .before .before .before .before .before .before .before .before .before .before .before .pre .2)) (now (c .before .before .before .before .before .before .before .before .before .before .before .before .args .set)) (now (c .before .before .before .before .before .before .before .before .before .before .before .before .args .levels)) (c .before .before .before .before .before .before .before .before .before .before .before .before .args .i) (c .before .before .before .negatives-out .ensures) (c .before .positives-in .ensures) (not-false _ (c .before .before .if1 .left)) (not-true _ (c .if2 .taken))
 
--- src/lib.rt:195:5
 positives-below-requires : tie.Need-positives-below-requires
 positives-below-requires c κs = (c .before .before .before .before .before .before .before .before .before .before .before .before .pre .0, c .before .before .before .before .before .before .before .before .before .before .before .before .pre .1, c .before .before .before .before .before .before .before .before .before .before .before .before .pre .2, c .before .before .before .before .before .before .before .before .before .before .before .before .pre .4)
 
--- src/lib.rt:153:1
 returns-3 : tie.Need-returns-3
 returns-3 c = enters-is (rule-atoms (c .before .before .before .before .before .before .before .before .before .before .before .before .before .pre .0) (c .before .before .before .before .before .before .before .before .before .before .before .before .before .args .r) (c .before .before .before .before .before .before .before .before .before .before .before .before .before .pre .1) (c .before .before .before .before .before .before .before .before .before .before .before .before .before .pre .2)) (now (c .before .before .before .before .before .before .before .before .before .before .before .before .before .args .set)) (now (c .before .before .before .before .before .before .before .before .before .before .before .before .before .args .levels)) (c .before .before .before .before .before .before .before .before .before .before .before .before .before .args .i) (c .before .before .before .before .negatives-out .ensures) (c .before .before .positives-in .ensures) (not-false _ (c .before .before .before .if1 .left)) (not-false _ (c .before .if2 .left)) (c .positives-below .ensures)
 

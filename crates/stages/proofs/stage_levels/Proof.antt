@@ -5,24 +5,16 @@ use Rattle.stages.proofs.Turns.{zeroed, staged}
 use borrow.Author.Needs.{needs}
 use Rattle.stages.proofs.stage_levels.Statement.{statement}
 use Rattle.stages.proofs.stage_levels.Tie as tie
-use Rattle.stages.proofs.stage_levels.Reads as reads
-use Rattle.stages.proofs.stage_levels.Lts as lts
-use Rattle.stages.proofs.rounds.Reads as rounds-reads
-use Rattle.stages.proofs.zero_bytes.Reads as zero-bytes-reads
 
--- src/lib.rt:357:5
 zero-bytes-requires : tie.Need-zero-bytes-requires
 zero-bytes-requires c κs = search needs
 
--- src/lib.rt:358:5
 rounds-requires : tie.Need-rounds-requires
 rounds-requires c κs = (c .before .before .before .before .before .before .before .before .before .before .before .before .before .pre .0, c .before .before .before .before .before .before .before .before .before .before .before .before .before .pre .1, subst (λ (j : ℕ). c .before .before .before .before .before .before .before .before .before .before .before .before .before .args .t .sizes .n ≤ j) (sym (c .before .before .before .zero-bytes .kept .1 .0)) (c .before .before .before .before .before .before .before .before .before .before .before .before .before .pre .2), zeroed (c .before .before .before .before .before .before .before .before .before .before .before .before .before .pre .0) (now (c .before .before .before .before .before .before .before .before .before .before .before .before .before .args .set)) (now (c .before .before .before .before .before .before .before .before .before .before .before .before .before .args .levels)) (c .before .before .before .zero-bytes .ensures))
 
--- src/lib.rt:343:1
 same-length : tie.Need-same-length
 same-length c = search needs
 
--- src/lib.rt:343:1
 returns : tie.Need-returns
 returns c = staged (c .before .before .before .before .before .before .before .before .before .before .before .before .before .before .before .before .pre .0) (now (c .before .before .before .before .before .before .before .before .before .before .before .before .before .before .before .before .args .set)) (now (c .before .before .before .before .before .before .before .before .before .before .before .before .before .before .before .before .args .levels)) (c .before .before .before .before .before .before .zero-bytes .ensures) (c .before .before .rounds .ensures)
 

@@ -1,14 +1,10 @@
 use Rattle.stages.proofs.Scans.{unlike-zero, unlike-some}
 use Rattle.stages.proofs.unlike.Statement.{statement}
 use Rattle.stages.proofs.unlike.Tie as tie
-use Rattle.stages.proofs.unlike.Reads as reads
-use Rattle.stages.proofs.unlike.Lts as lts
 
--- src/lib.rt:253:9
 returns : tie.Need-returns
 returns c = unlike-zero (c .before .args .x) (c .before .args .y) (c .if1 .taken)
 
--- src/lib.rt:249:1
 returns-2 : tie.Need-returns-2
 returns-2 c = unlike-some (c .before .args .x) (c .before .args .y) (c .if1 .left)
 

@@ -8,9 +8,6 @@ use Rattle.lists.specs.Lists.{tab}
 use Rattle.stages.proofs.Scans.{zeros-more, zeros-all}
 use Rattle.stages.proofs.zero_bytes.Statement.{statement}
 use Rattle.stages.proofs.zero_bytes.Tie as tie
-use Rattle.stages.proofs.zero_bytes.Reads as reads
-use Rattle.stages.proofs.zero_bytes.Lts as lts
-use Rattle.numbers.proofs.wide.Reads as wide-reads
 
 abbrev Inv-loop : tie.InvT-loop
 Inv-loop n bytes₀ j₀ bytes j = (j ≤ n) × (length bytes ≡ length bytes₀) × (bytes ≡ tab j (λ a. 0) ++ drop j bytes₀)
@@ -18,35 +15,27 @@ Inv-loop n bytes₀ j₀ bytes j = (j ≤ n) × (length bytes ≡ length bytes�
 abbrev μ-loop : tie.MeasureT-loop
 μ-loop n bytes₀ j₀ bytes j = n - j
 
--- src/lib.rt:206:5
 loop-holds : tie.Need-loop-holds Inv-loop μ-loop
 loop-holds c = (search needs, refl, refl)
 
--- src/lib.rt:206:15
 wide-requires : tie.Need-wide-requires Inv-loop μ-loop
 wide-requires c κs = search needs
 
--- src/lib.rt:207:9
 slice-write-bytes : tie.Need-slice-write-bytes Inv-loop μ-loop
 slice-write-bytes c = search needs
 
--- src/lib.rt:208:9
 add-j : tie.Need-add-j Inv-loop μ-loop
 add-j c = search needs
 
--- src/lib.rt:206:5
 loop-less : tie.Need-loop-less Inv-loop μ-loop
 loop-less c = omega (arith, c .if1 .taken, c .before .wide .ensures)
 
--- src/lib.rt:206:5
 loop-again : tie.Need-loop-again Inv-loop μ-loop
 loop-again c = (omega (arith, c .if1 .taken, c .before .wide .ensures), length-set (c .before .before .loop .bytes) (c .before .before .loop .j) 0 ∙ c .before .before .loop .inv .1, zeros-more _ _ _ (omega (arith, c .before .before .before .before .pre, c .if1 .taken, c .before .wide .ensures)) (c .before .before .loop .inv .2))
 
--- src/lib.rt:201:1
 same-length : tie.Need-same-length Inv-loop μ-loop
 same-length c = c .before .before .loop .inv .1
 
--- src/lib.rt:201:1
 returns : tie.Need-returns Inv-loop μ-loop
 returns c = zeros-all _ _ _ _ (c .before .before .loop .inv .0) (omega (arith, c .if1 .left, c .before .wide .ensures)) (c .before .before .loop .inv .2)
 

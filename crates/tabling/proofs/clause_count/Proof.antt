@@ -3,8 +3,6 @@ use native.Mathlib.Omega.{arith}
 use borrow.Author.Needs.{needs}
 use Rattle.tabling.proofs.clause_count.Statement.{statement}
 use Rattle.tabling.proofs.clause_count.Tie as tie
-use Rattle.tabling.proofs.clause_count.Reads as reads
-use Rattle.tabling.proofs.clause_count.Lts as lts
 
 mul-result : tie.Need-mul-result
 mul-result c = search needs

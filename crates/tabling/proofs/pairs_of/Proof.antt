@@ -9,13 +9,6 @@ use mathlib.Core.Path.{_≡_, sym, _∙_}
 use Prim.Native.Nat.{_-_, _≤_}
 use Rattle.tabling.proofs.pairs_of.Statement.{statement}
 use Rattle.tabling.proofs.pairs_of.Tie as tie
-use Rattle.tabling.proofs.pairs_of.Reads as reads
-use Rattle.tabling.proofs.pairs_of.Lts as lts
-use Rattle.tabling.proofs.element.Reads as element-reads
-use Rattle.tabling.proofs.put_before.Reads as put-before-reads
-use Rattle.tabling.proofs.store.Reads as store-reads
-use Rattle.tabling.proofs.when_none.Reads as when-none-reads
-use Rattle.numbers.proofs.wide.Reads as wide-reads
 
 abbrev Inv-loop : tie.InvT-loop
 Inv-loop p m before₀ bodies₀ heads₀ count₀ empty₀ r₀ before bodies heads count empty r = (r ≤ m) × (m ≡ length (decoded p .rules)) × Filled (decoded p) r before bodies heads count empty

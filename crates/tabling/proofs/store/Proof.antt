@@ -6,10 +6,6 @@ use mathlib.Core.Path.{_≡_}
 use Prim.Native.Nat.{_+_, _-_, _≤_}
 use Rattle.tabling.proofs.store.Statement.{statement}
 use Rattle.tabling.proofs.store.Tie as tie
-use Rattle.tabling.proofs.store.Reads as reads
-use Rattle.tabling.proofs.store.Lts as lts
-use Rattle.tabling.proofs.element.Reads as element-reads
-use Rattle.tabling.proofs.put.Reads as put-reads
 
 abbrev Inv-loop : tie.InvT-loop
 Inv-loop from a size h at bodies₀ heads₀ i₀ bodies heads i = (i ≤ size) × (sets bodies (at + i) (take (size - i) (drop (a + i) from)) ≡ sets bodies₀ at (take size (drop a from))) × (sets heads (at + i) (replicate (size - i) h) ≡ sets heads₀ at (replicate size h))

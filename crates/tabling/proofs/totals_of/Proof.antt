@@ -2,12 +2,6 @@ use Rattle.tabling.proofs.Totals.{pairs-few, sizes-bounded, counts-boun
 use borrow.Author.Needs.{needs}
 use Rattle.tabling.proofs.totals_of.Statement.{statement}
 use Rattle.tabling.proofs.totals_of.Tie as tie
-use Rattle.tabling.proofs.totals_of.Reads as reads
-use Rattle.tabling.proofs.totals_of.Lts as lts
-use Rattle.literals.proofs.var_count.Reads as var-count-reads
-use Rattle.literals.proofs.width_of.Reads as width-of-reads
-use Rattle.tabling.proofs.clause_count.Reads as clause-count-reads
-use Rattle.numbers.proofs.wide.Reads as wide-reads
 
 width-of-requires : tie.Need-width-of-requires
 width-of-requires c κs = search needs

@@ -2,8 +2,6 @@ use mathlib.Core.Path.{refl}
 use borrow.Author.Tests.{eq-eqb, ne-eqb}
 use Rattle.tabling.proofs.when_none.Statement.{statement}
 use Rattle.tabling.proofs.when_none.Tie as tie
-use Rattle.tabling.proofs.when_none.Reads as reads
-use Rattle.tabling.proofs.when_none.Lts as lts
 
 returns : tie.Need-returns
 returns c = simp (eq-eqb _ _ (c .if1 .taken)) refl

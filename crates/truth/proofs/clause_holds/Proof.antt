@@ -12,13 +12,6 @@ use Prim.Native.Nat.{_-_, _≤_}
 use denote.Ref.{now}
 use Rattle.truth.proofs.clause_holds.Statement.{statement}
 use Rattle.truth.proofs.clause_holds.Tie as tie
-use Rattle.truth.proofs.clause_holds.Reads as reads
-use Rattle.truth.proofs.clause_holds.Lts as lts
-use Rattle.layout.proofs.chain_at.Reads as chain-at-reads
-use Rattle.layout.proofs.literal_in.Reads as literal-in-reads
-use Rattle.layout.proofs.past_empty.Reads as past-empty-reads
-use Rattle.layout.proofs.slots.Reads as slots-reads
-use Rattle.truth.proofs.slot_holds.Reads as slot-holds-reads
 
 abbrev Inv-loop : tie.InvT-loop
 Inv-loop t heads starts bodies before partners owners g a i y assignment k c l₀ l = (l ≤ k) × (any (literalTrue (valueIn assignment)) (each l (slot (programIn (t .sizes) heads starts bodies) (t .sizes .w) g a i y)) ≡ false)
@@ -26,51 +19,39 @@ Inv-loop t heads starts bodies before partners owners g a i y assignment k c l�
 abbrev μ-loop : tie.MeasureT-loop
 μ-loop t heads starts bodies before partners owners g a i y assignment k c l₀ l = k - l
 
--- src/lib.rt:60:9
 slots-requires : tie.Need-slots-requires Inv-loop μ-loop
 slots-requires c κs = (c .before .before .before .before .before .before .before .pre .0, c .before .before .before .before .before .before .before .pre .1)
 
--- src/lib.rt:61:9
 chain-at-requires : tie.Need-chain-at-requires Inv-loop μ-loop
 chain-at-requires c κs = (c .before .before .before .before .before .before .before .before .pre .0, c .before .before .before .before .before .before .before .before .pre .1 .row-at)
 
--- src/lib.rt:63:5
 loop-holds : tie.Need-loop-holds Inv-loop μ-loop
 loop-holds c = (search needs, refl)
 
--- src/lib.rt:64:95
 add-literal-in : tie.Need-add-literal-in Inv-loop μ-loop
 add-literal-in c = search needs
 
--- src/lib.rt:64:13
 literal-in-requires : tie.Need-literal-in-requires Inv-loop μ-loop
 literal-in-requires c κs = let q = slot-asks (c .before .before .before .before .before .before .before .before .before .before .before .pre .0) (c .before .before .before .before .before .before .before .before .before .before .before .pre .1) (c .before .before .before .slots .ensures) (c .loop-test .taken) in (q .0, q .1, q .2, q .3, c .before .before .chain-at .ensures)
 
--- src/lib.rt:65:12
 slot-holds-requires : tie.Need-slot-holds-requires Inv-loop μ-loop
 slot-holds-requires c κs = variable-fits (c .before .before .before .before .before .before .before .before .before .before .before .before .pre .0) (c .before .before .before .before .before .before .before .before .before .before .before .before .pre .1) (now (c .before .before .before .before .before .before .before .before .before .before .before .before .args .assignment)) (c .literal-in .result) (c .before .before .before .before .slots .ensures) (c .before .loop-test .taken) (c .literal-in .ensures) (c .before .before .before .before .before .before .before .before .before .before .before .before .pre .2)
 
--- src/lib.rt:66:13
 returns : tie.Need-returns Inv-loop μ-loop
 returns c = some-true (c .before .before .before .before .before .before .before .before .before .before .before .before .before .before .pre .0) (c .before .before .before .before .before .before .before .before .before .before .before .before .before .before .pre .1) (now (c .before .before .before .before .before .before .before .before .before .before .before .before .before .before .args .assignment)) (c .before .before .literal-in .result) (c .before .before .before .before .before .before .slots .ensures) (c .before .before .before .loop-test .taken) (c .before .before .literal-in .ensures) (c .before .slot-holds .ensures) (c .if1 .taken)
 
--- src/lib.rt:68:51
 add-past-empty : tie.Need-add-past-empty Inv-loop μ-loop
 add-past-empty c = search needs
 
--- src/lib.rt:68:9
 past-empty-requires : tie.Need-past-empty-requires Inv-loop μ-loop
 past-empty-requires c κs = past-asks (c .before .before .before .before .before .before .before .before .before .before .before .before .before .before .pre .0) (c .before .before .before .before .before .before .before .before .before .before .before .before .before .before .pre .1) (c .before .before .before .before .loop .l)
 
--- src/lib.rt:63:5
 loop-less : tie.Need-loop-less Inv-loop μ-loop
 loop-less c = past-less (c .before .before .before .before .before .before .before .before .before .before .before .before .before .before .before .pre .0) (c .before .before .before .before .before .before .before .before .before .before .before .before .before .before .before .pre .1) (c .before .before .before .before .before .before .before .slots .ensures) (c .before .before .before .before .loop-test .taken) (c .past-empty .ensures)
 
--- src/lib.rt:63:5
 loop-again : tie.Need-loop-again Inv-loop μ-loop
 loop-again c = (past-within (c .before .before .before .before .before .before .before .before .before .before .before .before .before .before .before .pre .0) (c .before .before .before .before .before .before .before .before .before .before .before .before .before .before .before .pre .1) (c .before .before .before .before .before .before .before .slots .ensures) (c .before .before .before .before .loop-test .taken) (c .past-empty .ensures), none-yet (c .before .before .before .before .before .before .before .before .before .before .before .before .before .before .before .pre .0) (c .before .before .before .before .before .before .before .before .before .before .before .before .before .before .before .pre .1) (now (c .before .before .before .before .before .before .before .before .before .before .before .before .before .before .before .args .assignment)) (c .before .before .before .literal-in .result) (c .before .before .before .before .before .before .before .slots .ensures) (c .before .before .before .before .loop-test .taken) (c .before .before .before .literal-in .ensures) (c .before .before .slot-holds .ensures) (c .before .if1 .left) (c .before .before .before .before .before .loop .inv .1) (c .past-empty .ensures))
 
--- src/lib.rt:56:1
 returns-2 : tie.Need-returns-2 Inv-loop μ-loop
 returns-2 c = all-false (c .before .before .before .before .before .before .before .before .before .before .before .pre .0) (c .before .before .before .before .before .before .before .before .before .before .before .pre .1) (now (c .before .before .before .before .before .before .before .before .before .before .before .args .assignment)) (c .before .before .before .slots .ensures) (c .before .loop .inv .0) (c .loop-test .left) (c .before .loop .inv .1)
 

@@ -8,14 +8,6 @@ use Rattle.truth.proofs.Clauses.{start-asks, begun, clause-asks, clause
 use Rattle.truth.specs.Standing.{Standing}
 use Rattle.truth.proofs.first_false.Statement.{statement}
 use Rattle.truth.proofs.first_false.Tie as tie
-use Rattle.truth.proofs.first_false.Reads as reads
-use Rattle.truth.proofs.first_false.Lts as lts
-use Rattle.places.proofs.next.Reads as next-reads
-use Rattle.places.proofs.past_row.Reads as past-row-reads
-use Rattle.places.proofs.start.Reads as start-reads
-use Rattle.row_truth.proofs.row_passes.Reads as row-passes-reads
-use Rattle.truth.proofs.clause_holds.Reads as clause-holds-reads
-use Rattle.truth.proofs.through_rows.Reads as through-rows-reads
 
 abbrev Inv-loop : tie.InvT-loop
 Inv-loop t heads starts bodies before partners owners assignment at₀ at = Standing (programIn (t .sizes) heads starts bodies) t assignment at
@@ -23,59 +15,45 @@ Inv-loop t heads starts bodies before partners owners assignment at₀ at = Stan
 abbrev μ-loop : tie.MeasureT-loop
 μ-loop t heads starts bodies before partners owners assignment at₀ at = suc (t .clauses) - at .number
 
--- src/lib.rt:203:9
 start-requires : tie.Need-start-requires Inv-loop μ-loop
 start-requires c κs = c .before .before .before .before .before .before .before .pre .0
 
--- src/lib.rt:195:9
 next-requires : tie.Need-next-requires Inv-loop μ-loop
 next-requires c κs = let q = start-asks (c .before .before .before .before .before .before .before .before .pre .0) (now (c .before .before .before .before .before .before .before .before .args .assignment)) (c .start .ensures) in (c .before .before .before .before .before .before .before .before .pre .0, q .0, q .1)
 
--- src/lib.rt:205:5
 loop-holds : tie.Need-loop-holds Inv-loop μ-loop
 loop-holds c = begun (c .before .before .before .before .before .before .before .before .before .pre .0) (now (c .before .before .before .before .before .before .before .before .before .args .assignment)) (c .before .start .ensures) (c .next .ensures)
 
--- src/lib.rt:206:13
 through-rows-requires : tie.Need-through-rows-requires Inv-loop μ-loop
 through-rows-requires c κs = (c .before .before .before .before .before .before .before .before .before .before .before .before .before .pre .0, c .before .before .before .loop .inv, c .if1 .taken, c .before .before .before .before .before .before .before .before .before .before .before .before .before .pre .1)
 
--- src/lib.rt:219:16
 row-passes-requires : tie.Need-row-passes-requires Inv-loop μ-loop
 row-passes-requires c κs = (c .before .before .before .before .before .before .before .before .before .before .before .before .before .before .before .before .before .pre .0, clause-asks (c .before .before .before .before .before .before .before .before .before .before .before .before .before .before .before .before .before .pre .0) (now (c .before .before .before .before .before .before .before .before .before .before .before .before .before .before .before .before .before .args .assignment)) (c .before .before .before .through-rows .ensures .0) (c .before .before .before .through-rows .ensures .2) .row-at, c .before .before .before .before .before .before .before .before .before .before .before .before .before .before .before .before .before .pre .1)
 
--- src/lib.rt:232:17
 past-row-requires : tie.Need-past-row-requires Inv-loop μ-loop
 past-row-requires c κs = (c .before .before .before .before .before .before .before .before .before .before .before .before .before .before .before .before .before .before .before .pre .0, c .before .before .before .before .before .through-rows .ensures .0 .own, c .before .before .before .before .before .through-rows .ensures .2)
 
--- src/lib.rt:205:5
 loop-less : tie.Need-loop-less Inv-loop μ-loop
 loop-less c = omega (arith, number-is (c .before .before .before .before .before .before .before .before .before .before .before .before .before .before .before .before .before .before .before .before .pre .0) (c .past-row .ensures .0), c .before .before .before .before .before .before .through-rows .ensures .1, c .before .before .before .before .before .before .through-rows .ensures .2, c .before .before .before .before .before .before .before .if1 .taken)
 
--- src/lib.rt:205:5
 loop-again : tie.Need-loop-again Inv-loop μ-loop
 loop-again c = row-passed (c .before .before .before .before .before .before .before .before .before .before .before .before .before .before .before .before .before .before .before .before .pre .0) (now (c .before .before .before .before .before .before .before .before .before .before .before .before .before .before .before .before .before .before .before .before .args .assignment)) (c .before .before .before .before .before .before .through-rows .ensures .0) (c .before .before .before .before .before .before .through-rows .ensures .2) (c .before .before .before .if2 .taken) (c .before .before .row-passes .ensures) (c .before .if3 .taken) (c .past-row .ensures)
 
--- src/lib.rt:236:13
 clause-holds-requires : tie.Need-clause-holds-requires Inv-loop μ-loop
 clause-holds-requires c κs = (c .before .before .before .before .before .before .before .before .before .before .before .before .before .before .before .before .before .pre .0, clause-asks (c .before .before .before .before .before .before .before .before .before .before .before .before .before .before .before .before .before .pre .0) (now (c .before .before .before .before .before .before .before .before .before .before .before .before .before .before .before .before .before .args .assignment)) (c .before .before .before .through-rows .ensures .0) (c .before .before .before .through-rows .ensures .2), c .before .before .before .before .before .before .before .before .before .before .before .before .before .before .before .before .before .pre .1)
 
--- src/lib.rt:250:13
 returns : tie.Need-returns Inv-loop μ-loop
 returns c = clause-false (c .before .before .before .before .before .before .before .before .before .before .before .before .before .before .before .before .before .before .before .pre .0) (now (c .before .before .before .before .before .before .before .before .before .before .before .before .before .before .before .before .before .before .before .args .assignment)) (c .before .before .before .before .before .through-rows .ensures .0) (c .before .before .before .before .before .through-rows .ensures .2) (c .before .clause-holds .ensures) (not-true _ (c .if4 .taken))
 
--- src/lib.rt:252:9
 next-requires-2 : tie.Need-next-requires-2 Inv-loop μ-loop
 next-requires-2 c κs = (c .before .before .before .before .before .before .before .before .before .before .before .before .before .before .before .before .before .before .before .pre .0, c .before .before .before .before .before .through-rows .ensures .0 .own, c .before .before .before .before .before .through-rows .ensures .2)
 
--- src/lib.rt:205:5
 loop-less-2 : tie.Need-loop-less-2 Inv-loop μ-loop
 loop-less-2 c = omega (arith, number-is (c .before .before .before .before .before .before .before .before .before .before .before .before .before .before .before .before .before .before .before .before .pre .0) (c .next2 .ensures), c .before .before .before .before .before .before .through-rows .ensures .1, c .before .before .before .before .before .before .through-rows .ensures .2, c .before .before .before .before .before .before .before .if1 .taken)
 
--- src/lib.rt:205:5
 loop-again-2 : tie.Need-loop-again-2 Inv-loop μ-loop
 loop-again-2 c = clause-passed (c .before .before .before .before .before .before .before .before .before .before .before .before .before .before .before .before .before .before .before .before .pre .0) (now (c .before .before .before .before .before .before .before .before .before .before .before .before .before .before .before .before .before .before .before .before .args .assignment)) (c .before .before .before .before .before .before .through-rows .ensures .0) (c .before .before .before .before .before .before .through-rows .ensures .2) (c .before .before .clause-holds .ensures) (not-false _ (c .before .if4 .left)) (c .next2 .ensures)
 
--- src/lib.rt:182:1
 returns-2 : tie.Need-returns-2 Inv-loop μ-loop
 returns-2 c = ended (c .before .before .before .before .before .before .before .before .before .before .before .before .before .pre .0) (now (c .before .before .before .before .before .before .before .before .before .before .before .before .before .args .assignment)) (c .before .before .before .loop .inv) (c .if1 .left)
 

@@ -7,24 +7,16 @@ use denote.Ref.{now}
 use borrow.Author.Needs.{needs}
 use Rattle.truth.proofs.slot_holds.Statement.{statement}
 use Rattle.truth.proofs.slot_holds.Tie as tie
-use Rattle.truth.proofs.slot_holds.Reads as reads
-use Rattle.truth.proofs.slot_holds.Lts as lts
-use Rattle.printing.proofs.number_of.Reads as number-of-reads
-use Rattle.row_truth.proofs.holds.Reads as holds-reads
 
--- src/lib.rt:50:9
 returns : tie.Need-returns
 returns c = slot-none (now (c .before .before .before .args .assignment)) (c .before .before .before .args .x) (c .if1 .taken)
 
--- src/lib.rt:52:11
 number-of-requires : tie.Need-number-of-requires
 number-of-requires c κs = search needs
 
--- src/lib.rt:52:5
 holds-requires : tie.Need-holds-requires
 holds-requires c κs = number-asks (now (c .before .before .before .before .args .assignment)) (c .before .before .before .before .args .x) (c .before .if1 .left) (toZ-ofZ (sfits-of {w = w32} (c .number-of .ok)) ∙ c .number-of .ensures) (search needs) (c .before .before .before .before .pre)
 
--- src/lib.rt:45:1
 returns-2 : tie.Need-returns-2
 returns-2 c = slot-some (now (c .before .before .before .before .before .args .assignment)) (c .before .before .before .before .before .args .x) (c .before .before .if1 .left) (toZ-ofZ (sfits-of {w = w32} (c .before .number-of .ok)) ∙ c .before .number-of .ensures) (c .holds .ensures)
 

@@ -5,19 +5,13 @@ use Rattle.writing.proofs.Parts.{placed-in, part-is}
 use borrow.Author.Needs.{needs}
 use Rattle.writing.proofs.next_part.Statement.{statement}
 use Rattle.writing.proofs.next_part.Tie as tie
-use Rattle.writing.proofs.next_part.Reads as reads
-use Rattle.writing.proofs.next_part.Lts as lts
-use Rattle.runs.proofs.put_lines.Reads as put-lines-reads
 
--- src/lib.rt:72:5
 put-lines-requires : tie.Need-put-lines-requires
 put-lines-requires c κs = (ready-of (c .before .before .before .before .before .before .before .before .before .before .before .before .before .before .before .before .pre .0) (c .before .before .before .before .before .before .before .before .before .before .before .before .before .before .before .before .pre .1) (c .before .before .before .before .before .before .before .before .before .before .before .before .before .before .before .before .pre .2), placed-in (c .before .before .before .before .before .before .before .before .before .before .before .before .before .before .before .before .pre .0, c .before .before .before .before .before .before .before .before .before .before .before .before .before .before .before .before .pre .1, c .before .before .before .before .before .before .before .before .before .before .before .before .before .before .before .before .pre .2) (c .before .before .before .before .before .before .before .before .before .before .before .before .before .before .before .before .args .c .number) (c .before .before .before .before .before .before .before .before .before .before .before .before .before .before .before .before .pre .3), omega (arith, c .before .before .before .before .before .before .before .before .before .before .before .before .before .before .before .before .pre .4))
 
--- src/lib.rt:68:1
 same-length : tie.Need-same-length
 same-length c = search needs
 
--- src/lib.rt:68:1
 returns : tie.Need-returns
 returns c = part-is (c .before .before .before .before .before .before .before .before .before .before .before .before .before .before .before .before .before .before .before .pre .0, c .before .before .before .before .before .before .before .before .before .before .before .before .before .before .before .before .before .before .before .pre .1, c .before .before .before .before .before .before .before .before .before .before .before .before .before .before .before .before .before .before .before .pre .2) (c .before .before .before .before .before .before .before .before .before .before .before .before .before .before .before .before .before .before .before .args .c) (c .before .before .before .before .before .before .before .before .before .before .before .before .before .before .before .before .before .before .before .pre .4) (now (c .before .before .before .before .before .before .before .before .before .before .before .before .before .before .before .before .before .before .before .args .out)) (c .before .before .before .before .before .before .before .before .before .before .before .before .before .before .before .before .before .before .before .pre .5) (c .before .before .put-lines .ensures)
 

@@ -9,14 +9,6 @@ use mathlib.Core.Path.{_≡_}
 use Prim.Native.Nat.{suc, _-_, _≤_}
 use Rattle.writing.proofs.say_lines.Statement.{statement}
 use Rattle.writing.proofs.say_lines.Tie as tie
-use Rattle.writing.proofs.say_lines.Reads as reads
-use Rattle.writing.proofs.say_lines.Lts as lts
-use Rattle.io.proofs.large_buffer.Reads as large-buffer-reads
-use Rattle.io.proofs.write_all.Reads as write-all-reads
-use Rattle.tabling.proofs.pairs_of.Reads as pairs-of-reads
-use Rattle.tabling.proofs.totals_of.Reads as totals-of-reads
-use Rattle.writing.proofs.first_place.Reads as first-place-reads
-use Rattle.writing.proofs.next_part.Reads as next-part-reads
 
 abbrev Inv-loop : tie.InvT-loop
 Inv-loop p k t out₀ c₀ out c = (65536 ≡ length out) × (c ≡ placeAt (decoded p) (t .sizes .w) (c .number)) × (c .number ≤ suc (t .clauses))
@@ -24,55 +16,42 @@ Inv-loop p k t out₀ c₀ out c = (65536 ≡ length out) × (c ≡ placeAt (dec
 abbrev μ-loop : tie.MeasureT-loop
 μ-loop p k t out₀ c₀ out c = suc (t .clauses) - c .number
 
--- src/lib.rt:79:9
 pairs-of-requires : tie.Need-pairs-of-requires Inv-loop μ-loop
 pairs-of-requires c κs = search needs
 
--- src/lib.rt:80:9
 totals-of-requires : tie.Need-totals-of-requires Inv-loop μ-loop
 totals-of-requires c κs = totals-asks (c .before .pre) (c .pairs-of .ensures)
 
--- src/lib.rt:81:19
 large-buffer-requires : tie.Need-large-buffer-requires Inv-loop μ-loop
 large-buffer-requires c κs = search needs
 
--- src/lib.rt:82:9
 first-place-requires : tie.Need-first-place-requires Inv-loop μ-loop
 first-place-requires c κs = (c .before .before .before .pre, c .before .before .pairs-of .ensures, c .before .totals-of .ensures)
 
--- src/lib.rt:83:5
 loop-holds : tie.Need-loop-holds Inv-loop μ-loop
 loop-holds c = (c .before .large-buffer .ensures, first-number (decoded (c .before .before .before .before .args .p)) (c .before .before .totals-of .result .sizes .w) (suc (c .before .before .totals-of .result .clauses)) (c .first-place .ensures) .0, first-number (decoded (c .before .before .before .before .args .p)) (c .before .before .totals-of .result .sizes .w) (suc (c .before .before .totals-of .result .clauses)) (c .first-place .ensures) .1)
 
--- src/lib.rt:84:42
 slice-aggregate-next-part : tie.Need-slice-aggregate-next-part Inv-loop μ-loop
 slice-aggregate-next-part c = search needs
 
--- src/lib.rt:84:13
 next-part-requires : tie.Need-next-part-requires Inv-loop μ-loop
 next-part-requires c κs = (c .before .before .before .before .before .before .before .before .before .pre, c .before .before .before .before .before .before .before .before .pairs-of .ensures, c .before .before .before .before .before .before .before .totals-of .ensures, c .before .before .before .before .loop .inv .1, c .before .if1 .taken, omega (arith, c .before .before .before .before .loop .inv .0))
 
--- src/lib.rt:85:26
 array-share-prefix-out : tie.Need-array-share-prefix-out Inv-loop μ-loop
 array-share-prefix-out c = search needs
 
--- src/lib.rt:85:26
 slice-aggregate-write-all : tie.Need-slice-aggregate-write-all Inv-loop μ-loop
 slice-aggregate-write-all c = search needs
 
--- src/lib.rt:85:9
 write-all-requires : tie.Need-write-all-requires Inv-loop μ-loop
 write-all-requires c κs = search needs
 
--- src/lib.rt:83:5
 loop-less : tie.Need-loop-less Inv-loop μ-loop
 loop-less c = omega (arith, c .before .before .before .before .next-part .ensures .3 .later, c .before .before .before .before .before .before .if1 .taken)
 
--- src/lib.rt:83:5
 loop-again : tie.Need-loop-again Inv-loop μ-loop
 loop-again c = search needs
 
--- src/lib.rt:76:1
 returns : tie.Need-returns Inv-loop μ-loop
 returns c = search needs
 

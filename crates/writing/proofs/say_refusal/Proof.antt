@@ -5,42 +5,28 @@ use native.Mathlib.Omega.{arith}
 use borrow.Author.Needs.{needs}
 use Rattle.writing.proofs.say_refusal.Statement.{statement}
 use Rattle.writing.proofs.say_refusal.Tie as tie
-use Rattle.writing.proofs.say_refusal.Reads as reads
-use Rattle.writing.proofs.say_refusal.Lts as lts
-use Rattle.io.proofs.write_all.Reads as write-all-reads
-use Rattle.printing.proofs.put_refusal.Reads as put-refusal-reads
-use Rattle.program.proofs.number_of.Reads as number-of-reads
-use Rattle.program.proofs.spot_of.Reads as spot-of-reads
 
--- src/lib.rt:37:25
 number-of-requires : tie.Need-number-of-requires
 number-of-requires c κs = search needs
 
--- src/lib.rt:37:39
 spot-of-requires : tie.Need-spot-of-requires
 spot-of-requires c κs = search needs
 
--- src/lib.rt:37:51
 slice-aggregate-put-refusal : tie.Need-slice-aggregate-put-refusal
 slice-aggregate-put-refusal c = search needs
 
--- src/lib.rt:37:9
 put-refusal-requires : tie.Need-put-refusal-requires
 put-refusal-requires c κs = omega (arith, refused-small (c .before .before .number-of .result) (c .before .spot-of .result) (omega (arith, c .before .before .number-of .ok)) (omega (arith, c .before .spot-of .ok)))
 
--- src/lib.rt:38:22
 array-share-prefix-out : tie.Need-array-share-prefix-out
 array-share-prefix-out c = begins-counts _ (refusedText (c .before .before .before .before .number-of .result) (c .before .before .before .spot-of .result)) (c .before .put-refusal .ensures) .0
 
--- src/lib.rt:38:22
 slice-aggregate-write-all : tie.Need-slice-aggregate-write-all
 slice-aggregate-write-all c = begins-counts _ (refusedText (c .before .before .before .before .before .number-of .result) (c .before .before .before .before .spot-of .result)) (c .before .before .put-refusal .ensures) .1
 
--- src/lib.rt:38:5
 write-all-requires : tie.Need-write-all-requires
 write-all-requires c κs = search needs
 
--- src/lib.rt:35:1
 returns : tie.Need-returns
 returns c = search needs
 

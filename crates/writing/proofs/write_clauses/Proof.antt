@@ -2,62 +2,43 @@ use Rattle.input.proofs.Counted.{counted-stored}
 use borrow.Author.Needs.{needs}
 use Rattle.writing.proofs.write_clauses.Statement.{statement}
 use Rattle.writing.proofs.write_clauses.Tie as tie
-use Rattle.writing.proofs.write_clauses.Reads as reads
-use Rattle.writing.proofs.write_clauses.Lts as lts
-use Rattle.input.proofs.read_counted.Reads as read-counted-reads
-use Rattle.io.proofs.read_full.Reads as read-full-reads
-use Rattle.files.proofs.rest_length.Reads as rest-length-reads
-use Rattle.writing.proofs.say_lines.Reads as say-lines-reads
-use Rattle.writing.proofs.say_refused.Reads as say-refused-reads
 
--- src/lib.rt:92:30
 slice-aggregate-read-full : tie.Need-slice-aggregate-read-full
 slice-aggregate-read-full c = search needs
 
--- src/lib.rt:92:9
 read-full-requires : tie.Need-read-full-requires
 read-full-requires c κs = search needs
 
--- src/lib.rt:93:21
 rest-length-requires : tie.Need-rest-length-requires
 rest-length-requires c κs = search needs
 
--- src/lib.rt:93:17
 add-total : tie.Need-add-total
 add-total c = search needs
 
--- src/lib.rt:94:26
 array-share-prefix-text : tie.Need-array-share-prefix-text
 array-share-prefix-text c = search needs
 
--- src/lib.rt:94:26
 slice-aggregate-read-counted : tie.Need-slice-aggregate-read-counted
 slice-aggregate-read-counted c = search needs
 
--- src/lib.rt:94:9
 read-counted-requires : tie.Need-read-counted-requires
 read-counted-requires c κs = search needs
 
 enum-told : tie.Need-enum-told
 enum-told c = search needs
 
--- src/lib.rt:97:9
 enum-told-2 : tie.Need-enum-told-2
 enum-told-2 c = search needs
 
--- src/lib.rt:97:9
 say-refused-requires : tie.Need-say-refused-requires
 say-refused-requires c κs = search needs
 
--- src/lib.rt:98:9
 returns : tie.Need-returns
 returns c = search needs
 
--- src/lib.rt:100:5
 say-lines-requires : tie.Need-say-lines-requires
 say-lines-requires c κs = counted-stored _ _ (c .before .before .read-counted .ensures) (c .enum-told .given .1)
 
--- src/lib.rt:90:1
 returns-2 : tie.Need-returns-2
 returns-2 c = search needs
 
