@@ -9,11 +9,11 @@ use mathlib.Core.Path.{_≡_, refl}
 use mathlib.Core.List.{List, [], _∷_, map}
 use lib.IntN.{pos, negsuc}
 use Rattle.lists.specs.Ascii.{ascii}
-use Rattle.form.specs.Automaton.{digitTest}
-use Rattle.answers.specs.Machine.{acceptedBy, readBy}
-use Rattle.answers.specs.Answer.{satisfiableText, statusText}
-use Rattle.answers.specs.Automaton.{statusBytes, statusAt, statusNext, statusTurn, statusStep, seekStep, literalStep, endStep, stepOf, mayEnd}
-use Rattle.answers.specs.Reading.{common, firstLine, statusFrom, statusOf, digitsValue, behindDigits, minusFrom, literalFrom, seekFrom, nextLiteral, closeFrom, closeOf}
+use Rattle.reader_form.specs.Automaton.{digitTest}
+use Rattle.answer_form.specs.Machine.{acceptedBy, readBy}
+use Rattle.answer_form.specs.Answer.{satisfiableText, statusText}
+use Rattle.answer_form.specs.Automaton.{statusBytes, statusAt, statusNext, statusTurn, statusStep, seekStep, literalStep, endStep, stepOf, mayEnd}
+use Rattle.answer_form.specs.Reading.{common, firstLine, statusFrom, statusOf, digitsValue, behindDigits, minusFrom, literalFrom, seekFrom, nextLiteral, closeFrom, closeOf}
 use Rattle.answer_reader.specs.declared.Found.the-variants.{Satisfiable, Other, Left as FoundLeft}
 use Rattle.answer_reader.specs.declared.Next.the-variants.{Literal as NextLiteral, Last, Left as NextLeft}
 use Rattle.answer_reader.specs.declared.Closed.the-variants.{Fine, Left as CloseLeft}

@@ -11,9 +11,9 @@ use mathlib.Core.List.{List}
 use lib.IntN.{ℤ, pos}
 use lib.ListN.{length, length-drop, drop}
 use Rattle.encoding.specs.Literal.{Literal}
-use Rattle.answers.specs.Answer.{Status}
-use Rattle.answers.specs.Reading.{Found, Next, nextLiteral, Close}
-use Rattle.answers.proofs.Passing.{Heard, next-heard}
+use Rattle.answer_form.specs.Answer.{Status}
+use Rattle.answer_form.specs.Reading.{Found, Next, nextLiteral, Close}
+use Rattle.answer_form.proofs.Passing.{Heard, next-heard}
 use Rattle.answer_reader.specs.declared.Found.{Found as FoundAnswer}
 use Rattle.answer_reader.specs.declared.Found.the-variants.{Satisfiable, Other, Left as FoundLeft}
 use Rattle.answer_reader.specs.declared.Next.{Next as NextAnswer}

@@ -16,10 +16,10 @@ use lib.ListN.{length, getD, drop, drop-of-length-le}
 use borrow.Author.Tests.{eq-eqb, ne-eqb, ltb-false, not-true, not-false}
 use Rattle.encoding.specs.Literal.{Literal, literalNumber}
 use Literal.{var, −_}
-use Rattle.form.specs.Automaton.{digitTest}
-use Rattle.answers.specs.Reading.{Next, digitsValue, cappedValue, behindDigits, minusFrom, literalFrom}
-use Rattle.answers.proofs.Digits.{capped-value}
-use Rattle.answers.proofs.Turns.{byte-at, capped-turn, capped-stop, behind-turn, behind-stop}
+use Rattle.reader_form.specs.Automaton.{digitTest}
+use Rattle.answer_form.specs.Reading.{Next, digitsValue, cappedValue, behindDigits, minusFrom, literalFrom}
+use Rattle.answer_form.proofs.Digits.{capped-value}
+use Rattle.answer_form.proofs.Turns.{byte-at, capped-turn, capped-stop, behind-turn, behind-stop}
 use Rattle.answer_reader.specs.declared.Next.{Next as NextAnswer}
 use Rattle.answer_reader.specs.declared.Next.the-variants.{Literal as NextLiteral, Last, Left as NextLeft}
 use Rattle.answer_reader.specs.Results.{mostNumber, nextFor}

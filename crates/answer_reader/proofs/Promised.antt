@@ -12,18 +12,18 @@ use mathlib.Core.Bool.{Bool, true, false}
 use mathlib.Core.List.{List}
 use Rattle.lists.specs.Lists.{all}
 use Rattle.lists.proofs.Bools.{and-left}
-use Rattle.answers.specs.Answer.{Status, Answer, oneLine, proper, HasForm, OfStatus, Malformed}
-use Rattle.answers.specs.Automaton.{accepts, leaves}
-use Rattle.answers.specs.Reading.{Found, statusOf, Close, Spotted, Reads}
-use Rattle.answers.proofs.Accepted.{form-accepted}
-use Rattle.answers.proofs.Sound.{sound}
-use Rattle.answers.proofs.Spot.{rejected-malformed, spot-unique, form-not-malformed}
-use Rattle.answers.proofs.StatusLaws.{status-model, status-none}
-use Rattle.answers.proofs.Whole.{OfModel, Outcome, whole}
+use Rattle.answer_form.specs.Answer.{Status, Answer, oneLine, proper, HasForm, OfStatus, Malformed}
+use Rattle.answer_form.specs.Automaton.{accepts, leaves}
+use Rattle.answer_form.specs.Reading.{Found, statusOf, Close, Spotted, Reads}
+use Rattle.answer_form.proofs.Accepted.{form-accepted}
+use Rattle.answer_form.proofs.Sound.{sound}
+use Rattle.answer_form.proofs.Spot.{rejected-malformed, spot-unique, form-not-malformed}
+use Rattle.answer_form.proofs.StatusLaws.{status-model, status-none}
+use Rattle.answer_form.proofs.Whole.{OfModel, Outcome, whole}
 use Rattle.answer_reader.specs.declared.Formed.{Formed}
 use Rattle.answer_reader.specs.declared.Formed.the-variants.{Model, NoModel, Malformed as MalformedAt}
 use Rattle.answer_reader.specs.Results.{formFor, formOf}
-use Rattle.answers.specs.Reading.{IsModel}
+use Rattle.answer_form.specs.Reading.{IsModel}
 
 lineEndOf : Found → ℕ
 lineEndOf (Found.satisfiable e) = e

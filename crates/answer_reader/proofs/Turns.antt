@@ -15,9 +15,9 @@ use lib.Dec.{eqb}
 use lib.ListN.{length, getD, drop, drop-of-length-le}
 use lib.Seq.{drop-drop}
 use borrow.Author.Tests.{eq-eqb, ne-eqb}
-use Rattle.answers.specs.Automaton.{seekStep, endStep}
-use Rattle.answers.specs.Reading.{Close, closeFrom, firstLine, common, Next, literalFrom, seekFrom, nextLiteral}
-use Rattle.answers.proofs.Turns.{byte-at, close-turn, close-stop, first-turn, first-stop, common-turn, common-stop, common-short}
+use Rattle.answer_form.specs.Automaton.{seekStep, endStep}
+use Rattle.answer_form.specs.Reading.{Close, closeFrom, firstLine, common, Next, literalFrom, seekFrom, nextLiteral}
+use Rattle.answer_form.proofs.Turns.{byte-at, close-turn, close-stop, first-turn, first-stop, common-turn, common-stop, common-short}
 use Rattle.answer_reader.specs.declared.Closed.the-variants.{Fine, Left as CloseLeft}
 use Rattle.answer_reader.specs.declared.Next.{Next as NextAnswer}
 use Rattle.answer_reader.specs.declared.Next.the-variants.{Left as NextLeft}

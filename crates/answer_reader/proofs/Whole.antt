@@ -14,12 +14,12 @@ use lib.IntN.{ℤ}
 use lib.ListN.{length, drop}
 use lib.Seq.{drop-drop}
 use Rattle.encoding.specs.Literal.{Literal}
-use Rattle.answers.specs.Automaton.{accepts, leaves}
-use Rattle.answers.specs.Reading.{Found, statusOf, Next, nextLiteral, Close, closeOf, Reads}
-use Rattle.answers.proofs.Passing.{Passes, Heard, next-heard, Closed}
-use Rattle.answers.proofs.StatusLaws.{Told, status-told}
-use Rattle.answers.proofs.ReadingLaws.{reads-closed}
-use Rattle.answers.proofs.Whole.{status-within}
+use Rattle.answer_form.specs.Automaton.{accepts, leaves}
+use Rattle.answer_form.specs.Reading.{Found, statusOf, Next, nextLiteral, Close, closeOf, Reads}
+use Rattle.answer_form.proofs.Passing.{Passes, Heard, next-heard, Closed}
+use Rattle.answer_form.proofs.StatusLaws.{Told, status-told}
+use Rattle.answer_form.proofs.ReadingLaws.{reads-closed}
+use Rattle.answer_form.proofs.Whole.{status-within}
 use Rattle.answer_reader.specs.declared.Found.{Found as FoundAnswer}
 use Rattle.answer_reader.specs.declared.Found.the-variants.{Satisfiable, Other, Left as FoundLeft}
 use Rattle.answer_reader.specs.declared.Next.{Next as NextAnswer}

@@ -18,8 +18,8 @@ use lib.IntN.{ℤ}
 use lib.ListN.{drop}
 use Rattle.encoding.specs.Literal.{Literal, literalNumber}
 use Literal.{var, −_}
-use Rattle.answers.specs.Automaton.{seekStep, accepts, leaves}
-use Rattle.answers.specs.Reading.{Found, Next, Close, statusOf, literalFrom}
+use Rattle.answer_form.specs.Automaton.{seekStep, accepts, leaves}
+use Rattle.answer_form.specs.Reading.{Found, Next, Close, statusOf, literalFrom}
 use Rattle.answer_reader.specs.declared.Space.{Space}
 use Rattle.answer_reader.specs.declared.Space.the-variants.{Behind, Left as SpaceLeft}
 use Rattle.answer_reader.specs.declared.Found.{Found as FoundAnswer}

@@ -1,13 +1,13 @@
 // A solver answer, read byte by byte: its status, its literals one after the other, and what follows literal 0
 // (document 01, "Solver answer"). The definitions are those of the crate answers; states are those of its automaton.
-use form::is_digit;
-use literals::negate;
+use clause_literals::negate;
+use reader_form::is_digit;
 ghost use Prim.Native.Nat.{_+_, _*_, _-_, _^_, _≤_, _<_, min, max};
 ghost use mathlib.Core.Path.{_≡_};
 ghost use lib.ListN.{length, drop};
 ghost use Rattle.encoding.specs.Literal.{literalNumber, var, −_};
-ghost use Rattle.answers.specs.Automaton.{seekStep, endStep};
-ghost use Rattle.answers.specs.Reading.{common, firstLine, statusOf, cappedValue, behindDigits, minusFrom, literalFrom, nextLiteral, closeOf};
+ghost use Rattle.answer_form.specs.Automaton.{seekStep, endStep};
+ghost use Rattle.answer_form.specs.Reading.{common, firstLine, statusOf, cappedValue, behindDigits, minusFrom, literalFrom, nextLiteral, closeOf};
 ghost use Rattle.answer_reader.specs.Results.{mostNumber, noComment, commentState, foundFor, spaceFrom, nextFor, closeFor, closedForm};
 
 // Which status, and the index of the byte 10 that ends its line; or the spot where the answer leaves the form.

@@ -4,6 +4,10 @@
 // `ok TRUE HIGHEST ASSUMED ASSIGNMENT LEVELS` or `refused NUMBER SPOT ASSIGNMENT LEVELS`, the two buffers as they are after the call, whole.
 // The four are fields as crate `cases` decodes them. A line that is not of this form prints `bad case`, and so does a text or an answer of more than
 // 70,000 bytes, an assignment of more than 65,536 or levels of more than 4,096.
+use call_check::CheckVerdict;
+use call_check::check;
+use call_check::check_number_of;
+use call_check::check_spot_of;
 use cases::decode_four;
 use cases::line_end;
 use cases::print_accepted;
@@ -12,10 +16,6 @@ use cases::print_buffers;
 use cases::print_further;
 use cases::print_refused;
 use cases::read_argument;
-use checking::CheckVerdict;
-use checking::check;
-use checking::check_number_of;
-use checking::check_spot_of;
 
 // Prints what the check answers.
 fn say_verdict(v: CheckVerdict) {

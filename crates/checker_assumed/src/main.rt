@@ -1,4 +1,4 @@
 // The checker on document 01's fact and an answer that leaves out its two false variables.
 fn main() {
-    showing::show_model();
+    checker_output::show_model();
 }

@@ -1,4 +1,4 @@
 // The checker on document 01's chain of 126 atoms and its filled-out assignment.
 fn main() {
-    showing::show_model();
+    checker_output::show_model();
 }

@@ -1,4 +1,4 @@
 // The checker where neither file can be opened.
 fn main() {
-    showing::show_model();
+    checker_output::show_model();
 }

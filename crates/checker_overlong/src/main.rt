@@ -1,4 +1,4 @@
 // The checker on an answer of 140,000 bytes.
 fn main() {
-    showing::show_model();
+    checker_output::show_model();
 }

@@ -1,4 +1,4 @@
 // The checker on a program of no atoms where answer.txt cannot be opened.
 fn main() {
-    showing::show_model();
+    checker_output::show_model();
 }

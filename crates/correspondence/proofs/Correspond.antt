@@ -34,25 +34,25 @@ use Rattle.theory.proofs.Base as Base
 use Rattle.theory.proofs.Widths.{width-enough}
 use Rattle.reader_laws.specs.Row.{Admitted}
 use Rattle.reader_laws.proofs.Unique.{text-unique}
-use Rattle.answers.specs.Reading.{Spotted, spotsOf}
-use Rattle.offering.specs.Offered.{valueBytes, valuesOf, literalsFor, offered, offeredText}
-use Rattle.assigning.specs.Rows.{AllFit}
-use Rattle.offering.proofs.Values.{values-length}
-use Rattle.offering.proofs.Offers.{offered-proper, offered-fits, offered-spots, offered-fit, offered-values}
-use Rattle.table_laws.proofs.Bounds.{variables-fit}
-use Rattle.truth.specs.Truth.{valueIn}
-use Rattle.stages.specs.Levels.{setIn}
-use Rattle.results.specs.Results.{varTotal}
-use Rattle.results.proofs.ValueBytes.{value-same}
-use Rattle.checking.specs.declared.CheckVerdict.the-variants.{Model}
-use Rattle.checking.specs.Check.{checkAnswer, checkAssignment, checkLevels}
-use Rattle.checking.specs.Rows.{Offers, assumedNumber, trueNumber, levelsOf, clauseOf, clauseNumber, EachTrue, Shows, ModelWritten}
-use Rattle.checking.proofs.Spots.{offers-unique}
-use Rattle.checking.proofs.Verdicts.{model-offers, true-accepted}
-use Rattle.checking.proofs.Buffers.{shows-writes}
-use Rattle.filling_out.specs.declared.FillVerdict.the-variants.{Filled}
-use Rattle.filling_out.specs.FillOut.{fillAnswer, fillAssignment, fillLevels}
-use Rattle.filling_out.proofs.Written.{stable-fills}
+use Rattle.answer_form.specs.Reading.{Spotted, spotsOf}
+use Rattle.answer_offers.specs.Offered.{valueBytes, valuesOf, literalsFor, offered, offeredText}
+use Rattle.answer_values.specs.Rows.{AllFit}
+use Rattle.answer_offers.proofs.Values.{values-length}
+use Rattle.answer_offers.proofs.Offers.{offered-proper, offered-fits, offered-spots, offered-fit, offered-values}
+use Rattle.clause_table_laws.proofs.Bounds.{variables-fit}
+use Rattle.truth_clauses.specs.Truth.{valueIn}
+use Rattle.level_stages.specs.Levels.{setIn}
+use Rattle.call_results.specs.Results.{varTotal}
+use Rattle.call_results.proofs.ValueBytes.{value-same}
+use Rattle.call_check.specs.declared.CheckVerdict.the-variants.{Model}
+use Rattle.call_check.specs.Check.{checkAnswer, checkAssignment, checkLevels}
+use Rattle.call_check.specs.Rows.{Offers, assumedNumber, trueNumber, levelsOf, clauseOf, clauseNumber, EachTrue, Shows, ModelWritten}
+use Rattle.call_check.proofs.Spots.{offers-unique}
+use Rattle.call_check.proofs.Verdicts.{model-offers, true-accepted}
+use Rattle.call_check.proofs.Buffers.{shows-writes}
+use Rattle.call_fill.specs.declared.FillVerdict.the-variants.{Filled}
+use Rattle.call_fill.specs.FillOut.{fillAnswer, fillAssignment, fillLevels}
+use Rattle.call_fill.proofs.Written.{stable-fills}
 use Rattle.correspondence.specs.Accepted.{AcceptedAssignment, Room, CheckWrites, setBytes, SetOf}
 
 -- ---- clauses, one by one and all together

@@ -22,21 +22,21 @@ use Rattle.theory.proofs.Atoms.{by-place}
 use Rattle.theory.proofs.Base as Base
 use Rattle.theory.proofs.Widths.{width-enough}
 use Rattle.reader_laws.specs.Row.{Admitted}
-use Rattle.answers.specs.Reading.{Spotted}
-use Rattle.offering.specs.Offered.{valueBytes, valuesOf}
-use Rattle.truth.specs.Truth.{valueIn}
-use Rattle.stages.specs.Levels.{setIn}
-use Rattle.results.specs.Results.{levelIn, varTotal}
-use Rattle.results.proofs.ValueBytes.{value-same, atoms-within, value-here, level-here}
-use Rattle.checking.specs.declared.CheckVerdict.the-variants.{Model}
-use Rattle.checking.specs.Check.{checkAnswer, checkAssignment, checkLevels}
-use Rattle.checking.specs.Rows.{Shows}
-use Rattle.checking.proofs.Verdicts.{model-offers}
-use Rattle.checking.proofs.Buffers.{countIn, highestIn}
-use Rattle.filling_out.specs.declared.FillVerdict.the-variants.{Filled}
-use Rattle.filling_out.specs.FillOut.{fillAnswer, fillAssignment, fillLevels}
-use Rattle.filling_out.specs.Rows.{Fills}
-use Rattle.filling_out.proofs.Written.{fill-accepted}
+use Rattle.answer_form.specs.Reading.{Spotted}
+use Rattle.answer_offers.specs.Offered.{valueBytes, valuesOf}
+use Rattle.truth_clauses.specs.Truth.{valueIn}
+use Rattle.level_stages.specs.Levels.{setIn}
+use Rattle.call_results.specs.Results.{levelIn, varTotal}
+use Rattle.call_results.proofs.ValueBytes.{value-same, atoms-within, value-here, level-here}
+use Rattle.call_check.specs.declared.CheckVerdict.the-variants.{Model}
+use Rattle.call_check.specs.Check.{checkAnswer, checkAssignment, checkLevels}
+use Rattle.call_check.specs.Rows.{Shows}
+use Rattle.call_check.proofs.Verdicts.{model-offers}
+use Rattle.call_check.proofs.Buffers.{countIn, highestIn}
+use Rattle.call_fill.specs.declared.FillVerdict.the-variants.{Filled}
+use Rattle.call_fill.specs.FillOut.{fillAnswer, fillAssignment, fillLevels}
+use Rattle.call_fill.specs.Rows.{Fills}
+use Rattle.call_fill.proofs.Written.{fill-accepted}
 use Rattle.correspondence.proofs.Correspond.{shows-accepted, accepted-true, accepted-stable, check-writes}
 
 -- bs are the values of the stable model M: c holds them and m the level numbers, and behind them any bytes

@@ -28,23 +28,23 @@ use Rattle.reader_laws.specs.Row.{Admitted}
 use Rattle.reader_laws.proofs.Unique.{text-unique}
 use Rattle.reader_laws.proofs.Rows.{accepted-none}
 use Rattle.reader_laws.proofs.Contents.{admitted-answer}
-use Rattle.answers.specs.Reading.{Spotted}
-use Rattle.offering.specs.Offered.{valuesOf}
-use Rattle.assigning.specs.Rows.{AllFit}
-use Rattle.runs.specs.Lines.{clauseTotal, lineOf}
-use Rattle.lines.specs.Lines.{lineBytes}
-use Rattle.lines.specs.Rows.{LineRow, of-text, short-buffer, no-such-clause}
-use Rattle.lines.proofs.Rows.{none-written}
-use Rattle.lines.proofs.Calls.{line-writes}
-use Rattle.lines.proofs.File as File
-use Rattle.stages.specs.Levels.{setIn}
-use Rattle.results.specs.Results.{levelIn, varTotal}
-use Rattle.results.proofs.ValueBytes.{level-here}
-use Rattle.checking.specs.Check.{checkLevels}
-use Rattle.checking.specs.Rows.{Offers, clauseOf, clauseNumber, Accepts}
-use Rattle.checking.proofs.Verdicts as Verdicts
-use Rattle.filling_out.specs.Rows.{FillAccepts, Fills}
-use Rattle.filling_out.proofs.Written.{fill-accepted, stable-fills}
+use Rattle.answer_form.specs.Reading.{Spotted}
+use Rattle.answer_offers.specs.Offered.{valuesOf}
+use Rattle.answer_values.specs.Rows.{AllFit}
+use Rattle.clause_runs.specs.Lines.{clauseTotal, lineOf}
+use Rattle.call_lines.specs.Lines.{lineBytes}
+use Rattle.call_lines.specs.Rows.{LineRow, of-text, short-buffer, no-such-clause}
+use Rattle.call_lines.proofs.Rows.{none-written}
+use Rattle.call_lines.proofs.Calls.{line-writes}
+use Rattle.call_lines.proofs.File as File
+use Rattle.level_stages.specs.Levels.{setIn}
+use Rattle.call_results.specs.Results.{levelIn, varTotal}
+use Rattle.call_results.proofs.ValueBytes.{level-here}
+use Rattle.call_check.specs.Check.{checkLevels}
+use Rattle.call_check.specs.Rows.{Offers, clauseOf, clauseNumber, Accepts}
+use Rattle.call_check.proofs.Verdicts as Verdicts
+use Rattle.call_fill.specs.Rows.{FillAccepts, Fills}
+use Rattle.call_fill.proofs.Written.{fill-accepted, stable-fills}
 use Rattle.correspondence.specs.Accepted.{AcceptedAssignment, Room}
 use Rattle.correspondence.proofs.Correspond.{accepted-stable, accepted-counter, check-writes}
 

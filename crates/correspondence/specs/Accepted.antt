@@ -14,13 +14,13 @@ use Rattle.lists.specs.Lists.{tab, sum, highest as highestOf}
 use Rattle.meaning.specs.Program.{Program, Atoms}
 use Rattle.meaning.specs.Stage.{level}
 use Rattle.encoding.specs.Fill.{trueAtoms}
-use Rattle.answers.specs.Reading.{Spotted}
-use Rattle.offering.specs.Offered.{valueBytes, valuesOf}
-use Rattle.stages.specs.Levels.{setIn}
-use Rattle.checking.specs.declared.CheckVerdict.the-variants.{Model}
-use Rattle.results.specs.Results.{varTotal}
-use Rattle.checking.specs.Check.{checkAnswer, checkAssignment, checkLevels}
-use Rattle.checking.specs.Rows.{Offers, assumedNumber}
+use Rattle.answer_form.specs.Reading.{Spotted}
+use Rattle.answer_offers.specs.Offered.{valueBytes, valuesOf}
+use Rattle.level_stages.specs.Levels.{setIn}
+use Rattle.call_check.specs.declared.CheckVerdict.the-variants.{Model}
+use Rattle.call_results.specs.Results.{varTotal}
+use Rattle.call_check.specs.Check.{checkAnswer, checkAssignment, checkLevels}
+use Rattle.call_check.specs.Rows.{Offers, assumedNumber}
 
 pub record AcceptedAssignment (t : List ℕ) (P : Program) (bs : List Bool) : Type 0 where
   pub answer : List ℕ

@@ -13,7 +13,7 @@ use lib.IntN.{ℤ, pos, negsuc, natAbs}
 use lib.ListN.{length, set}
 use Rattle.text.specs.Decimal.{decimal}
 use Rattle.text.proofs.Decimals.{decimal-small, decimal-large}
-use Rattle.literals.specs.Signed.{isNegative}
+use Rattle.clause_literals.specs.Signed.{isNegative}
 use Rattle.digits.specs.Bytes.{literalText}
 use Rattle.digits.proofs.Lengths.{decimal-reaches}
 use Rattle.digits.proofs.Begins.{Begins, begins-none, begins-same, begins-byte}

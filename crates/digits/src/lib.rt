@@ -1,6 +1,6 @@
 // Decimal numbers and literals as bytes, written into a lent buffer.
-use literals::is_negative;
-use literals::magnitude;
+use clause_literals::is_negative;
+use clause_literals::magnitude;
 ghost use Prim.Native.Nat.{_+_, _%_, _^_, _≤_, _<_};
 ghost use mathlib.Core.Path.{_≡_};
 ghost use mathlib.Core.List.{[], _∷_, _++_};

@@ -8,8 +8,8 @@ use Rattle.program.specs.declared.Reading.{Reading}
 use Rattle.program.specs.declared.ReadVerdict.{ReadVerdict}
 use Rattle.program.specs.Verdict.{readOf}
 use Rattle.reader_laws.specs.Decoded.{decoded}
-use Rattle.tables.specs.declared.Totals.{Totals}
-use Rattle.tables.specs.Tables.{totalsOf}
+use Rattle.clause_tables.specs.declared.Totals.{Totals}
+use Rattle.clause_tables.specs.Tables.{totalsOf}
 use Rattle.exports.specs.declared.Reply.{Reply}
 use Rattle.exports.specs.Replies.{acceptedReply, refusedReply, totalsReply, ofReading, readReply}
 

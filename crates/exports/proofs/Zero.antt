@@ -12,24 +12,24 @@ use Rattle.program.specs.declared.ReadVerdict.the-variants.{Accepted, Refused a
 use Rattle.program.specs.Verdict.{readOf, textNumber}
 use Rattle.meaning.specs.Program.{Program}
 use Rattle.reader_laws.specs.Decoded.{decoded}
-use Rattle.lines.specs.declared.LineRefusal.{LineRefusal}
-use Rattle.lines.specs.declared.LineRefusal.the-variants.{Text, NoSuchClause, ShortBuffer}
-use Rattle.lines.specs.declared.LineVerdict.{LineVerdict}
-use Rattle.lines.specs.declared.LineVerdict.the-variants.{Written, Refused as LineRefused}
-use Rattle.lines.specs.declared.RunVerdict.{RunVerdict}
-use Rattle.lines.specs.declared.RunVerdict.the-variants.{WrittenRun, RefusedRun}
-use Rattle.lines.specs.Lines.{lineNumber, lineAnswer, runAnswer}
-use Rattle.checking.specs.declared.CheckRefusal.{CheckRefusal}
-use Rattle.checking.specs.declared.CheckRefusal.the-variants.{Text as CheckText, ShortBuffer as CheckShort, OverlongAnswer, MalformedAnswer, NoModelOffered, StrayVariable, RepeatedVariable, FalseClause}
-use Rattle.checking.specs.declared.CheckVerdict.{CheckVerdict}
-use Rattle.checking.specs.declared.CheckVerdict.the-variants.{Model, Refused as CheckRefused}
-use Rattle.checking.specs.Check.{checkNumber, checkAnswer}
-use Rattle.checking.specs.Rows.{Accepts}
-use Rattle.filling_out.specs.declared.FillRefusal.{FillRefusal}
-use Rattle.filling_out.specs.declared.FillRefusal.the-variants.{Text as FillText, ShortBuffer as FillShort, BadSet, Unfounded}
-use Rattle.filling_out.specs.declared.FillVerdict.{FillVerdict}
-use Rattle.filling_out.specs.declared.FillVerdict.the-variants.{Filled, Refused as FillRefused}
-use Rattle.filling_out.specs.FillOut.{fillNumber, fillAnswer}
+use Rattle.call_lines.specs.declared.LineRefusal.{LineRefusal}
+use Rattle.call_lines.specs.declared.LineRefusal.the-variants.{Text, NoSuchClause, ShortBuffer}
+use Rattle.call_lines.specs.declared.LineVerdict.{LineVerdict}
+use Rattle.call_lines.specs.declared.LineVerdict.the-variants.{Written, Refused as LineRefused}
+use Rattle.call_lines.specs.declared.RunVerdict.{RunVerdict}
+use Rattle.call_lines.specs.declared.RunVerdict.the-variants.{WrittenRun, RefusedRun}
+use Rattle.call_lines.specs.Lines.{lineNumber, lineAnswer, runAnswer}
+use Rattle.call_check.specs.declared.CheckRefusal.{CheckRefusal}
+use Rattle.call_check.specs.declared.CheckRefusal.the-variants.{Text as CheckText, ShortBuffer as CheckShort, OverlongAnswer, MalformedAnswer, NoModelOffered, StrayVariable, RepeatedVariable, FalseClause}
+use Rattle.call_check.specs.declared.CheckVerdict.{CheckVerdict}
+use Rattle.call_check.specs.declared.CheckVerdict.the-variants.{Model, Refused as CheckRefused}
+use Rattle.call_check.specs.Check.{checkNumber, checkAnswer}
+use Rattle.call_check.specs.Rows.{Accepts}
+use Rattle.call_fill.specs.declared.FillRefusal.{FillRefusal}
+use Rattle.call_fill.specs.declared.FillRefusal.the-variants.{Text as FillText, ShortBuffer as FillShort, BadSet, Unfounded}
+use Rattle.call_fill.specs.declared.FillVerdict.{FillVerdict}
+use Rattle.call_fill.specs.declared.FillVerdict.the-variants.{Filled, Refused as FillRefused}
+use Rattle.call_fill.specs.FillOut.{fillNumber, fillAnswer}
 use Rattle.exports.specs.Replies.{ofReading, ofLine, ofRun, ofCheck, ofFill, readReply, lineReply, runReply, checkReply, fillReply}
 
 -- ---- no row has the number 0

@@ -17,19 +17,19 @@ use Rattle.program.specs.declared.ReadVerdict.{ReadVerdict}
 use Rattle.program.specs.declared.ReadVerdict.the-variants.{Accepted, Refused as TextRefused}
 use Rattle.program.specs.Verdict.{readOf, textNumber, textSpot}
 use Rattle.reader_laws.specs.Decoded.{decoded}
-use Rattle.lines.specs.declared.LineVerdict.{LineVerdict}
-use Rattle.lines.specs.declared.LineVerdict.the-variants.{Written, Refused as LineRefused}
-use Rattle.lines.specs.declared.RunVerdict.{RunVerdict}
-use Rattle.lines.specs.declared.RunVerdict.the-variants.{WrittenRun, RefusedRun}
-use Rattle.runs.specs.Lines.{clauseTotal}
-use Rattle.lines.specs.Lines.{lineNumber, lineSpot, lineAnswer, runAnswer}
-use Rattle.results.specs.Results.{varTotal}
-use Rattle.checking.specs.declared.CheckVerdict.{CheckVerdict}
-use Rattle.checking.specs.declared.CheckVerdict.the-variants.{Model, Refused as CheckRefused}
-use Rattle.checking.specs.Check.{checkNumber, checkSpot, checkAnswer}
-use Rattle.filling_out.specs.declared.FillVerdict.{FillVerdict}
-use Rattle.filling_out.specs.declared.FillVerdict.the-variants.{Filled, Refused as FillRefused}
-use Rattle.filling_out.specs.FillOut.{fillNumber, fillSpot, fillAnswer}
+use Rattle.call_lines.specs.declared.LineVerdict.{LineVerdict}
+use Rattle.call_lines.specs.declared.LineVerdict.the-variants.{Written, Refused as LineRefused}
+use Rattle.call_lines.specs.declared.RunVerdict.{RunVerdict}
+use Rattle.call_lines.specs.declared.RunVerdict.the-variants.{WrittenRun, RefusedRun}
+use Rattle.clause_runs.specs.Lines.{clauseTotal}
+use Rattle.call_lines.specs.Lines.{lineNumber, lineSpot, lineAnswer, runAnswer}
+use Rattle.call_results.specs.Results.{varTotal}
+use Rattle.call_check.specs.declared.CheckVerdict.{CheckVerdict}
+use Rattle.call_check.specs.declared.CheckVerdict.the-variants.{Model, Refused as CheckRefused}
+use Rattle.call_check.specs.Check.{checkNumber, checkSpot, checkAnswer}
+use Rattle.call_fill.specs.declared.FillVerdict.{FillVerdict}
+use Rattle.call_fill.specs.declared.FillVerdict.the-variants.{Filled, Refused as FillRefused}
+use Rattle.call_fill.specs.FillOut.{fillNumber, fillSpot, fillAnswer}
 use Rattle.exports.specs.declared.Reply.{Reply}
 
 abbrev pub acceptedReply : ℕ → ℕ → ℕ → Reply

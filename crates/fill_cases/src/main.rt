@@ -4,6 +4,10 @@
 // `ok TRUE HIGHEST ASSIGNMENT LEVELS` or `refused NUMBER SPOT ASSIGNMENT LEVELS`, the two buffers as they are after the call, whole.
 // The four are fields as crate `cases` decodes them. A line that is not of this form prints `bad case`, and so does a text or a set of more than
 // 70,000 bytes, an assignment of more than 65,536 or levels of more than 4,096.
+use call_fill::FillVerdict;
+use call_fill::fill_number_of;
+use call_fill::fill_out;
+use call_fill::fill_spot_of;
 use cases::decode_four;
 use cases::line_end;
 use cases::print_accepted;
@@ -11,10 +15,6 @@ use cases::print_bad_case;
 use cases::print_buffers;
 use cases::print_refused;
 use cases::read_argument;
-use filling_out::FillVerdict;
-use filling_out::fill_number_of;
-use filling_out::fill_out;
-use filling_out::fill_spot_of;
 
 // Prints what filling out answers.
 fn say_verdict(v: FillVerdict) {

@@ -9,6 +9,13 @@
 // below 2^64. A line that is not of this form prints `bad case`, and so does a text of more than 70,000 bytes or a buffer of more than 65,536.
 mod sum;
 
+use call_lines::LineRefusal;
+use call_lines::LineVerdict;
+use call_lines::RunVerdict;
+use call_lines::line;
+use call_lines::line_number_of;
+use call_lines::line_spot_of;
+use call_lines::run;
 use cases::argument_ends;
 use cases::decode_field;
 use cases::field_count;
@@ -22,13 +29,6 @@ use cases::print_line_end;
 use cases::print_number;
 use cases::print_refused;
 use cases::read_argument;
-use lines::LineRefusal;
-use lines::LineVerdict;
-use lines::RunVerdict;
-use lines::line;
-use lines::line_number_of;
-use lines::line_spot_of;
-use lines::run;
 use std::num::wrapping_add_usize;
 use sum::EMPTY_SUM;
 use sum::with_bytes;

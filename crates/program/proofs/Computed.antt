@@ -5,11 +5,11 @@ use Prim.Native.String.{String}
 use mathlib.Core.Path.{_≡_, refl}
 use mathlib.Core.List.{List, [], _∷_, map}
 use Rattle.lists.specs.Ascii.{ascii}
-use Rattle.form.specs.Automaton.{formAt, digitTest, literalOf, leaveOf, digitOf, itemOf, actAt, stepOf}
+use Rattle.reader_form.specs.Automaton.{formAt, digitTest, literalOf, leaveOf, digitOf, itemOf, actAt, stepOf}
 use Rattle.program.specs.declared.ReadVerdict.{ReadVerdict}
 use Rattle.program.specs.declared.ReadVerdict.the-variants.{Accepted, Refused}
-use Rattle.reading.specs.Work as Work
-use Rattle.reading.specs.Reading.{ended, readFrom}
+use Rattle.reader_work.specs.Work as Work
+use Rattle.reader_work.specs.Reading.{ended, readFrom}
 use Rattle.program.specs.Verdict.{textNumber, textSpot, refusalOf, refuseOf, finished, readOf}
 
 -- number and spot of a refusal

@@ -9,15 +9,15 @@ use lib.Dec.{eqb}
 use lib.ListN.{length, getD, drop, drop-of-length-le}
 use lib.Seq.{drop-cons}
 use borrow.Author.Tests.{eq-eqb, ne-eqb}
-use Rattle.form.specs.declared.Place.{Place}
-use Rattle.form.specs.Automaton.{stepOf}
-use Rattle.reading.specs.declared.Counts.{Counts}
-use Rattle.reading.specs.Work.{refusedOf, valueOf, beginOf, workOf, workHeads, workStarts, workBodies}
+use Rattle.reader_form.specs.declared.Place.{Place}
+use Rattle.reader_form.specs.Automaton.{stepOf}
+use Rattle.reader_work.specs.declared.Counts.{Counts}
+use Rattle.reader_work.specs.Work.{refusedOf, valueOf, beginOf, workOf, workHeads, workStarts, workBodies}
 use Rattle.program.specs.declared.TextRefusal.{TextRefusal}
 use Rattle.program.specs.declared.ReadVerdict.the-variants.{Accepted}
 use Rattle.program.specs.declared.Reading.{Reading}
 use Rattle.program.specs.Verdict.{refusalOf, refuseOf, finished}
-use Rattle.reading.specs.Reading.{State, advance, deadAt, malformed, ended, readFrom, Ends}
+use Rattle.reader_work.specs.Reading.{State, advance, deadAt, malformed, ended, readFrom, Ends}
 
 pub ends-of : (c : Counts) (h st b : List ℕ) (s w : State) → s ≡ w → Ends c h st b s → Ends c h st b w
 ends-of c h st b s w e x = subst (λ (w : State). Ends c h st b w) e x

@@ -12,7 +12,7 @@ use Rattle.program.specs.declared.TextRefusal.{TextRefusal}
 use Rattle.program.specs.declared.TextRefusal.the-variants.{Overlong, Malformed, TooManyAtoms, UnknownAtom, Unordered, TooManyRules, BodiesFull}
 use Rattle.program.specs.declared.ReadVerdict.the-variants.{Accepted, Refused}
 use Rattle.program.specs.declared.Reading.{Reading}
-use Rattle.reading.specs.Reading.{State, started, readFrom}
+use Rattle.reader_work.specs.Reading.{State, started, readFrom}
 
 abbrev pub textNumber : TextRefusal → ℕ
 textNumber (Overlong spot) = 1

@@ -1,20 +1,20 @@
 // A program in flat arrays, and the reader of program text.
-use form::step;
 use numbers::Atom;
 use numbers::Rule;
 use numbers::wide;
-use pieces::Stand;
-use pieces::lines;
-use reading::Counts;
-use reading::begin_after;
-use reading::refused;
-use reading::value_after;
-use reading::work;
+use reader_fast::Stand;
+use reader_fast::lines;
+use reader_form::step;
+use reader_work::Counts;
+use reader_work::begin_after;
+use reader_work::refused;
+use reader_work::value_after;
+use reader_work::work;
 ghost use Prim.Native.Nat.{_-_, _≤_, _<_};
 ghost use mathlib.Core.Path.{_≡_};
 ghost use lib.ListN.{length, getD};
-ghost use Rattle.reading.specs.Reading.{Ends, readFrom, started};
-ghost use Rattle.pieces.specs.Standing.{readOn};
+ghost use Rattle.reader_work.specs.Reading.{Ends, readFrom, started};
+ghost use Rattle.reader_fast.specs.Standing.{readOn};
 ghost use Rattle.program.specs.Verdict.{refusalOf, emptyProgram, refuseOf, readOf, textNumber, textSpot};
 
 // A program: n atoms, its rules in text order, and the body atoms of all rules, those of rule r (from 0) at starts[2r] to starts[2r + 1]

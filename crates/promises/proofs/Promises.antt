@@ -51,36 +51,36 @@ use Rattle.theory.proofs.LevelNumberings.{stable-level-numbering, level-numberi
 use Rattle.theory.proofs.Whole.{reduct-whole, clauses-whole, variables-whole, fill-whole}
 use Rattle.theory.proofs.Base as Base
 use Rattle.theory.proofs.Widths.{width-some}
-use Rattle.walk.specs.Walk.{walked}
-use Rattle.walk.proofs.Walked.{walked-clauses}
+use Rattle.clause_walk.specs.Walk.{walked}
+use Rattle.clause_walk.proofs.Walked.{walked-clauses}
 use Rattle.reader_laws.specs.Decoded.{decoded}
 use Rattle.reader_laws.proofs.Decode.{decoded-kept}
-use Rattle.literals.proofs.literal.Statement.{statement as literal·statement}
-use Rattle.literals.proofs.literal.Met.{met as literal·met}
-use Rattle.literals.proofs.negated.Statement.{statement as negated·statement}
-use Rattle.literals.proofs.negated.Met.{met as negated·met}
-use Rattle.literals.proofs.negate.Statement.{statement as negate·statement}
-use Rattle.literals.proofs.negate.Met.{met as negate·met}
-use Rattle.literals.proofs.is_negative.Statement.{statement as is-negative·statement}
-use Rattle.literals.proofs.is_negative.Met.{met as is-negative·met}
-use Rattle.literals.proofs.magnitude.Statement.{statement as magnitude·statement}
-use Rattle.literals.proofs.magnitude.Met.{met as magnitude·met}
-use Rattle.literals.proofs.width_of.Statement.{statement as width-of·statement}
-use Rattle.literals.proofs.width_of.Met.{met as width-of·met}
-use Rattle.literals.proofs.body_var.Statement.{statement as body-var·statement}
-use Rattle.literals.proofs.body_var.Met.{met as body-var·met}
-use Rattle.literals.proofs.founds_var.Statement.{statement as founds-var·statement}
-use Rattle.literals.proofs.founds_var.Met.{met as founds-var·met}
-use Rattle.literals.proofs.level_var.Statement.{statement as level-var·statement}
-use Rattle.literals.proofs.level_var.Met.{met as level-var·met}
-use Rattle.literals.proofs.next_var.Statement.{statement as next-var·statement}
-use Rattle.literals.proofs.next_var.Met.{met as next-var·met}
-use Rattle.literals.proofs.below_var.Statement.{statement as below-var·statement}
-use Rattle.literals.proofs.below_var.Met.{met as below-var·met}
-use Rattle.literals.proofs.next_below_var.Statement.{statement as next-below-var·statement}
-use Rattle.literals.proofs.next_below_var.Met.{met as next-below-var·met}
-use Rattle.literals.proofs.var_count.Statement.{statement as var-count·statement}
-use Rattle.literals.proofs.var_count.Met.{met as var-count·met}
+use Rattle.clause_literals.proofs.literal.Statement.{statement as literal·statement}
+use Rattle.clause_literals.proofs.literal.Met.{met as literal·met}
+use Rattle.clause_literals.proofs.negated.Statement.{statement as negated·statement}
+use Rattle.clause_literals.proofs.negated.Met.{met as negated·met}
+use Rattle.clause_literals.proofs.negate.Statement.{statement as negate·statement}
+use Rattle.clause_literals.proofs.negate.Met.{met as negate·met}
+use Rattle.clause_literals.proofs.is_negative.Statement.{statement as is-negative·statement}
+use Rattle.clause_literals.proofs.is_negative.Met.{met as is-negative·met}
+use Rattle.clause_literals.proofs.magnitude.Statement.{statement as magnitude·statement}
+use Rattle.clause_literals.proofs.magnitude.Met.{met as magnitude·met}
+use Rattle.clause_literals.proofs.width_of.Statement.{statement as width-of·statement}
+use Rattle.clause_literals.proofs.width_of.Met.{met as width-of·met}
+use Rattle.clause_literals.proofs.body_var.Statement.{statement as body-var·statement}
+use Rattle.clause_literals.proofs.body_var.Met.{met as body-var·met}
+use Rattle.clause_literals.proofs.founds_var.Statement.{statement as founds-var·statement}
+use Rattle.clause_literals.proofs.founds_var.Met.{met as founds-var·met}
+use Rattle.clause_literals.proofs.level_var.Statement.{statement as level-var·statement}
+use Rattle.clause_literals.proofs.level_var.Met.{met as level-var·met}
+use Rattle.clause_literals.proofs.next_var.Statement.{statement as next-var·statement}
+use Rattle.clause_literals.proofs.next_var.Met.{met as next-var·met}
+use Rattle.clause_literals.proofs.below_var.Statement.{statement as below-var·statement}
+use Rattle.clause_literals.proofs.below_var.Met.{met as below-var·met}
+use Rattle.clause_literals.proofs.next_below_var.Statement.{statement as next-below-var·statement}
+use Rattle.clause_literals.proofs.next_below_var.Met.{met as next-below-var·met}
+use Rattle.clause_literals.proofs.var_count.Statement.{statement as var-count·statement}
+use Rattle.clause_literals.proofs.var_count.Met.{met as var-count·met}
 use Rattle.digits.proofs.put_decimal.Statement.{statement as put-decimal·statement}
 use Rattle.digits.proofs.put_decimal.Met.{met as put-decimal·met}
 use Rattle.digits.proofs.put_number.Statement.{statement as put-number·statement}
@@ -91,94 +91,94 @@ use Rattle.digits.proofs.decimal_length.Statement.{statement as decimal-length�
 use Rattle.digits.proofs.decimal_length.Met.{met as decimal-length·met}
 use Rattle.digits.proofs.literal_length.Statement.{statement as literal-length·statement}
 use Rattle.digits.proofs.literal_length.Met.{met as literal-length·met}
-use Rattle.slots.proofs.body_slot.Statement.{statement as body-slot·statement}
-use Rattle.slots.proofs.body_slot.Met.{met as body-slot·met}
-use Rattle.slots.proofs.zero_slot.Statement.{statement as zero-slot·statement}
-use Rattle.slots.proofs.zero_slot.Met.{met as zero-slot·met}
-use Rattle.slots.proofs.next_slot.Statement.{statement as next-slot·statement}
-use Rattle.slots.proofs.next_slot.Met.{met as next-slot·met}
-use Rattle.slots.proofs.pair_slot.Statement.{statement as pair-slot·statement}
-use Rattle.slots.proofs.pair_slot.Met.{met as pair-slot·met}
-use Rattle.slots.proofs.rule_slot.Statement.{statement as rule-slot·statement}
-use Rattle.slots.proofs.rule_slot.Met.{met as rule-slot·met}
-use Rattle.slots.proofs.implied_slot.Statement.{statement as implied-slot·statement}
-use Rattle.slots.proofs.implied_slot.Met.{met as implied-slot·met}
-use Rattle.slots.proofs.head_slot.Statement.{statement as head-slot·statement}
-use Rattle.slots.proofs.head_slot.Met.{met as head-slot·met}
-use Rattle.slots.proofs.body_slots.Statement.{statement as body-slots·statement}
-use Rattle.slots.proofs.body_slots.Met.{met as body-slots·met}
-use Rattle.slots.proofs.next_slots.Statement.{statement as next-slots·statement}
-use Rattle.slots.proofs.next_slots.Met.{met as next-slots·met}
-use Rattle.slots.proofs.chain_bit.Statement.{statement as chain-bit·statement}
-use Rattle.slots.proofs.chain_bit.Met.{met as chain-bit·met}
-use Rattle.slots.proofs.chain_size.Statement.{statement as chain-size·statement}
-use Rattle.slots.proofs.chain_size.Met.{met as chain-size·met}
-use Rattle.slots.proofs.chain_slots.Statement.{statement as chain-slots·statement}
-use Rattle.slots.proofs.chain_slots.Met.{met as chain-slots·met}
-use Rattle.slots.proofs.rule_size.Statement.{statement as rule-size·statement}
-use Rattle.slots.proofs.rule_size.Met.{met as rule-size·met}
-use Rattle.slots.proofs.rule_slots.Statement.{statement as rule-slots·statement}
-use Rattle.slots.proofs.rule_slots.Met.{met as rule-slots·met}
-use Rattle.tabling.proofs.pairs_of.Statement.{statement as pairs-of·statement}
-use Rattle.tabling.proofs.pairs_of.Met.{met as pairs-of·met}
-use Rattle.tabling.proofs.totals_of.Statement.{statement as totals-of·statement}
-use Rattle.tabling.proofs.totals_of.Met.{met as totals-of·met}
-use Rattle.layout.proofs.items.Statement.{statement as layout-items·statement}
-use Rattle.layout.proofs.items.Met.{met as layout-items·met}
-use Rattle.layout.proofs.rows.Statement.{statement as layout-rows·statement}
-use Rattle.layout.proofs.rows.Met.{met as layout-rows·met}
-use Rattle.layout.proofs.size.Statement.{statement as layout-size·statement}
-use Rattle.layout.proofs.size.Met.{met as layout-size·met}
-use Rattle.layout.proofs.slots.Statement.{statement as layout-slots·statement}
-use Rattle.layout.proofs.slots.Met.{met as layout-slots·met}
-use Rattle.layout.proofs.slot.Statement.{statement as layout-slot·statement}
-use Rattle.layout.proofs.slot.Met.{met as layout-slot·met}
-use Rattle.printing.proofs.put_word.Statement.{statement as put-word·statement}
-use Rattle.printing.proofs.put_word.Met.{met as put-word·met}
-use Rattle.printing.proofs.put_refusal.Statement.{statement as put-refusal·statement}
-use Rattle.printing.proofs.put_refusal.Met.{met as put-refusal·met}
-use Rattle.printing.proofs.header_length.Statement.{statement as header-length·statement}
-use Rattle.printing.proofs.header_length.Met.{met as header-length·met}
-use Rattle.printing.proofs.put_header.Statement.{statement as put-header·statement}
-use Rattle.printing.proofs.put_header.Met.{met as put-header·met}
-use Rattle.printing.proofs.clause_length.Statement.{statement as clause-length·statement}
-use Rattle.printing.proofs.clause_length.Met.{met as clause-length·met}
-use Rattle.printing.proofs.put_clause.Statement.{statement as put-clause·statement}
-use Rattle.printing.proofs.put_clause.Met.{met as put-clause·met}
-use Rattle.slots.proofs.chain_of.Statement.{statement as chain-of·statement}
-use Rattle.slots.proofs.chain_of.Met.{met as chain-of·met}
-use Rattle.slots.proofs.chain_literal.Statement.{statement as chain-literal·statement}
-use Rattle.slots.proofs.chain_literal.Met.{met as chain-literal·met}
-use Rattle.layout.proofs.next_head.Statement.{statement as next-head·statement}
-use Rattle.layout.proofs.next_head.Met.{met as next-head·met}
-use Rattle.layout.proofs.past_empty.Statement.{statement as past-empty·statement}
-use Rattle.layout.proofs.past_empty.Met.{met as past-empty·met}
-use Rattle.layout.proofs.chain_at.Statement.{statement as chain-at·statement}
-use Rattle.layout.proofs.chain_at.Met.{met as chain-at·met}
-use Rattle.layout.proofs.literal_in.Statement.{statement as literal-in·statement}
-use Rattle.layout.proofs.literal_in.Met.{met as literal-in·met}
-use Rattle.places.proofs.start.Statement.{statement as places-start·statement}
-use Rattle.places.proofs.start.Met.{met as places-start·met}
-use Rattle.places.proofs.next.Statement.{statement as places-next·statement}
-use Rattle.places.proofs.next.Met.{met as places-next·met}
-use Rattle.runs.proofs.put_lines.Statement.{statement as put-lines·statement}
-use Rattle.runs.proofs.put_lines.Met.{met as put-lines·met}
-use Rattle.lines.proofs.line.Statement.{statement as line·statement}
-use Rattle.lines.proofs.line.Met.{met as line·met}
-use Rattle.lines.proofs.run.Statement.{statement as run·statement}
-use Rattle.lines.proofs.run.Met.{met as run·met}
-use Rattle.lines.proofs.line_number_of.Statement.{statement as line-number-of·statement}
-use Rattle.lines.proofs.line_number_of.Met.{met as line-number-of·met}
-use Rattle.lines.proofs.line_spot_of.Statement.{statement as line-spot-of·statement}
-use Rattle.lines.proofs.line_spot_of.Met.{met as line-spot-of·met}
-use Rattle.input.proofs.read_counted.Statement.{statement as read-counted·statement}
-use Rattle.input.proofs.read_counted.Met.{met as read-counted·met}
-use Rattle.printing.proofs.number_of.Statement.{statement as literal-number·statement}
-use Rattle.printing.proofs.number_of.Met.{met as literal-number·met}
-use Rattle.truth.proofs.clause_holds.Statement.{statement as clause-holds·statement}
-use Rattle.truth.proofs.clause_holds.Met.{met as clause-holds·met}
-use Rattle.truth.proofs.first_false.Statement.{statement as first-false·statement}
-use Rattle.truth.proofs.first_false.Met.{met as first-false·met}
+use Rattle.clause_slots.proofs.body_slot.Statement.{statement as body-slot·statement}
+use Rattle.clause_slots.proofs.body_slot.Met.{met as body-slot·met}
+use Rattle.clause_slots.proofs.zero_slot.Statement.{statement as zero-slot·statement}
+use Rattle.clause_slots.proofs.zero_slot.Met.{met as zero-slot·met}
+use Rattle.clause_slots.proofs.next_slot.Statement.{statement as next-slot·statement}
+use Rattle.clause_slots.proofs.next_slot.Met.{met as next-slot·met}
+use Rattle.clause_slots.proofs.pair_slot.Statement.{statement as pair-slot·statement}
+use Rattle.clause_slots.proofs.pair_slot.Met.{met as pair-slot·met}
+use Rattle.clause_slots.proofs.rule_slot.Statement.{statement as rule-slot·statement}
+use Rattle.clause_slots.proofs.rule_slot.Met.{met as rule-slot·met}
+use Rattle.clause_slots.proofs.implied_slot.Statement.{statement as implied-slot·statement}
+use Rattle.clause_slots.proofs.implied_slot.Met.{met as implied-slot·met}
+use Rattle.clause_slots.proofs.head_slot.Statement.{statement as head-slot·statement}
+use Rattle.clause_slots.proofs.head_slot.Met.{met as head-slot·met}
+use Rattle.clause_slots.proofs.body_slots.Statement.{statement as body-slots·statement}
+use Rattle.clause_slots.proofs.body_slots.Met.{met as body-slots·met}
+use Rattle.clause_slots.proofs.next_slots.Statement.{statement as next-slots·statement}
+use Rattle.clause_slots.proofs.next_slots.Met.{met as next-slots·met}
+use Rattle.clause_slots.proofs.chain_bit.Statement.{statement as chain-bit·statement}
+use Rattle.clause_slots.proofs.chain_bit.Met.{met as chain-bit·met}
+use Rattle.clause_slots.proofs.chain_size.Statement.{statement as chain-size·statement}
+use Rattle.clause_slots.proofs.chain_size.Met.{met as chain-size·met}
+use Rattle.clause_slots.proofs.chain_slots.Statement.{statement as chain-slots·statement}
+use Rattle.clause_slots.proofs.chain_slots.Met.{met as chain-slots·met}
+use Rattle.clause_slots.proofs.rule_size.Statement.{statement as rule-size·statement}
+use Rattle.clause_slots.proofs.rule_size.Met.{met as rule-size·met}
+use Rattle.clause_slots.proofs.rule_slots.Statement.{statement as rule-slots·statement}
+use Rattle.clause_slots.proofs.rule_slots.Met.{met as rule-slots·met}
+use Rattle.clause_tabling.proofs.pairs_of.Statement.{statement as pairs-of·statement}
+use Rattle.clause_tabling.proofs.pairs_of.Met.{met as pairs-of·met}
+use Rattle.clause_tabling.proofs.totals_of.Statement.{statement as totals-of·statement}
+use Rattle.clause_tabling.proofs.totals_of.Met.{met as totals-of·met}
+use Rattle.clause_layout.proofs.items.Statement.{statement as layout-items·statement}
+use Rattle.clause_layout.proofs.items.Met.{met as layout-items·met}
+use Rattle.clause_layout.proofs.rows.Statement.{statement as layout-rows·statement}
+use Rattle.clause_layout.proofs.rows.Met.{met as layout-rows·met}
+use Rattle.clause_layout.proofs.size.Statement.{statement as layout-size·statement}
+use Rattle.clause_layout.proofs.size.Met.{met as layout-size·met}
+use Rattle.clause_layout.proofs.slots.Statement.{statement as layout-slots·statement}
+use Rattle.clause_layout.proofs.slots.Met.{met as layout-slots·met}
+use Rattle.clause_layout.proofs.slot.Statement.{statement as layout-slot·statement}
+use Rattle.clause_layout.proofs.slot.Met.{met as layout-slot·met}
+use Rattle.clause_text.proofs.put_word.Statement.{statement as put-word·statement}
+use Rattle.clause_text.proofs.put_word.Met.{met as put-word·met}
+use Rattle.clause_text.proofs.put_refusal.Statement.{statement as put-refusal·statement}
+use Rattle.clause_text.proofs.put_refusal.Met.{met as put-refusal·met}
+use Rattle.clause_text.proofs.header_length.Statement.{statement as header-length·statement}
+use Rattle.clause_text.proofs.header_length.Met.{met as header-length·met}
+use Rattle.clause_text.proofs.put_header.Statement.{statement as put-header·statement}
+use Rattle.clause_text.proofs.put_header.Met.{met as put-header·met}
+use Rattle.clause_text.proofs.clause_length.Statement.{statement as clause-length·statement}
+use Rattle.clause_text.proofs.clause_length.Met.{met as clause-length·met}
+use Rattle.clause_text.proofs.put_clause.Statement.{statement as put-clause·statement}
+use Rattle.clause_text.proofs.put_clause.Met.{met as put-clause·met}
+use Rattle.clause_slots.proofs.chain_of.Statement.{statement as chain-of·statement}
+use Rattle.clause_slots.proofs.chain_of.Met.{met as chain-of·met}
+use Rattle.clause_slots.proofs.chain_literal.Statement.{statement as chain-literal·statement}
+use Rattle.clause_slots.proofs.chain_literal.Met.{met as chain-literal·met}
+use Rattle.clause_layout.proofs.next_head.Statement.{statement as next-head·statement}
+use Rattle.clause_layout.proofs.next_head.Met.{met as next-head·met}
+use Rattle.clause_layout.proofs.past_empty.Statement.{statement as past-empty·statement}
+use Rattle.clause_layout.proofs.past_empty.Met.{met as past-empty·met}
+use Rattle.clause_layout.proofs.chain_at.Statement.{statement as chain-at·statement}
+use Rattle.clause_layout.proofs.chain_at.Met.{met as chain-at·met}
+use Rattle.clause_layout.proofs.literal_in.Statement.{statement as literal-in·statement}
+use Rattle.clause_layout.proofs.literal_in.Met.{met as literal-in·met}
+use Rattle.clause_places.proofs.start.Statement.{statement as places-start·statement}
+use Rattle.clause_places.proofs.start.Met.{met as places-start·met}
+use Rattle.clause_places.proofs.next.Statement.{statement as places-next·statement}
+use Rattle.clause_places.proofs.next.Met.{met as places-next·met}
+use Rattle.clause_runs.proofs.put_lines.Statement.{statement as put-lines·statement}
+use Rattle.clause_runs.proofs.put_lines.Met.{met as put-lines·met}
+use Rattle.call_lines.proofs.line.Statement.{statement as line·statement}
+use Rattle.call_lines.proofs.line.Met.{met as line·met}
+use Rattle.call_lines.proofs.run.Statement.{statement as run·statement}
+use Rattle.call_lines.proofs.run.Met.{met as run·met}
+use Rattle.call_lines.proofs.line_number_of.Statement.{statement as line-number-of·statement}
+use Rattle.call_lines.proofs.line_number_of.Met.{met as line-number-of·met}
+use Rattle.call_lines.proofs.line_spot_of.Statement.{statement as line-spot-of·statement}
+use Rattle.call_lines.proofs.line_spot_of.Met.{met as line-spot-of·met}
+use Rattle.reader_counted.proofs.read_counted.Statement.{statement as read-counted·statement}
+use Rattle.reader_counted.proofs.read_counted.Met.{met as read-counted·met}
+use Rattle.clause_text.proofs.number_of.Statement.{statement as literal-number·statement}
+use Rattle.clause_text.proofs.number_of.Met.{met as literal-number·met}
+use Rattle.truth_clauses.proofs.clause_holds.Statement.{statement as clause-holds·statement}
+use Rattle.truth_clauses.proofs.clause_holds.Met.{met as clause-holds·met}
+use Rattle.truth_clauses.proofs.first_false.Statement.{statement as first-false·statement}
+use Rattle.truth_clauses.proofs.first_false.Met.{met as first-false·met}
 use Rattle.answer_reader.proofs.status.Statement.{statement as answer-status·statement}
 use Rattle.answer_reader.proofs.status.Met.{met as answer-status·met}
 use Rattle.answer_reader.proofs.next_literal.Statement.{statement as answer-next-literal·statement}
@@ -195,37 +195,37 @@ use Rattle.answer_reader.proofs.closed_form.Statement.{statement as answer-clos
 use Rattle.answer_reader.proofs.closed_form.Met.{met as answer-closed-form·met}
 use Rattle.answer_reader.specs.declared.Formed.the-variants.{Model, NoModel, Malformed as LeftForm}
 use Rattle.answer_reader.specs.Results.{formOf}
-use Rattle.answers.specs.Reading.{IsModel as IsModelText}
+use Rattle.answer_form.specs.Reading.{IsModel as IsModelText}
 use Rattle.answer_reader.proofs.Promised.{form-malformed, malformed-form, form-model, model-form, form-none, none-form}
-use Rattle.assigning.proofs.fill.Statement.{statement as assigning-fill·statement}
-use Rattle.assigning.proofs.fill.Met.{met as assigning-fill·met}
-use Rattle.assigning.proofs.copy_completed.Statement.{statement as assigning-copy-completed·statement}
-use Rattle.assigning.proofs.copy_completed.Met.{met as assigning-copy-completed·met}
-use Rattle.assigning.proofs.read_form.Statement.{statement as assigning-read-form·statement}
-use Rattle.assigning.proofs.read_form.Met.{met as assigning-read-form·met}
-use Rattle.assigning.specs.Assign.{Outcome, literalsFrom, literalAt, variableAt, Unnamed, unnamedCount, assignedOf, assignedBytes, unsetCount, completed, filledWith}
-use Rattle.assigning.specs.Assign as Assign
-use Rattle.assigning.specs.Rows.{AllFit, StrayAt, RepeatedAt}
-use Rattle.assigning.proofs.Rows.{literals-named, assigned-stray, stray-assigned, assigned-repeated, repeated-assigned, assigned-done, done-assigned, named-value, unnamed-value, unset-unnamed}
-use Rattle.answers.specs.Answer.{Answer, proper, answerText, OfStatus}
-use Rattle.answers.specs.Answer as Answers
-use Rattle.answers.proofs.Spot as AnswerSpot
-use Rattle.answers.proofs.Unique.{answer-unique}
+use Rattle.answer_values.proofs.fill.Statement.{statement as assigning-fill·statement}
+use Rattle.answer_values.proofs.fill.Met.{met as assigning-fill·met}
+use Rattle.answer_values.proofs.copy_completed.Statement.{statement as assigning-copy-completed·statement}
+use Rattle.answer_values.proofs.copy_completed.Met.{met as assigning-copy-completed·met}
+use Rattle.answer_values.proofs.read_form.Statement.{statement as assigning-read-form·statement}
+use Rattle.answer_values.proofs.read_form.Met.{met as assigning-read-form·met}
+use Rattle.answer_values.specs.Assign.{Outcome, literalsFrom, literalAt, variableAt, Unnamed, unnamedCount, assignedOf, assignedBytes, unsetCount, completed, filledWith}
+use Rattle.answer_values.specs.Assign as Assign
+use Rattle.answer_values.specs.Rows.{AllFit, StrayAt, RepeatedAt}
+use Rattle.answer_values.proofs.Rows.{literals-named, assigned-stray, stray-assigned, assigned-repeated, repeated-assigned, assigned-done, done-assigned, named-value, unnamed-value, unset-unnamed}
+use Rattle.answer_form.specs.Answer.{Answer, proper, answerText, OfStatus}
+use Rattle.answer_form.specs.Answer as Answers
+use Rattle.answer_form.proofs.Spot as AnswerSpot
+use Rattle.answer_form.proofs.Unique.{answer-unique}
 use Rattle.digits.specs.Bytes.{lineText}
-use Rattle.table_laws.proofs.Bounds.{variables-fit, clauses-fit}
-use Rattle.printing.specs.Lines.{headerText, refusedText}
-use Rattle.places.specs.Places.{placeAt, clauseIn}
-use Rattle.lines.specs.declared.LineRefusal.{LineRefusal}
-use Rattle.lines.specs.declared.LineVerdict.the-variants.{Written, Refused as LineRefused}
-use Rattle.lines.specs.declared.RunVerdict.the-variants.{WrittenRun, RefusedRun}
-use Rattle.runs.specs.Lines.{clauseTotal, lineOf}
-use Rattle.lines.specs.Lines.{lineAnswer, lineBytes, runAnswer, runBytes}
-use Rattle.lines.specs.Rows.{LineRow, FirstLineRow, LineAnswers, RunWritten}
-use Rattle.lines.proofs.File as File
-use Rattle.lines.proofs.Rows.{answers-line-first, first-line-answers, first-line-unique, written-none, none-written}
-use Rattle.lines.proofs.Calls.{line-stays, line-writes, run-refused-as, run-stays, run-writes}
-use Rattle.input.specs.Counted.{countedOf}
-use Rattle.input.proofs.Counted.{counted-whole}
+use Rattle.clause_table_laws.proofs.Bounds.{variables-fit, clauses-fit}
+use Rattle.clause_text.specs.Lines.{headerText, refusedText}
+use Rattle.clause_places.specs.Places.{placeAt, clauseIn}
+use Rattle.call_lines.specs.declared.LineRefusal.{LineRefusal}
+use Rattle.call_lines.specs.declared.LineVerdict.the-variants.{Written, Refused as LineRefused}
+use Rattle.call_lines.specs.declared.RunVerdict.the-variants.{WrittenRun, RefusedRun}
+use Rattle.clause_runs.specs.Lines.{clauseTotal, lineOf}
+use Rattle.call_lines.specs.Lines.{lineAnswer, lineBytes, runAnswer, runBytes}
+use Rattle.call_lines.specs.Rows.{LineRow, FirstLineRow, LineAnswers, RunWritten}
+use Rattle.call_lines.proofs.File as File
+use Rattle.call_lines.proofs.Rows.{answers-line-first, first-line-answers, first-line-unique, written-none, none-written}
+use Rattle.call_lines.proofs.Calls.{line-stays, line-writes, run-refused-as, run-stays, run-writes}
+use Rattle.reader_counted.specs.Counted.{countedOf}
+use Rattle.reader_counted.proofs.Counted.{counted-whole}
 use Rattle.text.specs.Text.{textOf, HasForm, Viable, Malformed}
 use Rattle.program.specs.declared.TextRefusal.{TextRefusal}
 use Rattle.program.specs.declared.ReadVerdict.the-variants.{Accepted, Refused}
@@ -250,94 +250,94 @@ use Rattle.program.proofs.head.Statement.{statement as head·statement}
 use Rattle.program.proofs.head.Met.{met as head·met}
 use Rattle.program.proofs.body_atom.Statement.{statement as body-atom·statement}
 use Rattle.program.proofs.body_atom.Met.{met as body-atom·met}
-use Rattle.form.proofs.step.Statement.{statement as step·statement}
-use Rattle.form.proofs.step.Met.{met as step·met}
-use Rattle.form.proofs.is_digit.Statement.{statement as is-digit·statement}
-use Rattle.form.proofs.is_digit.Met.{met as is-digit·met}
+use Rattle.reader_form.proofs.step.Statement.{statement as step·statement}
+use Rattle.reader_form.proofs.step.Met.{met as step·met}
+use Rattle.reader_form.proofs.is_digit.Statement.{statement as is-digit·statement}
+use Rattle.reader_form.proofs.is_digit.Met.{met as is-digit·met}
 use Rattle.numbers.proofs.wide.Statement.{statement as wide·statement}
 use Rattle.numbers.proofs.wide.Met.{met as wide·met}
-use Rattle.reading.proofs.put_head.Statement.{statement as put-head·statement}
-use Rattle.reading.proofs.put_head.Met.{met as put-head·met}
-use Rattle.reading.proofs.put_body.Statement.{statement as put-body·statement}
-use Rattle.reading.proofs.put_body.Met.{met as put-body·met}
-use Rattle.reading.proofs.refused.Statement.{statement as reading-refused·statement}
-use Rattle.reading.proofs.refused.Met.{met as reading-refused·met}
-use Rattle.reading.proofs.value_after.Statement.{statement as value-after·statement}
-use Rattle.reading.proofs.value_after.Met.{met as value-after·met}
-use Rattle.reading.proofs.begin_after.Statement.{statement as begin-after·statement}
-use Rattle.reading.proofs.begin_after.Met.{met as begin-after·met}
-use Rattle.reading.proofs.work.Statement.{statement as work·statement}
-use Rattle.reading.proofs.work.Met.{met as work·met}
-use Rattle.pieces.proofs.lines.Statement.{statement as pieces-lines·statement}
-use Rattle.pieces.proofs.lines.Met.{met as pieces-lines·met}
+use Rattle.reader_work.proofs.put_head.Statement.{statement as put-head·statement}
+use Rattle.reader_work.proofs.put_head.Met.{met as put-head·met}
+use Rattle.reader_work.proofs.put_body.Statement.{statement as put-body·statement}
+use Rattle.reader_work.proofs.put_body.Met.{met as put-body·met}
+use Rattle.reader_work.proofs.refused.Statement.{statement as reading-refused·statement}
+use Rattle.reader_work.proofs.refused.Met.{met as reading-refused·met}
+use Rattle.reader_work.proofs.value_after.Statement.{statement as value-after·statement}
+use Rattle.reader_work.proofs.value_after.Met.{met as value-after·met}
+use Rattle.reader_work.proofs.begin_after.Statement.{statement as begin-after·statement}
+use Rattle.reader_work.proofs.begin_after.Met.{met as begin-after·met}
+use Rattle.reader_work.proofs.work.Statement.{statement as work·statement}
+use Rattle.reader_work.proofs.work.Met.{met as work·met}
+use Rattle.reader_fast.proofs.lines.Statement.{statement as pieces-lines·statement}
+use Rattle.reader_fast.proofs.lines.Met.{met as pieces-lines·met}
 use Rattle.numbers.proofs.atom_var.Statement.{statement as atom-var·statement}
 use Rattle.numbers.proofs.atom_var.Met.{met as atom-var·met}
-use Rattle.stages.proofs.stage_levels.Statement.{statement as stage-levels·statement}
-use Rattle.stages.proofs.stage_levels.Met.{met as stage-levels·met}
-use Rattle.stages.proofs.first_difference.Statement.{statement as first-difference·statement}
-use Rattle.stages.proofs.first_difference.Met.{met as first-difference·met}
-use Rattle.stages.proofs.byte_of.Statement.{statement as byte-of·statement}
-use Rattle.stages.proofs.byte_of.Met.{met as byte-of·met}
-use Rattle.stages.proofs.negatives_out.Statement.{statement as negatives-out·statement}
-use Rattle.stages.proofs.negatives_out.Met.{met as negatives-out·met}
-use Rattle.stages.proofs.positives_in.Statement.{statement as positives-in·statement}
-use Rattle.stages.proofs.positives_in.Met.{met as positives-in·met}
-use Rattle.stages.proofs.positives_below.Statement.{statement as positives-below·statement}
-use Rattle.stages.proofs.positives_below.Met.{met as positives-below·met}
-use Rattle.filling.proofs.put_filled.Statement.{statement as put-filled·statement}
-use Rattle.filling.proofs.put_filled.Met.{met as put-filled·met}
-use Rattle.results.proofs.put_counters.Statement.{statement as put-counters·statement}
-use Rattle.results.proofs.put_counters.Met.{met as put-counters·met}
-use Rattle.results.proofs.true_count.Statement.{statement as true-count·statement}
-use Rattle.results.proofs.true_count.Met.{met as true-count·met}
-use Rattle.results.proofs.highest_of.Statement.{statement as highest-of·statement}
-use Rattle.results.proofs.highest_of.Met.{met as highest-of·met}
-use Rattle.checking.proofs.check.Statement.{statement as check·statement}
-use Rattle.checking.proofs.check.Met.{met as check·met}
-use Rattle.checking.proofs.check_read.Statement.{statement as check-read·statement}
-use Rattle.checking.proofs.check_read.Met.{met as check-read·met}
-use Rattle.checking.proofs.check_number_of.Statement.{statement as check-number-of·statement}
-use Rattle.checking.proofs.check_number_of.Met.{met as check-number-of·met}
-use Rattle.checking.proofs.check_spot_of.Statement.{statement as check-spot-of·statement}
-use Rattle.checking.proofs.check_spot_of.Met.{met as check-spot-of·met}
-use Rattle.filling_out.proofs.fill_out.Statement.{statement as fill-out·statement}
-use Rattle.filling_out.proofs.fill_out.Met.{met as fill-out·met}
-use Rattle.filling_out.proofs.fill_number_of.Statement.{statement as fill-number-of·statement}
-use Rattle.filling_out.proofs.fill_number_of.Met.{met as fill-number-of·met}
-use Rattle.filling_out.proofs.fill_spot_of.Statement.{statement as fill-spot-of·statement}
-use Rattle.filling_out.proofs.fill_spot_of.Met.{met as fill-spot-of·met}
-use Rattle.models.proofs.put_shown_model.Statement.{statement as put-shown-model·statement}
-use Rattle.models.proofs.put_shown_model.Met.{met as put-shown-model·met}
-use Rattle.showing.proofs.put_output.Statement.{statement as put-output·statement}
-use Rattle.showing.proofs.put_output.Met.{met as put-output·met}
-use Rattle.row_truth.proofs.holds.Statement.{statement as literal-holds·statement}
-use Rattle.row_truth.proofs.holds.Met.{met as literal-holds·met}
-use Rattle.row_truth.proofs.row_passes.Statement.{statement as row-passes·statement}
-use Rattle.row_truth.proofs.row_passes.Met.{met as row-passes·met}
-use Rattle.row_truth.proofs.value_of.Statement.{statement as truth-value-of·statement}
-use Rattle.row_truth.proofs.value_of.Met.{met as truth-value-of·met}
+use Rattle.level_stages.proofs.stage_levels.Statement.{statement as stage-levels·statement}
+use Rattle.level_stages.proofs.stage_levels.Met.{met as stage-levels·met}
+use Rattle.level_stages.proofs.first_difference.Statement.{statement as first-difference·statement}
+use Rattle.level_stages.proofs.first_difference.Met.{met as first-difference·met}
+use Rattle.level_stages.proofs.byte_of.Statement.{statement as byte-of·statement}
+use Rattle.level_stages.proofs.byte_of.Met.{met as byte-of·met}
+use Rattle.level_stages.proofs.negatives_out.Statement.{statement as negatives-out·statement}
+use Rattle.level_stages.proofs.negatives_out.Met.{met as negatives-out·met}
+use Rattle.level_stages.proofs.positives_in.Statement.{statement as positives-in·statement}
+use Rattle.level_stages.proofs.positives_in.Met.{met as positives-in·met}
+use Rattle.level_stages.proofs.positives_below.Statement.{statement as positives-below·statement}
+use Rattle.level_stages.proofs.positives_below.Met.{met as positives-below·met}
+use Rattle.level_fill.proofs.put_filled.Statement.{statement as put-filled·statement}
+use Rattle.level_fill.proofs.put_filled.Met.{met as put-filled·met}
+use Rattle.call_results.proofs.put_counters.Statement.{statement as put-counters·statement}
+use Rattle.call_results.proofs.put_counters.Met.{met as put-counters·met}
+use Rattle.call_results.proofs.true_count.Statement.{statement as true-count·statement}
+use Rattle.call_results.proofs.true_count.Met.{met as true-count·met}
+use Rattle.call_results.proofs.highest_of.Statement.{statement as highest-of·statement}
+use Rattle.call_results.proofs.highest_of.Met.{met as highest-of·met}
+use Rattle.call_check.proofs.check.Statement.{statement as check·statement}
+use Rattle.call_check.proofs.check.Met.{met as check·met}
+use Rattle.call_check.proofs.check_read.Statement.{statement as check-read·statement}
+use Rattle.call_check.proofs.check_read.Met.{met as check-read·met}
+use Rattle.call_check.proofs.check_number_of.Statement.{statement as check-number-of·statement}
+use Rattle.call_check.proofs.check_number_of.Met.{met as check-number-of·met}
+use Rattle.call_check.proofs.check_spot_of.Statement.{statement as check-spot-of·statement}
+use Rattle.call_check.proofs.check_spot_of.Met.{met as check-spot-of·met}
+use Rattle.call_fill.proofs.fill_out.Statement.{statement as fill-out·statement}
+use Rattle.call_fill.proofs.fill_out.Met.{met as fill-out·met}
+use Rattle.call_fill.proofs.fill_number_of.Statement.{statement as fill-number-of·statement}
+use Rattle.call_fill.proofs.fill_number_of.Met.{met as fill-number-of·met}
+use Rattle.call_fill.proofs.fill_spot_of.Statement.{statement as fill-spot-of·statement}
+use Rattle.call_fill.proofs.fill_spot_of.Met.{met as fill-spot-of·met}
+use Rattle.checker_model.proofs.put_shown_model.Statement.{statement as put-shown-model·statement}
+use Rattle.checker_model.proofs.put_shown_model.Met.{met as put-shown-model·met}
+use Rattle.checker_output.proofs.put_output.Statement.{statement as put-output·statement}
+use Rattle.checker_output.proofs.put_output.Met.{met as put-output·met}
+use Rattle.truth_blocks.proofs.holds.Statement.{statement as literal-holds·statement}
+use Rattle.truth_blocks.proofs.holds.Met.{met as literal-holds·met}
+use Rattle.truth_blocks.proofs.row_passes.Statement.{statement as row-passes·statement}
+use Rattle.truth_blocks.proofs.row_passes.Met.{met as row-passes·met}
+use Rattle.truth_blocks.proofs.value_of.Statement.{statement as truth-value-of·statement}
+use Rattle.truth_blocks.proofs.value_of.Met.{met as truth-value-of·met}
 use Rattle.program.specs.declared.Reading.{Reading}
-use Rattle.answers.specs.Reading.{Spotted}
+use Rattle.answer_form.specs.Reading.{Spotted}
 use Rattle.encoding.specs.Literal.{clauseTrue}
-use Rattle.lines.specs.Lines.{lineBytes}
-use Rattle.stages.specs.Levels.{setIn}
-use Rattle.results.specs.Results.{levelIn, varTotal}
-use Rattle.offering.specs.Offered.{valueBytes, valuesOf, Completes, offeredText}
-use Rattle.offering.proofs.Values.{values-complete, values-alone, values-unique}
-use Rattle.checking.specs.declared.CheckVerdict.the-variants.{Model as ShownModel}
-use Rattle.checking.specs.Check.{readResult, checkAnswer, checkAssignment, checkLevels}
-use Rattle.checking.specs.Rows.{Offers, clauseOf, CheckRow, FirstCheckRow, CheckAnswers, Accepts, Shows, ModelWritten}
-use Rattle.checking.proofs.Verdicts.{answers-check-first, first-check-answers, first-check-unique, model-none, none-model}
-use Rattle.checking.proofs.Buffers.{model-writes, assumed-rest, refused-zeroes, refused-keeps, refused-levels, never-15}
-use Rattle.showing.specs.Output.{outputText, checkerText, PrintsModel}
-use Rattle.showing.proofs.Shown.{answer-whole, output-whole}
-use Rattle.showing.proofs.Printed.{checker-refuses, checker-shows}
-use Rattle.filling_out.specs.declared.FillRefusal.{FillRefusal}
-use Rattle.filling_out.specs.declared.FillVerdict.the-variants.{Filled, Refused as FillRefused}
-use Rattle.filling_out.specs.FillOut.{fillAnswer, fillAssignment, fillLevels}
-use Rattle.filling_out.specs.Rows.{FillRow, FirstFillRow, FillAnswers, FillAccepts, Fills}
-use Rattle.filling_out.proofs.FirstRows.{fill-answers-first, first-fill-answers, first-fill-one, fill-accepts-none, none-fill-accepts}
-use Rattle.filling_out.proofs.Written.{fill-accepted, fill-kept}
+use Rattle.call_lines.specs.Lines.{lineBytes}
+use Rattle.level_stages.specs.Levels.{setIn}
+use Rattle.call_results.specs.Results.{levelIn, varTotal}
+use Rattle.answer_offers.specs.Offered.{valueBytes, valuesOf, Completes, offeredText}
+use Rattle.answer_offers.proofs.Values.{values-complete, values-alone, values-unique}
+use Rattle.call_check.specs.declared.CheckVerdict.the-variants.{Model as ShownModel}
+use Rattle.call_check.specs.Check.{readResult, checkAnswer, checkAssignment, checkLevels}
+use Rattle.call_check.specs.Rows.{Offers, clauseOf, CheckRow, FirstCheckRow, CheckAnswers, Accepts, Shows, ModelWritten}
+use Rattle.call_check.proofs.Verdicts.{answers-check-first, first-check-answers, first-check-unique, model-none, none-model}
+use Rattle.call_check.proofs.Buffers.{model-writes, assumed-rest, refused-zeroes, refused-keeps, refused-levels, never-15}
+use Rattle.checker_output.specs.Output.{outputText, checkerText, PrintsModel}
+use Rattle.checker_output.proofs.Shown.{answer-whole, output-whole}
+use Rattle.checker_output.proofs.Printed.{checker-refuses, checker-shows}
+use Rattle.call_fill.specs.declared.FillRefusal.{FillRefusal}
+use Rattle.call_fill.specs.declared.FillVerdict.the-variants.{Filled, Refused as FillRefused}
+use Rattle.call_fill.specs.FillOut.{fillAnswer, fillAssignment, fillLevels}
+use Rattle.call_fill.specs.Rows.{FillRow, FirstFillRow, FillAnswers, FillAccepts, Fills}
+use Rattle.call_fill.proofs.FirstRows.{fill-answers-first, first-fill-answers, first-fill-one, fill-accepts-none, none-fill-accepts}
+use Rattle.call_fill.proofs.Written.{fill-accepted, fill-kept}
 use Rattle.correspondence.specs.Accepted.{AcceptedAssignment, Room, CheckWrites, setBytes, SetOf}
 use Rattle.correspondence.proofs.Correspond.{accepted-stable, check-writes, fill-agrees, one-accepted, stable-accepted, stable-atoms, exhibited-fits, bytes-set}
 use Rattle.correspondence.proofs.Correspond as Correspond
@@ -347,22 +347,22 @@ use Rattle.digits.proofs.numeral_of.Statement.{statement as numeral-of·stateme
 use Rattle.digits.proofs.numeral_of.Met.{met as numeral-of·met}
 use Rattle.digits.proofs.put_numeral.Statement.{statement as put-numeral·statement}
 use Rattle.digits.proofs.put_numeral.Met.{met as put-numeral·met}
-use Rattle.printing.proofs.is_rowed.Statement.{statement as is-rowed·statement}
-use Rattle.printing.proofs.is_rowed.Met.{met as is-rowed·met}
-use Rattle.rows.proofs.put_row.Statement.{statement as put-row·statement}
-use Rattle.rows.proofs.put_row.Met.{met as put-row·met}
-use Rattle.finding.proofs.place_of.Statement.{statement as place-of·statement}
-use Rattle.finding.proofs.place_of.Met.{met as place-of·met}
-use Rattle.runs.proofs.line_length.Statement.{statement as line-length·statement}
-use Rattle.runs.proofs.line_length.Met.{met as line-length·met}
-use Rattle.runs.proofs.put_line.Statement.{statement as put-line·statement}
-use Rattle.runs.proofs.put_line.Met.{met as put-line·met}
-use Rattle.layout.proofs.entry.Statement.{statement as entry·statement}
-use Rattle.layout.proofs.entry.Met.{met as entry·met}
-use Rattle.places.proofs.further_row.Statement.{statement as further-row·statement}
-use Rattle.places.proofs.further_row.Met.{met as further-row·met}
-use Rattle.places.proofs.past_row.Statement.{statement as past-row·statement}
-use Rattle.places.proofs.past_row.Met.{met as past-row·met}
+use Rattle.clause_text.proofs.is_rowed.Statement.{statement as is-rowed·statement}
+use Rattle.clause_text.proofs.is_rowed.Met.{met as is-rowed·met}
+use Rattle.clause_blocks.proofs.put_row.Statement.{statement as put-row·statement}
+use Rattle.clause_blocks.proofs.put_row.Met.{met as put-row·met}
+use Rattle.clause_finding.proofs.place_of.Statement.{statement as place-of·statement}
+use Rattle.clause_finding.proofs.place_of.Met.{met as place-of·met}
+use Rattle.clause_runs.proofs.line_length.Statement.{statement as line-length·statement}
+use Rattle.clause_runs.proofs.line_length.Met.{met as line-length·met}
+use Rattle.clause_runs.proofs.put_line.Statement.{statement as put-line·statement}
+use Rattle.clause_runs.proofs.put_line.Met.{met as put-line·met}
+use Rattle.clause_layout.proofs.entry.Statement.{statement as entry·statement}
+use Rattle.clause_layout.proofs.entry.Met.{met as entry·met}
+use Rattle.clause_places.proofs.further_row.Statement.{statement as further-row·statement}
+use Rattle.clause_places.proofs.further_row.Met.{met as further-row·met}
+use Rattle.clause_places.proofs.past_row.Statement.{statement as past-row·statement}
+use Rattle.clause_places.proofs.past_row.Met.{met as past-row·met}
 use Rattle.files.proofs.rest_length.Statement.{statement as rest-length·statement}
 use Rattle.files.proofs.rest_length.Met.{met as rest-length·met}
 use Rattle.files.proofs.read_front.Statement.{statement as read-front·statement}

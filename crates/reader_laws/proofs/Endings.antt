@@ -14,8 +14,8 @@ use borrow.Author.Tests.{ltb-true, lt-ltb, eqb-true}
 use Rattle.lists.specs.Lists.{allTo}
 use Rattle.lists.proofs.Bools.{and-in, and-left, and-right, or-left, or-right}
 use Rattle.lists.proofs.Tests.{allTo-at}
-use Rattle.form.specs.declared.Place.{Place}
-use Rattle.form.specs.Automaton.{placed, formAt, digitTest, literalOf, leaveOf, digitOf, actAt, itemOf, stepOf}
+use Rattle.reader_form.specs.declared.Place.{Place}
+use Rattle.reader_form.specs.Automaton.{placed, formAt, digitTest, literalOf, leaveOf, digitOf, actAt, itemOf, stepOf}
 use Rattle.reader_laws.specs.Scan.{accepts, leaves, takesNumbers, live, endOf}
 
 -- the place after a byte: past the form, or live

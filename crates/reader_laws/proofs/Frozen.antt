@@ -7,7 +7,7 @@ use mathlib.Core.List.{List, [], _∷_}
 use lib.Dec.{ltb}
 use borrow.Author.Tests.{ne-eqb}
 use Rattle.meaning.specs.Program.{Rule, Program}
-use Rattle.reading.specs.Work.{workOf, workHeads, workStarts, workBodies}
+use Rattle.reader_work.specs.Work.{workOf, workHeads, workStarts, workBodies}
 use Rattle.reader_laws.specs.Judge.{Work, acts, moreRead, listRead, ruleRead, rulesRead, judged}
 
 -- a refusal is kept

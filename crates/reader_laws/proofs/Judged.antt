@@ -11,7 +11,7 @@ use lib.ListN.{length, replicate, length-append}
 use borrow.Author.Tests.{ltb-false, eqb-false}
 use Rattle.meaning.specs.Program.{Rule, Program}
 use Rattle.text.specs.Decimal.{decimal}
-use Rattle.reading.specs.Work.{workOf, workHeads, workStarts, workBodies, endedOf, endedHeads, endedBodies, atomsEnded}
+use Rattle.reader_work.specs.Work.{workOf, workHeads, workStarts, workBodies, endedOf, endedHeads, endedBodies, atomsEnded}
 use Rattle.reader_laws.specs.Judge.{Work, acts, numberRead, ruleEnd, ruleRead, rulesRead, judged, positiveSpot, negativeSpot}
 use Rattle.reader_laws.specs.Breach.{atomsRead, ruleOpened, headRead, listEvents, ruleEvents, rulesEvents, events, whenMet, Hit, hitsOf, hitsIn, hits, bodiesOf, endsOf}
 use Rattle.reader_laws.proofs.Frozen.{rules-frozen}

@@ -15,7 +15,7 @@ use Rattle.lists.proofs.Tests.{le-or-lt}
 use Rattle.meaning.specs.Program.{Rule}
 use Rattle.text.specs.Decimal.{decimal}
 use Rattle.text.specs.Text.{listText}
-use Rattle.reading.specs.Work.{workOf, workHeads, workStarts, workBodies, endedOf, endedHeads, endedBodies, headEnded, headStored, bodyEnded, bodyStored, openedOf, startStored, ruleShut, bracketOf, bracketStarts}
+use Rattle.reader_work.specs.Work.{workOf, workHeads, workStarts, workBodies, endedOf, endedHeads, endedBodies, headEnded, headStored, bodyEnded, bodyStored, openedOf, startStored, ruleShut, bracketOf, bracketStarts}
 use Rattle.reader_laws.specs.Judge.{Work, acts, cap, numberRead, moreRead, listRead, positiveSpot, negativeSpot, ruleRead}
 use Rattle.reader_laws.specs.Breach.{Event, ruleOpened, headRead, bodyRead, moreEvents, listEvents, ruleEvents, unknown, notAbove, whenMet, Hit, hitsOf, hitsIn, pad}
 use Rattle.reader_laws.proofs.Values.{cap-small, cap-large, ListAt, positive, negative}

@@ -17,7 +17,7 @@ use Rattle.program.specs.declared.TextRefusal.the-variants as Refusal
 use Rattle.program.specs.declared.ReadVerdict.{ReadVerdict}
 use Rattle.program.specs.declared.ReadVerdict.the-variants.{Accepted, Refused}
 use Rattle.program.specs.declared.Reading.{Reading}
-use Rattle.reading.specs.Reading.{State, readFrom}
+use Rattle.reader_work.specs.Reading.{State, readFrom}
 use Rattle.program.specs.Verdict.{textNumber, textSpot, refusalOf, refuseOf, finished, readOf}
 use Rattle.program.specs.Verdict as Verdict
 use Rattle.reader_laws.specs.Judge.{Work, judged}

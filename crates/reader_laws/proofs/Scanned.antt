@@ -10,9 +10,9 @@ use mathlib.Core.List.{List, [], _∷_}
 use lib.Dec.{eqb}
 use Rattle.lists.proofs.Bools.{So-or-not}
 use Rattle.text.specs.Text.{HasForm}
-use Rattle.form.specs.Automaton.{stepOf}
-use Rattle.reading.specs.declared.Counts.{Counts}
-use Rattle.reading.specs.Reading.{State, advance, malformed, ended, readFrom}
+use Rattle.reader_form.specs.Automaton.{stepOf}
+use Rattle.reader_work.specs.declared.Counts.{Counts}
+use Rattle.reader_work.specs.Reading.{State, advance, malformed, ended, readFrom}
 use Rattle.reader_laws.specs.Judge.{Work}
 use Rattle.reader_laws.specs.Scan.{accepts, leaves}
 use Rattle.reader_laws.proofs.Values.{stateOf, read-text}

@@ -14,8 +14,8 @@ use Rattle.meaning.specs.Program.{Rule}
 use Rattle.text.specs.Decimal.{decimal}
 use Rattle.text.specs.Text.{moreText, listText, ruleText, rulesText, textOf, HasForm}
 use Rattle.text.proofs.Decimals.{decimal-small, decimal-large}
-use Rattle.form.specs.declared.Place.{Place}
-use Rattle.form.specs.Automaton.{placed, formAt, digitTest, literalOf, leaveOf, digitOf, actAt, itemOf, stepOf}
+use Rattle.reader_form.specs.declared.Place.{Place}
+use Rattle.reader_form.specs.Automaton.{placed, formAt, digitTest, literalOf, leaveOf, digitOf, actAt, itemOf, stepOf}
 use Rattle.reader_laws.specs.Scan.{accepts}
 use Rattle.reader_laws.proofs.Values.{Item, atoms, head, Fresh, now, after, inNumber, in-number-pos, digit-step, first-digit, further-digit, ListAt, item-of, rule-then}
 

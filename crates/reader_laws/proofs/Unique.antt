@@ -14,7 +14,7 @@ use Rattle.meaning.specs.Program.{Rule, Program}
 use Rattle.text.specs.Decimal.{decimal}
 use Rattle.text.specs.Text.{moreText, listText, ruleText, rulesText, textOf}
 use Rattle.text.proofs.Decimals.{decimal-small, decimal-large, digits-ind}
-use Rattle.form.specs.Automaton.{digitTest}
+use Rattle.reader_form.specs.Automaton.{digitTest}
 use Rattle.reader_laws.proofs.Values.{rule-then}
 
 -- ---- leading digits

@@ -14,9 +14,9 @@ use Rattle.meaning.specs.Program.{Rule, Program}
 use Rattle.text.specs.Decimal.{decimal}
 use Rattle.text.specs.Text.{moreText, listText, ruleText, rulesText, textOf}
 use Rattle.text.proofs.Decimals.{decimal-small, decimal-large, digits-ind}
-use Rattle.form.specs.Automaton.{placed, formAt, digitTest, literalOf, leaveOf, digitOf, actAt, itemOf, stepOf}
-use Rattle.reading.specs.Work.{grownOf, valueOf, beginOf, workOf, workHeads, workStarts, workBodies}
-use Rattle.reading.specs.Reading.{State, ended, readFrom}
+use Rattle.reader_form.specs.Automaton.{placed, formAt, digitTest, literalOf, leaveOf, digitOf, actAt, itemOf, stepOf}
+use Rattle.reader_work.specs.Work.{grownOf, valueOf, beginOf, workOf, workHeads, workStarts, workBodies}
+use Rattle.reader_work.specs.Reading.{State, ended, readFrom}
 use Rattle.reader_laws.specs.Judge.{Work, acts, cap, numberRead, moreRead, listRead, positiveSpot, negativeSpot, ruleEnd, ruleRead, rulesRead, judged}
 
 abbrev pub stateOf : ℕ → ℕ → ℕ → ℕ → Work → State

@@ -12,8 +12,8 @@ use lib.ListN.{length}
 use Rattle.meaning.specs.Program.{Rule, Program}
 use Rattle.text.specs.Decimal.{decimal}
 use Rattle.text.specs.Text.{listText}
-use Rattle.reading.specs.declared.Counts.{Counts}
-use Rattle.reading.specs.Work.{workOf, workHeads, workStarts, workBodies}
+use Rattle.reader_work.specs.declared.Counts.{Counts}
+use Rattle.reader_work.specs.Work.{workOf, workHeads, workStarts, workBodies}
 
 pub record Work : Type 0 where
   pub counts : Counts

@@ -8,7 +8,7 @@ use Prim.Native.Nat.{ℕ, zero, suc, _+_}
 use mathlib.Core.Bool.{Bool, true, false, _&&_, _||_, cond}
 use mathlib.Core.List.{List, [], _∷_}
 use lib.Dec.{ltb, eqb}
-use Rattle.form.specs.Automaton.{formAt, stepOf}
+use Rattle.reader_form.specs.Automaton.{formAt, stepOf}
 
 unfoldable pub accepts : ℕ → ℕ → List ℕ → Bool
 accepts k m [] = eqb k 10 && eqb m 0

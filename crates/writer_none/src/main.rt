@@ -1,4 +1,4 @@
 // The writer on no bytes.
 fn main() {
-    writing::write_clauses();
+    writer_output::write_clauses();
 }

@@ -1,5 +1,5 @@
 use borrow.Author.Tests.{eq-eqb, ne-eqb}
-use Rattle.answers.specs.Automaton.{endStep}
+use Rattle.answer_form.specs.Automaton.{endStep}
 use Rattle.answer_reader.proofs.end_step.Statement.{statement}
 use Rattle.answer_reader.proofs.end_step.Tie as tie
 

@@ -1,5 +1,5 @@
 use borrow.Author.Tests.{eq-eqb, ne-eqb}
-use Rattle.answers.specs.Automaton.{seekStep}
+use Rattle.answer_form.specs.Automaton.{seekStep}
 use Rattle.answer_reader.proofs.seek_step.Statement.{statement}
 use Rattle.answer_reader.proofs.seek_step.Tie as tie
 

@@ -1,7 +1,7 @@
 use denote.Ref.{now}
 use native.Mathlib.Omega.{arith}
 use Rattle.answer_reader.proofs.StatusLine.{found-yes, found-no, found-unknown, found-left, spot-within}
-use Rattle.answers.specs.Answer.{satisfiableText, statusText}
+use Rattle.answer_form.specs.Answer.{satisfiableText, statusText}
 use Rattle.lists.specs.Ascii.{ascii}
 use borrow.Author.Needs.{needs}
 use Rattle.answer_reader.proofs.status.Statement.{statement}

@@ -2,8 +2,8 @@ use Prim.Native.Nat.{_-_}
 use mathlib.Core.Path.{_≡_, refl}
 use lib.ListN.{length, drop}
 use borrow.Author.Needs.{needs}
-use Rattle.pieces.specs.Standing.{readOn}
-use Rattle.reading.specs.Reading.{readFrom}
+use Rattle.reader_fast.specs.Standing.{readOn}
+use Rattle.reader_work.specs.Reading.{readFrom}
 use Rattle.program.proofs.Loop.{goes, dies, stops-place, stops-mode, stops, advanced, dead-of, live-of}
 use Rattle.program.proofs.finish.Statement.{statement}
 use Rattle.program.proofs.finish.Tie as tie

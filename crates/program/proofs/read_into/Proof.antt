@@ -1,4 +1,4 @@
-use Rattle.pieces.specs.Standing.{readOn}
+use Rattle.reader_fast.specs.Standing.{readOn}
 use Rattle.program.proofs.Loop.{ends-of}
 use borrow.Author.Needs.{needs}
 use Rattle.program.proofs.read_into.Statement.{statement}

@@ -1,0 +1,110 @@
+-- One literal, by its number.
+--   value-negative, value-positive      the value that a literal gives
+--   put-stray, put-repeated, put-done   what `put_value` answers, and the buffer it leaves
+--   capped-positive, capped-small       a capped literal's magnitude
+--   capped-outcome, capped-bytes        where n is at most 9890, a capped literal does what the literal does
+--   put-stops                           a literal that is stray or repeated leaves the buffer
+-- Assumes nothing.
+use Prim.Native.Nat.{ℕ, zero, suc, _-_, _^_, _≤_, _<_, min}
+use native.Mathlib.Omega.{arith}
+use mathlib.Core.Path.{_≡_, refl, sym, _∙_, ap, ap₂, subst}
+use mathlib.Core.Logic.{⊎-elim}
+use mathlib.Core.Bool.{Bool, true, false, cond}
+use mathlib.Core.List.{List}
+use lib.Dec.{eqb, ltb}
+use lib.IntN.{ℤ, pos, negℤ, natAbs}
+use lib.ListN.{getD, set}
+use borrow.Author.Tests.{eq-eqb, ne-eqb, lt-ltb, le-ltb}
+use Rattle.lists.proofs.Tests.{le-or-lt}
+use Rattle.encoding.specs.Literal.{Literal, variable}
+use Literal.{var, −_}
+use Rattle.clause_literals.specs.Signed.{isNegative}
+use Rattle.clause_literals.proofs.Signed.{abs-negated}
+use Rattle.answer_reader.specs.Results.{mostNumber, capped}
+use Rattle.answer_values.specs.declared.Assigned.the-variants.{Done, Stray, Repeated}
+use Rattle.answer_values.specs.Assign.{valueOf, Outcome, putOutcome, putBytes, numberValue, assignedFor}
+
+-- ---- by its number
+
+pub value-negative : (x y : ℤ) (d : Bool) → y ≡ x → d ≡ isNegative y → d ≡ true → 0 ≡ numberValue x
+value-negative x y d s e f = sym (ap (λ (k : Bool). cond k 0 1) (sym (ap isNegative s) ∙ sym e ∙ f))
+
+pub value-positive : (x y : ℤ) (d : Bool) → y ≡ x → d ≡ isNegative y → d ≡ false → 1 ≡ numberValue x
+value-positive x y d s e f = sym (ap (λ (k : Bool). cond k 0 1) (sym (ap isNegative s) ∙ sym e ∙ f))
+
+module _ (n v s x : ℕ) (b : List ℕ) where
+  -- k is the variable, as the code has it
+  module _ (k : ℕ) (same : k ≡ v) where
+    pub put-stray : n < k → (Stray s ≡ assignedFor (putOutcome n v s b)) × (b ≡ putBytes n v x b)
+    unfolding putOutcome putBytes
+    put-stray h =
+        let above = lt-ltb n v (subst (λ (j : ℕ). n < j) same h) in
+        (rw above, rw above)
+
+    pub put-repeated : k ≤ n → (getD b (k - 1) 0 ≡ 2 → ⊥) → (Repeated s ≡ assignedFor (putOutcome n v s b)) × (b ≡ putBytes n v x b)
+    unfolding putOutcome putBytes
+    put-repeated h e =
+        let below = le-ltb n v (subst (λ (j : ℕ). j ≤ n) same h) in
+        let other = ne-eqb (getD b (v - 1) 0) 2 (subst (λ (j : ℕ). getD b (j - 1) 0 ≡ 2 → ⊥) same e) in
+        (rw (below, other), rw (below, other))
+
+    pub put-done : k ≤ n → getD b (k - 1) 0 ≡ 2 → (y : ℕ) → y ≡ x → (Done ≡ assignedFor (putOutcome n v s b)) × (set b (k - 1) y ≡ putBytes n v x b)
+    unfolding putOutcome putBytes
+    put-done h e y g =
+        let below = le-ltb n v (subst (λ (j : ℕ). j ≤ n) same h) in
+        let here = eq-eqb (getD b (v - 1) 0) 2 (subst (λ (j : ℕ). getD b (j - 1) 0 ≡ 2) same e) in
+        (rw (below, here), ap₂ (λ (j z : ℕ). set b (j - 1) z) same g ∙ rw (below, here))
+
+  -- ---- a literal that is not assigned
+
+  pub put-stops : (putOutcome n v s b ≡ Outcome.done → ⊥) → putBytes n v x b ≡ b
+  unfolding putOutcome putBytes
+  put-stops h = go (ltb n v) (eqb (getD b (v - 1) 0) 2) h
+    where
+      go : (c d : Bool) → (cond c (Outcome.stray s) (cond d Outcome.done (Outcome.repeated s)) ≡ Outcome.done → ⊥) → cond c b (cond d (set b (v - 1) x) b) ≡ b
+      go true d h = refl
+      go false true h = absurd (h refl)
+      go false false h = refl
+
+-- ---- capped
+
+capped-abs : (l : Literal) → natAbs (capped l) ≡ min mostNumber (variable l)
+capped-abs (var v) = refl
+capped-abs (− v) = abs-negated (pos (min mostNumber v))
+
+pub capped-positive : (l : Literal) → 0 < variable l → 0 < natAbs (capped l)
+capped-positive l h = omega (arith, capped-abs l, h)
+
+pub capped-small : (l : Literal) → natAbs (capped l) < 2 ^ 31
+capped-small l = omega (arith, capped-abs l)
+
+capped-value : (l : Literal) → 0 < variable l → numberValue (capped l) ≡ valueOf l
+capped-value (var v) h = refl
+capped-value (− v) h = go (min mostNumber v) (omega (arith, h))
+  where
+    go : (k : ℕ) → 0 < k → numberValue (negℤ (pos k)) ≡ 0
+    go zero p = absurd (omega (arith, p))
+    go (suc k) p = refl
+
+module _ (n s : ℕ) (b : List ℕ) (l : Literal) (small : n ≤ 9890) where
+  far : (v : ℕ) → n < v → putOutcome n v s b ≡ Outcome.stray s
+  unfolding putOutcome
+  far v h = rw (lt-ltb n v h)
+
+  kept : (v x : ℕ) → n < v → putBytes n v x b ≡ b
+  unfolding putBytes
+  kept v x h = rw (lt-ltb n v h)
+
+  pub capped-outcome : putOutcome n (natAbs (capped l)) s b ≡ putOutcome n (variable l) s b
+  capped-outcome =
+      ap (λ (v : ℕ). putOutcome n v s b) (capped-abs l)
+      ∙ ⊎-elim (λ (h : variable l ≤ mostNumber). ap (λ (v : ℕ). putOutcome n v s b) (omega (arith, h)))
+      (λ (h : mostNumber < variable l). far (min mostNumber (variable l)) (omega (arith, h, small)) ∙ sym (far (variable l) (omega (arith, h, small))))
+      (le-or-lt (variable l) mostNumber)
+
+  pub capped-bytes : 0 < variable l → putBytes n (natAbs (capped l)) (numberValue (capped l)) b ≡ putBytes n (variable l) (valueOf l) b
+  capped-bytes p =
+      ap₂ (λ (v x : ℕ). putBytes n v x b) (capped-abs l) (capped-value l p)
+      ∙ ⊎-elim (λ (h : variable l ≤ mostNumber). ap (λ (v : ℕ). putBytes n v (valueOf l) b) (omega (arith, h)))
+      (λ (h : mostNumber < variable l). kept (min mostNumber (variable l)) (valueOf l) (omega (arith, h, small)) ∙ sym (kept (variable l) (valueOf l) (omega (arith, h, small))))
+      (le-or-lt (variable l) mostNumber)

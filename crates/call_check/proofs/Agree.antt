@@ -1,0 +1,92 @@
+-- What is computed of the values of the variables 1 to V depends on these alone.
+--   first-same                    the first number that passes, of tests that agree on 1 to n
+--   value-front                   the values in the first n bytes of a buffer
+--   unset-front, false-front, true-front, counters-front   so the number of variables without a value, the first false clause, the number of true atoms and
+--                                 the counters are those of the first V bytes
+-- Assumes nothing.
+use Prim.Native.Nat.{ℕ, zero, suc, _-_, _≤_, _<_}
+use native.Mathlib.Nat.{mul-le-mul-right}
+use native.Mathlib.Omega.{arith}
+use mathlib.Core.Path.{_≡_, refl, ap, ap₂}
+use mathlib.Core.Bool.{Bool, not, _||_, So, cond}
+use mathlib.Core.List.{List, [], _∷_}
+use lib.Dec.{eqb}
+use lib.ListN.{length, getD, take}
+use lib.Seq.{getD-take}
+use Rattle.lists.specs.Lists.{all, first, orLast}
+use Rattle.lists.proofs.Bools.{and-left, and-right}
+use Rattle.lists.proofs.Tests.{all-at}
+use Rattle.lists.proofs.Tables.{tab-ext, sum-ext}
+use Rattle.meaning.specs.Program.{Program, isAtom}
+use Rattle.encoding.specs.Width.{width}
+use Rattle.encoding.specs.Literal.{Literal, var, −_, variable, Clause, literalTrue, clauseTrue}
+use Rattle.encoding.specs.Variables.{Sizes, levelVar}
+use Rattle.encoding.specs.Clauses.{sizes, clauses, variables}
+use Rattle.theory.proofs.Atoms.{atom-pos, atom-le}
+use Rattle.theory.proofs.Bits.{value-ext}
+use Rattle.theory.proofs.Base.{clauses-within}
+use Rattle.theory.proofs.Widths.{width-enough}
+use Rattle.reader_laws.specs.Row.{Limits}
+use Rattle.answer_values.specs.Assign.{unsetCount}
+use Rattle.truth_clauses.specs.Truth.{valueIn, falseAt, firstFalse}
+use Rattle.call_results.specs.Results.{trueCount, counters}
+use Rattle.call_results.proofs.ValueBytes.{atoms-within}
+
+pub first-same : (n : ℕ) (p q : ℕ → Bool) → ((i : ℕ) → i < n → p (suc i) ≡ q (suc i)) → first n p ≡ first n q
+first-same zero p q e = refl
+first-same (suc n) p q e = ap₂ (λ (f : ℕ) (b : Bool). orLast f b (suc n)) (first-same n p q (λ i h. e i (omega (arith, h)))) (e n (omega arith))
+
+-- ---- values that agree on the variables of a clause
+
+module _ (A B : ℕ → Bool) (n : ℕ) (e : (v : ℕ) → 0 < v → v ≤ n → A v ≡ B v) where
+  literal-same : (l : Literal) → So (isAtom n (variable l)) → literalTrue A l ≡ literalTrue B l
+  literal-same (var v) h = e v (atom-pos n v h) (atom-le n v h)
+  literal-same (− v) h = ap not (e v (atom-pos n v h) (atom-le n v h))
+
+  clause-same : (c : Clause) → So (all (λ l. isAtom n (variable l)) c) → clauseTrue A c ≡ clauseTrue B c
+  clause-same [] h = refl
+  clause-same (l ∷ c) h =
+      ap₂ (λ (x y : Bool). x || y)
+      (literal-same l (and-left (isAtom n (variable l)) (all (λ l. isAtom n (variable l)) c) h))
+      (clause-same c (and-right (isAtom n (variable l)) (all (λ l. isAtom n (variable l)) c) h))
+
+-- ---- the first n bytes of a buffer
+
+pub value-front : (b : List ℕ) (n v : ℕ) → 0 < v → v ≤ n → valueIn (take n b) v ≡ valueIn b v
+value-front b n zero p h = absurd (omega (arith, p))
+value-front b n (suc v) p h = ap (λ (x : ℕ). not (eqb x 0)) (getD-take n b v 0 h)
+
+pub unset-front : (b : List ℕ) (n : ℕ) → unsetCount n (take n b) ≡ unsetCount n b
+unfolding unsetCount
+unset-front b n = sum-ext n _ _ (λ i h. ap (λ (x : ℕ). cond (eqb x 2) 1 0) (getD-take n b (suc i - 1) 0 (omega (arith, h))))
+
+module _ (P : Program) (L : Limits P) (b : List ℕ) where
+  abbrev V′ : ℕ
+  V′ = variables P (width (P .atoms))
+
+  abbrev S : Sizes
+  S = sizes P (width (P .atoms))
+
+  abbrev cs : List Clause
+  cs = clauses P (width (P .atoms))
+
+  pub false-front : firstFalse P (take V′ b) ≡ firstFalse P b
+  unfolding firstFalse
+  false-front =
+      first-same (length cs) (falseAt P (take V′ b)) (falseAt P b)
+      (λ j h. ap not
+      (clause-same (valueIn (take V′ b)) (valueIn b) V′ (value-front b V′) (getD cs j [])
+      (all-at (λ c. all (λ l. isAtom V′ (variable l)) c) cs [] (clauses-within P (width (P .atoms)) (L .all-atoms) (width-enough (P .atoms))) j h)))
+
+  pub true-front : trueCount (P .atoms) (take V′ b) ≡ trueCount (P .atoms) b
+  unfolding trueCount
+  true-front = sum-ext (P .atoms) _ _ (λ i h. ap (λ x. cond x 1 0) (value-front b V′ (suc i) (omega arith) (omega (arith, h, atoms-within P))))
+
+  level-within : (a i : ℕ) → a < P .atoms → i < S .w → levelVar S (suc a) (suc i) ≤ V′
+  unfolding variables
+  level-within a i h g = omega (arith, mul-le-mul-right (S .w) h, g)
+
+  pub counters-front : counters S (take V′ b) ≡ counters S b
+  counters-front =
+      tab-ext (P .atoms) _ _
+      (λ a h. value-ext (λ i. valueIn (take V′ b) (levelVar S (suc a) i)) (λ i. valueIn b (levelVar S (suc a) i)) (S .w) (λ i g. value-front b V′ (levelVar S (suc a) (suc i)) (omega arith) (level-within a i h g)))

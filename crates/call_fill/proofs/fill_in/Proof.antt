@@ -1,0 +1,55 @@
+use denote.Ref.{now}
+use native.Mathlib.Omega.{arith}
+use Rattle.call_fill.proofs.Steps.{short-assignment, short-levels, wrong-size, bad-at, set-founded}
+use borrow.Author.Needs.{needs}
+use Rattle.call_fill.proofs.fill_in.Statement.{statement}
+use Rattle.call_fill.proofs.fill_in.Tie as tie
+
+returns : tie.Need-returns
+returns c = short-assignment (c .before .before .before .before .before .before .before .before .before .before .before .pre) (now (c .before .before .before .before .before .before .before .before .before .before .before .args .set)) (now (c .before .before .before .before .before .before .before .before .before .before .before .args .assignment)) (now (c .before .before .before .before .before .before .before .before .before .before .before .args .levels)) (c .if1 .taken)
+
+cast-n : tie.Need-cast-n
+cast-n c = search needs
+
+returns-2 : tie.Need-returns-2
+returns-2 c = short-levels (c .before .before .before .before .before .before .before .before .before .before .before .before .before .pre) (now (c .before .before .before .before .before .before .before .before .before .before .before .before .before .args .set)) (now (c .before .before .before .before .before .before .before .before .before .before .before .before .before .args .assignment)) (now (c .before .before .before .before .before .before .before .before .before .before .before .before .before .args .levels)) (c .before .before .if1 .left) (c .if2 .taken)
+
+returns-3 : tie.Need-returns-3
+returns-3 c = wrong-size (c .before .before .before .before .before .before .before .before .before .before .before .before .before .before .pre) (now (c .before .before .before .before .before .before .before .before .before .before .before .before .before .before .args .set)) (now (c .before .before .before .before .before .before .before .before .before .before .before .before .before .before .args .assignment)) (now (c .before .before .before .before .before .before .before .before .before .before .before .before .before .before .args .levels)) (c .before .before .before .if1 .left) (c .before .if2 .left) (c .if3 .taken)
+
+first-bad-requires : tie.Need-first-bad-requires
+first-bad-requires c κs = search needs
+
+sub-t18 : tie.Need-sub-t18
+sub-t18 c = search needs
+
+returns-4 : tie.Need-returns-4
+returns-4 c = bad-at (c .before .before .before .before .before .before .before .before .before .before .before .before .before .before .before .before .pre) (now (c .before .before .before .before .before .before .before .before .before .before .before .before .before .before .before .before .args .set)) (now (c .before .before .before .before .before .before .before .before .before .before .before .before .before .before .before .before .args .assignment)) (now (c .before .before .before .before .before .before .before .before .before .before .before .before .before .before .before .before .args .levels)) (c .before .before .before .before .before .if1 .left) (c .before .before .before .if2 .left) (c .before .before .if3 .left) (c .before .first-bad .ensures) (c .if4 .taken)
+
+fill-founded-requires : tie.Need-fill-founded-requires
+fill-founded-requires c κs = (c .before .before .before .before .before .before .before .before .before .before .before .before .before .before .before .before .before .before .pre, omega (arith, c .before .before .before .before .if3 .left), c .before .before .before .before .before .before .before .if1 .left, c .before .before .before .before .before .if2 .left)
+
+same-length : tie.Need-same-length
+same-length c = search needs
+
+same-length-2 : tie.Need-same-length-2
+same-length-2 c = search needs
+
+returns-5 : tie.Need-returns-5
+returns-5 c = set-founded (c .before .before .before .before .before .before .before .before .before .before .before .before .before .before .before .before .before .before .before .before .before .before .before .pre) (now (c .before .before .before .before .before .before .before .before .before .before .before .before .before .before .before .before .before .before .before .before .before .before .before .args .set)) (now (c .before .before .before .before .before .before .before .before .before .before .before .before .before .before .before .before .before .before .before .before .before .before .before .args .assignment)) (now (c .before .before .before .before .before .before .before .before .before .before .before .before .before .before .before .before .before .before .before .before .before .before .before .args .levels)) (c .before .before .before .before .before .before .before .before .before .before .before .before .if1 .left) (c .before .before .before .before .before .before .before .before .before .before .if2 .left) (c .before .before .before .before .before .before .before .before .before .if3 .left) (c .before .before .before .before .before .before .before .before .first-bad .ensures) (c .before .before .before .before .before .before .before .if4 .left) (c .before .before .before .before .fill-founded .ensures)
+
+pub fill-in-spec : {M : Type 1} → statement M
+fill-in-spec =
+    tie.close
+    (tie.spec
+    returns
+    cast-n
+    returns-2
+    returns-3
+    first-bad-requires
+    sub-t18
+    returns-4
+    fill-founded-requires
+    same-length
+    same-length-2
+    returns-5)

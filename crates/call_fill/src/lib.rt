@@ -1,0 +1,237 @@
+// Filling out a proposed set of atoms (document 01, "Check and filling out").
+use call_results::highest_of;
+use call_results::true_count;
+use clause_tables::Totals;
+use clause_tabling::pairs_of;
+use clause_tabling::totals_of;
+use clause_text::put_word;
+use level_fill::put_filled;
+use level_stages::first_difference;
+use level_stages::stage_levels;
+use program::Program;
+use program::ReadVerdict;
+use program::TextRefusal;
+use program::number_of;
+use program::read;
+use program::spot_of;
+ghost use Prim.Native.Nat.{_≤_};
+ghost use mathlib.Core.Path.{_≡_};
+ghost use mathlib.Core.List.{_++_};
+ghost use lib.ListN.{length, drop};
+ghost use Rattle.lists.specs.Lists.{tab};
+ghost use Rattle.meaning.specs.Stage.{level};
+ghost use Rattle.reader_laws.specs.Decoded.{decoded};
+ghost use Rattle.clause_tables.specs.Tables.{Stored, programIn, Ready};
+ghost use Rattle.level_stages.specs.Levels.{setIn};
+ghost use Rattle.call_fill.specs.FillOut.{fillNumber, fillSpot, firstBad, Gives, foundedResult, fillResult, fillAnswer, fillAssignment, fillLevels};
+
+// Why the set is not filled out, each with its spot.
+pub enum FillRefusal {
+    Text(TextRefusal),
+    ShortBuffer(usize),
+    BadSet(usize),
+    Unfounded(usize),
+}
+
+// How many atoms are true, and the highest level; or a refusal.
+pub enum FillVerdict {
+    Filled(usize, usize),
+    Refused(FillRefusal),
+}
+
+// The first byte above 1, counted from 1; 0 if there is none.
+fn first_bad(set: &[u8]) -> usize
+    ensures { λ r. ⌜ r ≡ firstBad (now (set .entry)) ⌝ }
+{
+    let mut i: usize = 0;
+    while i < set.len() {
+        if 1 < set[i] {
+            return i + 1;
+        }
+        i += 1;
+    }
+    0
+}
+
+// Row 18, for the atoms whose byte is not 0, by their levels; if it is not met, the assignment and the levels are written.
+fn fill_found<'a>(
+    t: Totals,
+    heads: &'a [u16],
+    starts: &'a [u16],
+    bodies: &'a [u16],
+    before: &'a [u16],
+    partners: &'a [u16],
+    owners: &'a [u16],
+    set: &'a [u8],
+    found: &'a [u8],
+    assignment: &mut [u8],
+    levels: &mut [u8],
+) -> FillVerdict
+    requires { ⌜ (Ready t (now heads) (now starts) (now bodies) (now before) (now partners) (now owners)) × (t .sizes .n ≤ length (now set)) × (now found ≡ tab (t .sizes .n) (level (programIn (t .sizes) (now heads) (now starts) (now bodies)) (setIn (t .sizes .n) (now set))) ++ drop (t .sizes .n) (now found)) × (t .vars ≤ length (now assignment)) × (t .sizes .n ≤ length (now levels)) ⌝ }
+    ensures { λ r. ⌜ Gives (programIn (t .sizes) (now (heads .entry)) (now (starts .entry)) (now (bodies .entry))) (foundedResult (programIn (t .sizes) (now (heads .entry)) (now (starts .entry)) (now (bodies .entry))) (setIn (t .sizes .n) (now (set .entry)))) r (now (assignment .entry)) (now (assignment .exit)) (now (levels .entry)) (now (levels .exit)) ⌝ }
+{
+    let n = t.sizes.n;
+    let a = first_difference(n, set, found);
+    if 0 < a {
+        return FillVerdict::Refused(FillRefusal::Unfounded(a));
+    }
+    put_filled(
+        t,
+        heads,
+        starts,
+        bodies,
+        before,
+        partners,
+        owners,
+        set,
+        found,
+        &mut *assignment,
+    );
+    put_word(&found[..n as usize], &mut *levels);
+    FillVerdict::Filled(true_count(n, &*assignment), highest_of(n, &*levels))
+}
+
+// The same, once the levels are found.
+fn fill_founded<'a>(
+    t: Totals,
+    heads: &'a [u16],
+    starts: &'a [u16],
+    bodies: &'a [u16],
+    before: &'a [u16],
+    partners: &'a [u16],
+    owners: &'a [u16],
+    set: &'a [u8],
+    assignment: &mut [u8],
+    levels: &mut [u8],
+) -> FillVerdict
+    requires { ⌜ (Ready t (now heads) (now starts) (now bodies) (now before) (now partners) (now owners)) × (t .sizes .n ≤ length (now set)) × (t .vars ≤ length (now assignment)) × (t .sizes .n ≤ length (now levels)) ⌝ }
+    ensures { λ r. ⌜ Gives (programIn (t .sizes) (now (heads .entry)) (now (starts .entry)) (now (bodies .entry))) (foundedResult (programIn (t .sizes) (now (heads .entry)) (now (starts .entry)) (now (bodies .entry))) (setIn (t .sizes .n) (now (set .entry)))) r (now (assignment .entry)) (now (assignment .exit)) (now (levels .entry)) (now (levels .exit)) ⌝ }
+{
+    let mut found = [0u8; 126];
+    stage_levels(
+        t,
+        heads,
+        starts,
+        bodies,
+        before,
+        partners,
+        owners,
+        set,
+        &mut found,
+    );
+    fill_found(
+        t,
+        heads,
+        starts,
+        bodies,
+        before,
+        partners,
+        owners,
+        set,
+        &found,
+        &mut *assignment,
+        &mut *levels,
+    )
+}
+
+// Rows 8 and 17, then these.
+fn fill_in<'a>(
+    t: Totals,
+    heads: &'a [u16],
+    starts: &'a [u16],
+    bodies: &'a [u16],
+    before: &'a [u16],
+    partners: &'a [u16],
+    owners: &'a [u16],
+    set: &'a [u8],
+    assignment: &mut [u8],
+    levels: &mut [u8],
+) -> FillVerdict
+    requires { ⌜ Ready t (now heads) (now starts) (now bodies) (now before) (now partners) (now owners) ⌝ }
+    ensures { λ r. ⌜ Gives (programIn (t .sizes) (now (heads .entry)) (now (starts .entry)) (now (bodies .entry))) (fillResult (programIn (t .sizes) (now (heads .entry)) (now (starts .entry)) (now (bodies .entry))) (now (set .entry)) (length (now (assignment .entry))) (length (now (levels .entry)))) r (now (assignment .entry)) (now (assignment .exit)) (now (levels .entry)) (now (levels .exit)) ⌝ }
+{
+    if assignment.len() < t.vars {
+        return FillVerdict::Refused(FillRefusal::ShortBuffer(t.vars));
+    }
+    let n = t.sizes.n as usize;
+    if levels.len() < n {
+        return FillVerdict::Refused(FillRefusal::ShortBuffer(n));
+    }
+    if set.len() != n {
+        return FillVerdict::Refused(FillRefusal::BadSet(n));
+    }
+    let i = first_bad(set);
+    if 0 < i {
+        return FillVerdict::Refused(FillRefusal::BadSet(i - 1));
+    }
+    fill_founded(
+        t,
+        heads,
+        starts,
+        bodies,
+        before,
+        partners,
+        owners,
+        set,
+        &mut *assignment,
+        &mut *levels,
+    )
+}
+
+// Filling out for a program that was read.
+fn fill_program(p: Program, set: &[u8], assignment: &mut [u8], levels: &mut [u8]) -> FillVerdict
+    requires { ⌜ Stored p ⌝ }
+    ensures { λ r. ⌜ Gives (decoded p) (fillResult (decoded p) (now (set .entry)) (length (now (assignment .entry))) (length (now (levels .entry)))) r (now (assignment .entry)) (now (assignment .exit)) (now (levels .entry)) (now (levels .exit)) ⌝ }
+{
+    let k = pairs_of(p);
+    let t = totals_of(p, k.count, k.empty);
+    fill_in(
+        t,
+        &p.heads,
+        &p.starts,
+        &p.bodies,
+        &k.before,
+        &k.bodies,
+        &k.heads,
+        set,
+        &mut *assignment,
+        &mut *levels,
+    )
+}
+
+// Whether the set, one byte for each atom, is a stable model: how many atoms are true, and the highest level; its assignment and its levels are written.
+// A refusal writes nothing. Bytes past V and n stay.
+pub fn fill_out(text: &[u8], set: &[u8], assignment: &mut [u8], levels: &mut [u8]) -> FillVerdict
+    ensures { λ r. ⌜ (r ≡ fillAnswer (now (text .entry)) (now (set .entry)) (length (now (assignment .entry))) (length (now (levels .entry)))) × (now (assignment .exit) ≡ fillAssignment (now (text .entry)) (now (set .entry)) (now (assignment .entry)) (length (now (levels .entry)))) × (now (levels .exit) ≡ fillLevels (now (text .entry)) (now (set .entry)) (length (now (assignment .entry))) (now (levels .entry))) ⌝ }
+{
+    let x = read(text);
+    let v = x.verdict;
+    match v {
+        ReadVerdict::Accepted => fill_program(x.program, set, &mut *assignment, &mut *levels),
+        ReadVerdict::Refused(r) => FillVerdict::Refused(FillRefusal::Text(r)),
+    }
+}
+
+// The document's number of a refusal.
+pub fn fill_number_of(r: FillRefusal) -> u8
+    ensures { λ n. ⌜ n ≡ fillNumber r ⌝ }
+{
+    match r {
+        FillRefusal::Text(x) => number_of(x),
+        FillRefusal::ShortBuffer(s) => 8,
+        FillRefusal::BadSet(s) => 17,
+        FillRefusal::Unfounded(a) => 18,
+    }
+}
+
+// Its spot.
+pub fn fill_spot_of(r: FillRefusal) -> usize
+    ensures { λ n. ⌜ n ≡ fillSpot r ⌝ }
+{
+    match r {
+        FillRefusal::Text(x) => spot_of(x),
+        FillRefusal::ShortBuffer(s) => s,
+        FillRefusal::BadSet(s) => s,
+        FillRefusal::Unfounded(a) => a,
+    }
+}

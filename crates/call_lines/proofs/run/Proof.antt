@@ -1,0 +1,31 @@
+use Rattle.call_lines.proofs.Open.{accepted-stored, run-accepted, run-refused}
+use denote.Ref.{now}
+use borrow.Author.Needs.{needs}
+use Rattle.call_lines.proofs.run.Statement.{statement}
+use Rattle.call_lines.proofs.run.Tie as tie
+
+read-requires : tie.Need-read-requires
+read-requires c κs = search needs
+
+enum-told : tie.Need-enum-told
+enum-told c = search needs
+
+run-of-requires : tie.Need-run-of-requires
+run-of-requires c κs = accepted-stored (now (c .before .before .before .before .before .before .args .text)) (c .before .before .before .read .ensures) (c .before .enum-told .given .1)
+
+enum-known-v : tie.Need-enum-known-v
+enum-known-v c = search needs
+
+same-length : tie.Need-same-length
+same-length c = search needs
+
+returns : tie.Need-returns
+returns c = run-accepted (now (c .before .before .before .before .before .before .before .before .before .args .text)) (c .before .before .before .before .before .before .read .ensures) (c .before .before .before .before .before .before .before .before .before .args .j) (now (c .before .before .before .before .before .before .before .before .before .args .buf)) (c .before .before .before .before .enum-told .given .1) (c .before .before .run-of .ensures)
+
+returns-2 : tie.Need-returns-2
+returns-2 c = run-refused (now (c .before .before .before .before .before .before .args .text)) (c .before .before .before .read .ensures) (c .before .before .before .before .before .before .args .j) (now (c .before .before .before .before .before .before .args .buf)) (c .before .v .given .1)
+
+pub run-spec : {M : Type 1} → statement M
+run-spec =
+    tie.close
+    (tie.spec read-requires enum-told run-of-requires enum-known-v same-length returns returns-2)

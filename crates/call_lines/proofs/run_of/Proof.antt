@@ -1,0 +1,24 @@
+use Rattle.call_lines.proofs.Open.{totals-asks, ready-of, program-is, same-run}
+use denote.Ref.{now}
+use borrow.Author.Needs.{needs}
+use Rattle.call_lines.proofs.run_of.Statement.{statement}
+use Rattle.call_lines.proofs.run_of.Tie as tie
+
+pairs-of-requires : tie.Need-pairs-of-requires
+pairs-of-requires c κs = search needs
+
+totals-of-requires : tie.Need-totals-of-requires
+totals-of-requires c κs = totals-asks (c .before .before .pre) (c .pairs-of .ensures)
+
+run-in-requires : tie.Need-run-in-requires
+run-in-requires c κs = ready-of (c .before .before .before .before .before .before .before .before .before .before .before .before .before .before .before .before .before .before .pre) (c .before .before .before .before .before .before .before .before .before .before .before .before .before .before .before .before .pairs-of .ensures) (c .before .before .before .before .before .before .before .before .before .before .before .before .before .before .before .totals-of .ensures)
+
+same-length : tie.Need-same-length
+same-length c = search needs
+
+returns : tie.Need-returns
+returns c = same-run (program-is (c .before .before .before .before .before .before .before .before .before .before .before .before .before .before .before .before .before .before .before .before .before .args .t1) (c .before .before .before .before .before .before .before .before .before .before .before .before .before .before .before .before .before .before .totals-of .ensures)) (c .before .before .before .before .before .before .before .before .before .before .before .before .before .before .before .before .before .before .before .before .before .args .j) (now (c .before .before .before .before .before .before .before .before .before .before .before .before .before .before .before .before .before .before .before .before .before .args .buf)) (c .before .before .run-in .ensures)
+
+pub run-of-spec : {M : Type 1} → statement M
+run-of-spec =
+    tie.close (tie.spec pairs-of-requires totals-of-requires run-in-requires same-length returns)

@@ -1,0 +1,206 @@
+// The lines of a text's clause file: one line, and a run of lines, into a lent buffer (document 01, "Clauses, in order").
+use clause_finding::place_of;
+use clause_runs::line_length;
+use clause_runs::put_line;
+use clause_runs::put_lines;
+use clause_tables::Totals;
+use clause_tabling::pairs_of;
+use clause_tabling::totals_of;
+use program::Program;
+use program::ReadVerdict;
+use program::TextRefusal;
+use program::number_of;
+use program::read;
+use program::spot_of;
+ghost use Prim.Native.Nat.{_-_};
+ghost use mathlib.Core.Path.{_≡_};
+ghost use lib.ListN.{length};
+ghost use Rattle.reader_laws.specs.Decoded.{decoded};
+ghost use Rattle.clause_tables.specs.Tables.{Stored, programIn, Ready};
+ghost use Rattle.clause_runs.specs.Lines.{lineOf, partIn, runBytesIn};
+ghost use Rattle.call_lines.specs.Lines.{lineNumber, lineSpot, answerIn, bytesIn, lineAnswer, lineBytes, runAnswerIn, runAnswer, runBytes};
+
+// Why no line is written: the text is refused, the buffer is short, or there is no such clause, each with its spot.
+pub enum LineRefusal {
+    Text(TextRefusal),
+    ShortBuffer(usize),
+    NoSuchClause(usize),
+}
+
+// The length of the line written, or a refusal.
+pub enum LineVerdict {
+    Written(usize),
+    Refused(LineRefusal),
+}
+
+// How many lines are written, and how many bytes they are, or a refusal.
+pub enum RunVerdict {
+    WrittenRun(usize, usize),
+    RefusedRun(LineRefusal),
+}
+
+// Line j into the buffer from place `from` on.
+fn line_in<'a>(
+    t: Totals,
+    heads: &'a [u16],
+    starts: &'a [u16],
+    bodies: &'a [u16],
+    before: &'a [u16],
+    partners: &'a [u16],
+    owners: &'a [u16],
+    j: usize,
+    from: usize,
+    buf: &mut [u8],
+) -> LineVerdict
+    requires { ⌜ Ready t (now heads) (now starts) (now bodies) (now before) (now partners) (now owners) ⌝ }
+    ensures { λ r. ⌜ (r ≡ answerIn (programIn (t .sizes) (now (heads .entry)) (now (starts .entry)) (now (bodies .entry))) j (length (now (buf .entry)) - from)) × (now (buf .exit) ≡ bytesIn (programIn (t .sizes) (now (heads .entry)) (now (starts .entry)) (now (bodies .entry))) j from (now (buf .entry))) ⌝ }
+{
+    if t.clauses < j {
+        return LineVerdict::Refused(LineRefusal::NoSuchClause(t.clauses));
+    }
+    let c = place_of(t, heads, starts, bodies, before, partners, owners, j);
+    let need = line_length(t, heads, starts, bodies, before, partners, owners, c);
+    if buf.len() < from {
+        return LineVerdict::Refused(LineRefusal::ShortBuffer(need));
+    }
+    if buf.len() - from < need {
+        return LineVerdict::Refused(LineRefusal::ShortBuffer(need));
+    }
+    LineVerdict::Written(put_line(
+        t,
+        heads,
+        starts,
+        bodies,
+        before,
+        partners,
+        owners,
+        c,
+        &mut buf[from..],
+    ))
+}
+
+// The lines from line j on, as many as fit the buffer.
+fn run_in<'a>(
+    t: Totals,
+    heads: &'a [u16],
+    starts: &'a [u16],
+    bodies: &'a [u16],
+    before: &'a [u16],
+    partners: &'a [u16],
+    owners: &'a [u16],
+    j: usize,
+    buf: &mut [u8],
+) -> RunVerdict
+    requires { ⌜ Ready t (now heads) (now starts) (now bodies) (now before) (now partners) (now owners) ⌝ }
+    ensures { λ r. ⌜ (r ≡ runAnswerIn (programIn (t .sizes) (now (heads .entry)) (now (starts .entry)) (now (bodies .entry))) j (length (now (buf .entry)))) × (now (buf .exit) ≡ runBytesIn (programIn (t .sizes) (now (heads .entry)) (now (starts .entry)) (now (bodies .entry))) j (now (buf .entry))) ⌝ }
+{
+    if t.clauses < j {
+        return RunVerdict::RefusedRun(LineRefusal::NoSuchClause(t.clauses));
+    }
+    let c = place_of(t, heads, starts, bodies, before, partners, owners, j);
+    let part = put_lines(
+        t,
+        heads,
+        starts,
+        bodies,
+        before,
+        partners,
+        owners,
+        c,
+        &mut *buf,
+    );
+    if part.lines == 0 {
+        let need = line_length(t, heads, starts, bodies, before, partners, owners, c);
+        return RunVerdict::RefusedRun(LineRefusal::ShortBuffer(need));
+    }
+    RunVerdict::WrittenRun(part.lines, part.bytes)
+}
+
+// Line j of a program that was read.
+fn line_of(p: Program, j: usize, from: usize, buf: &mut [u8]) -> LineVerdict
+    requires { ⌜ Stored p ⌝ }
+    ensures { λ r. ⌜ (r ≡ answerIn (decoded p) j (length (now (buf .entry)) - from)) × (now (buf .exit) ≡ bytesIn (decoded p) j from (now (buf .entry))) ⌝ }
+{
+    let k = pairs_of(p);
+    let t = totals_of(p, k.count, k.empty);
+    line_in(
+        t,
+        &p.heads,
+        &p.starts,
+        &p.bodies,
+        &k.before,
+        &k.bodies,
+        &k.heads,
+        j,
+        from,
+        &mut *buf,
+    )
+}
+
+// A run of its lines from line j on.
+fn run_of(p: Program, j: usize, buf: &mut [u8]) -> RunVerdict
+    requires { ⌜ Stored p ⌝ }
+    ensures { λ r. ⌜ (r ≡ runAnswerIn (decoded p) j (length (now (buf .entry)))) × (now (buf .exit) ≡ runBytesIn (decoded p) j (now (buf .entry))) ⌝ }
+{
+    let k = pairs_of(p);
+    let t = totals_of(p, k.count, k.empty);
+    run_in(
+        t,
+        &p.heads,
+        &p.starts,
+        &p.bodies,
+        &k.before,
+        &k.bodies,
+        &k.heads,
+        j,
+        &mut *buf,
+    )
+}
+
+// Line j of the text's clause file, written into the buffer from place `from` on: its length, or a refusal, which writes nothing.
+// The buffer's other bytes stay.
+pub fn line(text: &[u8], j: usize, from: usize, buf: &mut [u8]) -> LineVerdict
+    ensures { λ r. ⌜ (r ≡ lineAnswer (now (text .entry)) j from (length (now (buf .entry)))) × (now (buf .exit) ≡ lineBytes (now (text .entry)) j from (now (buf .entry))) ⌝ }
+{
+    let r = read(text);
+    let v = r.verdict;
+    match v {
+        ReadVerdict::Accepted => line_of(r.program, j, from, &mut *buf),
+        ReadVerdict::Refused(x) => LineVerdict::Refused(LineRefusal::Text(x)),
+    }
+}
+
+// As many whole lines as fit the buffer, from line j on: how many and how many bytes, or a refusal, which writes nothing.
+// The buffer's other bytes stay.
+pub fn run(text: &[u8], j: usize, buf: &mut [u8]) -> RunVerdict
+    ensures { λ r. ⌜ (r ≡ runAnswer (now (text .entry)) j (length (now (buf .entry)))) × (now (buf .exit) ≡ runBytes (now (text .entry)) j (now (buf .entry))) ⌝ }
+{
+    let r = read(text);
+    let v = r.verdict;
+    match v {
+        ReadVerdict::Accepted => run_of(r.program, j, &mut *buf),
+        ReadVerdict::Refused(x) => RunVerdict::RefusedRun(LineRefusal::Text(x)),
+    }
+}
+
+// The document's number of a refusal.
+pub fn line_number_of(r: LineRefusal) -> u8
+    ensures { λ n. ⌜ n ≡ lineNumber r ⌝ }
+{
+    match r {
+        LineRefusal::Text(x) => number_of(x),
+        LineRefusal::ShortBuffer(s) => 8,
+        LineRefusal::NoSuchClause(s) => 9,
+    }
+}
+
+// Its spot.
+pub fn line_spot_of(r: LineRefusal) -> usize
+    ensures { λ n. ⌜ n ≡ lineSpot r ⌝ }
+{
+    match r {
+        LineRefusal::Text(x) => spot_of(x),
+        LineRefusal::ShortBuffer(s) => s,
+        LineRefusal::NoSuchClause(s) => s,
+    }
+}

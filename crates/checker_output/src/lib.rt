@@ -1,0 +1,65 @@
+// The checker: reads program.lp and answer.txt in the current folder and prints the model that the answer shows, or why none is shown (document 01,
+// "Programs"; document 02, Q-3).
+use call_check::CheckVerdict;
+use call_check::check_number_of;
+use call_check::check_read;
+use call_check::check_spot_of;
+use checker_model::put_shown_model;
+use clause_text::put_refusal;
+use files::read_front;
+use program::Reading;
+use reader_counted::read_counted;
+ghost use Prim.Native.Nat.{_≤_};
+ghost use mathlib.Core.Path.{_≡_};
+ghost use lib.ListN.{length};
+ghost use Rattle.digits.specs.Bytes.{Wrote};
+ghost use Rattle.program.specs.declared.ReadVerdict.the-variants.{Accepted};
+ghost use Rattle.clause_tables.specs.Tables.{Stored};
+ghost use Rattle.checker_output.specs.Output.{refusedLine, outputOf, outputText};
+
+// Writes the line of a refusal at the front of the buffer, nothing for a model, and returns how many bytes it has.
+fn put_refused(v: CheckVerdict, out: &mut [u8]) -> usize
+    requires { ⌜ 35 ≤ length (now out) ⌝ }
+    ensures { λ r. ⌜ Wrote (refusedLine v) (now (out .entry)) (now (out .exit)) r ⌝ }
+{
+    match v {
+        CheckVerdict::Model(k, h, c) => 0,
+        CheckVerdict::Refused(q) => put_refusal(check_number_of(q), check_spot_of(q), &mut *out),
+    }
+}
+
+// Writes the checker's lines for a program that was read at the front of the buffer and returns how many bytes they are.
+fn put_checked(x: Reading, answer: &[u8], total: usize, out: &mut [u8]) -> usize
+    requires { ⌜ (x .verdict ≡ Accepted → Stored (x .program)) × (1131 ≤ length (now out)) ⌝ }
+    ensures { λ r. ⌜ Wrote (outputOf x (now (answer .entry)) total) (now (out .entry)) (now (out .exit)) r ⌝ }
+{
+    let mut assignment = [0u8; 9890];
+    let mut levels = [0u8; 126];
+    let v = check_read(x, answer, total, &mut assignment, &mut levels);
+    let CheckVerdict::Model(k, h, c) = v else {
+        return put_refused(v, &mut *out);
+    };
+    put_shown_model(x.program.atoms, c, &assignment, &levels, &mut *out)
+}
+
+// The same for a program text of `size` bytes and an answer of `total`; of those that are not overlong, `text` and `answer` are all.
+pub fn put_output(text: &[u8], size: usize, answer: &[u8], total: usize, out: &mut [u8]) -> usize
+    requires { ⌜ 1131 ≤ length (now out) ⌝ }
+    ensures { λ r. ⌜ Wrote (outputText (now (text .entry)) size (now (answer .entry)) total) (now (out .entry)) (now (out .exit)) r ⌝ }
+{
+    let x = read_counted(text, size);
+    put_checked(x, answer, total, &mut *out)
+}
+
+// Reads the two files and prints the lines.
+pub fn show_model() {
+    let mut text = [0u8; 65537];
+    let mut answer = [0u8; 65537];
+    let t = read_front(b"program.lp", &mut text);
+    let a = read_front(b"answer.txt", &mut answer);
+    let n = t.kept;
+    let k = a.kept;
+    let mut out = [0u8; 1131];
+    let z = put_output(&text[..n], t.total, &answer[..k], a.total, &mut out);
+    io::write_all(1, &out[..z]);
+}

@@ -1,0 +1,209 @@
+// Whole rows of groups 4 and 5, which have most of the clauses, written into a lent buffer: the digits of a variable are found once for all clauses of
+// the row that have it (document 01, "Clauses, in order").
+use clause_layout::chain_at;
+use clause_literals::Sizes;
+use clause_literals::level_var;
+use clause_literals::next_var;
+use clause_slots::Chain;
+use clause_slots::chain_bit;
+use clause_tables::Totals;
+use digits::Numeral;
+use digits::numeral_of;
+use digits::put_numeral;
+use numbers::Atom;
+ghost use Prim.Native.Nat.{_≤_, _<_};
+ghost use mathlib.Core.Path.{_≡_};
+ghost use mathlib.Core.Bool.{true};
+ghost use mathlib.Core.List.{[], _∷_, _++_};
+ghost use lib.ListN.{length, drop};
+ghost use Rattle.encoding.specs.Variables.{levelVar};
+ghost use Rattle.clause_literals.specs.Sizes.{sizesOf, Bounded};
+ghost use Rattle.digits.specs.Numerals.{numeralOf};
+ghost use Rattle.clause_walk.specs.Walk.{RowAt};
+ghost use Rattle.clause_tables.specs.Tables.{programIn, Ready};
+ghost use Rattle.clause_text.specs.Rows.{isRowed, rowText};
+ghost use Rattle.clause_blocks.specs.Texts.{signText, twoText, threeText, firstText, nextText, ShortBit, bitText, lowerText, pairText, pairsText, longText, nextRowText};
+
+// Each function below writes at the front of the buffer and returns how many bytes it wrote.
+
+// 0 and byte 10.
+fn put_end(buf: &mut [u8]) -> usize
+    requires { ⌜ 2 ≤ length (now buf) ⌝ }
+    ensures { λ r. ⌜ (r ≡ 2) × (now (buf .exit) ≡ (48 ∷ 10 ∷ []) ++ drop r (now (buf .entry))) ⌝ }
+{
+    buf[0] = 48;
+    buf[1] = 10;
+    2
+}
+
+// A literal, with the digits of its variable at hand, and one space.
+fn put_sign(positive: bool, x: Numeral, buf: &mut [u8]) -> usize
+    requires { ⌜ length (signText positive x) ≤ length (now buf) ⌝ }
+    ensures { λ r. ⌜ (r ≡ length (signText positive x)) × (now (buf .exit) ≡ signText positive x ++ drop r (now (buf .entry))) ⌝ }
+{
+    if positive {
+        return put_numeral(x, &mut *buf);
+    }
+    buf[0] = 45;
+    1 + put_numeral(x, &mut buf[1..])
+}
+
+// The line of two such literals, and of three.
+fn put_two(p: bool, x: Numeral, q: bool, y: Numeral, buf: &mut [u8]) -> usize
+    requires { ⌜ length (twoText p x q y) ≤ length (now buf) ⌝ }
+    ensures { λ r. ⌜ (r ≡ length (twoText p x q y)) × (now (buf .exit) ≡ twoText p x q y ++ drop r (now (buf .entry))) ⌝ }
+{
+    let mut at = put_sign(p, x, &mut *buf);
+    at += put_sign(q, y, &mut buf[at..]);
+    at += put_end(&mut buf[at..]);
+    at
+}
+
+fn put_three(p: bool, x: Numeral, q: bool, y: Numeral, s: bool, z: Numeral, buf: &mut [u8]) -> usize
+    requires { ⌜ length (threeText p x q y s z) ≤ length (now buf) ⌝ }
+    ensures { λ r. ⌜ (r ≡ length (threeText p x q y s z)) × (now (buf .exit) ≡ threeText p x q y s z ++ drop r (now (buf .entry))) ⌝ }
+{
+    let mut at = put_sign(p, x, &mut *buf);
+    at += put_sign(q, y, &mut buf[at..]);
+    at += put_sign(s, z, &mut buf[at..]);
+    at += put_end(&mut buf[at..]);
+    at
+}
+
+// ---- group 5
+
+// The lines of a chain's first bit, and of a further one.
+fn put_first_bit(z: Numeral, x: Numeral, y: Numeral, buf: &mut [u8]) -> usize
+    requires { ⌜ length (firstText z x y) ≤ length (now buf) ⌝ }
+    ensures { λ r. ⌜ (r ≡ length (firstText z x y)) × (now (buf .exit) ≡ firstText z x y ++ drop r (now (buf .entry))) ⌝ }
+{
+    let mut at = put_two(false, z, false, x, &mut *buf);
+    at += put_two(false, z, true, y, &mut buf[at..]);
+    at += put_three(true, z, true, x, false, y, &mut buf[at..]);
+    at
+}
+
+fn put_next_bit(z: Numeral, x: Numeral, y: Numeral, g: Numeral, buf: &mut [u8]) -> usize
+    requires { ⌜ length (nextText z x y g) ≤ length (now buf) ⌝ }
+    ensures { λ r. ⌜ (r ≡ length (nextText z x y g)) × (now (buf .exit) ≡ nextText z x y g ++ drop r (now (buf .entry))) ⌝ }
+{
+    let mut at = put_three(false, z, false, x, true, y, &mut *buf);
+    at += put_three(false, z, false, x, true, g, &mut buf[at..]);
+    at += put_three(false, z, true, y, true, g, &mut buf[at..]);
+    at += put_three(true, z, true, x, false, y, &mut buf[at..]);
+    at += put_three(true, z, true, x, false, g, &mut buf[at..]);
+    at += put_three(true, z, false, y, false, g, &mut buf[at..]);
+    at
+}
+
+// The lines of bit i of a chain.
+fn put_bit(c: Chain, i: u16, buf: &mut [u8]) -> usize
+    requires { ⌜ (ShortBit c i) × (length (bitText c i) ≤ length (now buf)) ⌝ }
+    ensures { λ r. ⌜ (r ≡ length (bitText c i)) × (now (buf .exit) ≡ bitText c i ++ drop r (now (buf .entry))) ⌝ }
+{
+    let z = numeral_of(c.z.0);
+    let x = numeral_of(c.x.0);
+    let y = numeral_of(c.y.0);
+    if i == 1 {
+        return put_first_bit(z, x, y, &mut *buf);
+    }
+    let g = numeral_of(c.g.0);
+    put_next_bit(z, x, y, g, &mut *buf)
+}
+
+// ---- group 4, atom a; u and v are the digits of u(a,i) and v(a,i)
+
+// The digits of v(a,j).
+fn level_digits(s: Sizes, a: Atom, j: u16) -> Numeral
+    requires { ⌜ (Bounded s) × (0 < a .0) × (a .0 ≤ 126) × (0 < j) × (j ≤ 7) ⌝ }
+    ensures { λ r. ⌜ r ≡ numeralOf (levelVar (sizesOf s) (a .0) j) ⌝ }
+{
+    numeral_of(level_var(s, a, j).0)
+}
+
+// -v(a,1) to -v(a,k), each followed by one space.
+fn put_lower(s: Sizes, a: Atom, k: u16, buf: &mut [u8]) -> usize
+    requires { ⌜ (Bounded s) × (0 < a .0) × (a .0 ≤ 126) × (k ≤ 7) × (length (lowerText (sizesOf s) (a .0) k) ≤ length (now buf)) ⌝ }
+    ensures { λ r. ⌜ (r ≡ length (lowerText (sizesOf s) (a .0) k)) × (now (buf .exit) ≡ lowerText (sizesOf s) (a .0) k ++ drop r (now (buf .entry))) ⌝ }
+{
+    let mut j: u16 = 0;
+    let mut at: usize = 0;
+    while j < k {
+        at += put_sign(false, level_digits(s, a, j + 1), &mut buf[at..]);
+        j += 1;
+    }
+    at
+}
+
+// The two lines of a lower bit, whose variable has the digits x.
+fn put_pair(x: Numeral, u: Numeral, v: Numeral, buf: &mut [u8]) -> usize
+    requires { ⌜ length (pairText x u v) ≤ length (now buf) ⌝ }
+    ensures { λ r. ⌜ (r ≡ length (pairText x u v)) × (now (buf .exit) ≡ pairText x u v ++ drop r (now (buf .entry))) ⌝ }
+{
+    let mut at = put_three(true, x, false, u, true, v, &mut *buf);
+    at += put_three(true, x, true, u, false, v, &mut buf[at..]);
+    at
+}
+
+// The two lines of each of the k lowest bits.
+fn put_pairs(s: Sizes, a: Atom, k: u16, u: Numeral, v: Numeral, buf: &mut [u8]) -> usize
+    requires { ⌜ (Bounded s) × (0 < a .0) × (a .0 ≤ 126) × (k ≤ 7) × (length (pairsText (sizesOf s) (a .0) k u v) ≤ length (now buf)) ⌝ }
+    ensures { λ r. ⌜ (r ≡ length (pairsText (sizesOf s) (a .0) k u v)) × (now (buf .exit) ≡ pairsText (sizesOf s) (a .0) k u v ++ drop r (now (buf .entry))) ⌝ }
+{
+    let mut j: u16 = 0;
+    let mut at: usize = 0;
+    while j < k {
+        at += put_pair(level_digits(s, a, j + 1), u, v, &mut buf[at..]);
+        j += 1;
+    }
+    at
+}
+
+// The line of the k lower bits, negated, and of u and v with sign p.
+fn put_long(s: Sizes, a: Atom, k: u16, p: bool, u: Numeral, v: Numeral, buf: &mut [u8]) -> usize
+    requires { ⌜ (Bounded s) × (0 < a .0) × (a .0 ≤ 126) × (k ≤ 7) × (length (longText (sizesOf s) (a .0) k p u v) ≤ length (now buf)) ⌝ }
+    ensures { λ r. ⌜ (r ≡ length (longText (sizesOf s) (a .0) k p u v)) × (now (buf .exit) ≡ longText (sizesOf s) (a .0) k p u v ++ drop r (now (buf .entry))) ⌝ }
+{
+    let mut at = put_lower(s, a, k, &mut *buf);
+    at += put_two(p, u, p, v, &mut buf[at..]);
+    at
+}
+
+// The lines of row i.
+fn put_next_row(s: Sizes, a: Atom, i: u16, buf: &mut [u8]) -> usize
+    requires { ⌜ (Bounded s) × (0 < a .0) × (a .0 ≤ 126) × (0 < i) × (i ≤ 7) × (length (nextRowText (sizesOf s) (a .0) i) ≤ length (now buf)) ⌝ }
+    ensures { λ r. ⌜ (r ≡ length (nextRowText (sizesOf s) (a .0) i)) × (now (buf .exit) ≡ nextRowText (sizesOf s) (a .0) i ++ drop r (now (buf .entry))) ⌝ }
+{
+    let u = numeral_of(next_var(s, a, i).0);
+    let v = level_digits(s, a, i);
+    let mut at = put_pairs(s, a, i - 1, u, v, &mut *buf);
+    at += put_long(s, a, i - 1, false, u, v, &mut buf[at..]);
+    at += put_long(s, a, i - 1, true, u, v, &mut buf[at..]);
+    at
+}
+
+// ---- both groups
+
+// The lines of the clauses of row i of item a of group g.
+pub fn put_row<'a>(
+    t: Totals,
+    heads: &'a [u16],
+    starts: &'a [u16],
+    bodies: &'a [u16],
+    before: &'a [u16],
+    partners: &'a [u16],
+    owners: &'a [u16],
+    g: u16,
+    a: u16,
+    i: u16,
+    buf: &mut [u8],
+) -> usize
+    requires { ⌜ (Ready t (now heads) (now starts) (now bodies) (now before) (now partners) (now owners)) × (RowAt (programIn (t .sizes) (now heads) (now starts) (now bodies)) (t .sizes .w) g a i) × (isRowed g ≡ true) × (length (rowText (programIn (t .sizes) (now heads) (now starts) (now bodies)) (t .sizes .w) g a i) ≤ length (now buf)) ⌝ }
+    ensures { λ r. ⌜ (r ≡ length (rowText (programIn (t .sizes) (now (heads .entry)) (now (starts .entry)) (now (bodies .entry))) (t .sizes .w) g a i)) × (now (buf .exit) ≡ rowText (programIn (t .sizes) (now (heads .entry)) (now (starts .entry)) (now (bodies .entry))) (t .sizes .w) g a i ++ drop r (now (buf .entry))) ⌝ }
+{
+    if g == 5 {
+        let c = chain_at(t, heads, starts, bodies, before, partners, owners, g, a, i);
+        return put_bit(c, chain_bit(t.sizes.w, i), &mut *buf);
+    }
+    put_next_row(t.sizes, Atom(a), i, &mut *buf)
+}

@@ -1,0 +1,252 @@
+-- What the code asks and answers, over plain numbers and heads.
+--   varied-1, varied-2, fixed-rest     whether the items of group g have one size
+--   size-3 to size-rest, size-fits     that size, from 1 to 78
+--   count-low, count-high, count-fits, count-front     heads that are at most a, counted one by one
+--   group-1, group-2, group-rest       how many clauses a group has, as the code finds it
+--   last-in, in-last, before-last      group 7, from its end
+--   atoms-before, rule-size, item-even how many clauses items have, as the code finds it
+--   atoms-all, atoms-fit, falls-2      the search in group 2
+--   row-below, rows-end, items-..      the numbers of rows and items at hand
+--   spot-is                            the spot made from them
+-- Assumes nothing.
+use Prim.Native.Nat.{ℕ, suc, pred, _+_, _-_, _*_, _/_, _%_, _≤_, _<_}
+use native.Mathlib.Nat.{mul-le-mul}
+use native.Mathlib.Numerals.{add-one}
+use native.Mathlib.Omega.{arith}
+use mathlib.Core.Path.{_≡_, sym, _∙_, ap, ap₂, subst}
+use mathlib.Core.Bool.{Bool, true, false, not, cond}
+use mathlib.Core.List.{List}
+use lib.Dec.{eqb, leb}
+use lib.ListN.{length, getD, take}
+use lib.Seq.{getD-take, length-take-le}
+use mir.Syntax.{w16}
+use mir.Val.{Fits}
+use borrow.Author.Tests.{eq-eqb, ne-eqb, le-leb, lt-leb}
+use Rattle.lists.proofs.Tables.{sum-ext}
+use Rattle.lists.proofs.Growing.{count-le}
+use Rattle.lists.specs.Lists.{sum}
+use Rattle.meaning.specs.Program.{Program}
+use Rattle.clause_literals.specs.Sizes.{Bounded}
+use Rattle.clause_walk.specs.Walk.{itemCount, rowCount, size, RowAt, At}
+use Rattle.clause_tables.specs.declared.Totals.{Totals}
+use Rattle.clause_tables.specs.Tables.{Tabled}
+use Rattle.clause_table_laws.proofs.Elements as elements
+use Rattle.clause_table_laws.proofs.Bounds.{items-fit}
+use Rattle.clause_layout.specs.Numbers.{itemsOf, rowsOf}
+use Rattle.clause_places.specs.Places.{spot}
+use Rattle.clause_places.proofs.Steps.{items-is, rows-is}
+use Rattle.clause_finding.specs.declared.Found.{Found}
+use Rattle.clause_finding.specs.Falls.{Passed, Falls, Between}
+use Rattle.clause_finding.specs.Sizes.{itemSize, groupSize, lowCount, isFixed, fixedSize}
+use Rattle.clause_finding.proofs.Falling.{between-all, falls-even}
+use Rattle.clause_finding.proofs.Counted.{fixed-item, rule-item, atoms-sum, bodies-group, atoms-group, fixed-group, groups-all, last-group}
+
+module _ (g : ℕ) where
+  pub varied-1 : g ≡ 1 → false ≡ isFixed g
+  varied-1 e = rw (eq-eqb g 1 e)
+
+  pub varied-2 : (g ≡ 1 → ⊥) → g ≡ 2 → false ≡ isFixed g
+  varied-2 n e = rw (ne-eqb g 1 n, eq-eqb g 2 e)
+
+  pub fixed-rest : (g ≡ 1 → ⊥) → (g ≡ 2 → ⊥) → not (eqb g 6) ≡ isFixed g
+  fixed-rest n k = rw (ne-eqb g 1 n, ne-eqb g 2 k)
+
+  -- groups 3 to 5
+  pub fixed-of : (g ≡ 1 → ⊥) → (g ≡ 2 → ⊥) → g ≤ 5 → isFixed g ≡ true
+  fixed-of n k h = rw (ne-eqb g 1 n, ne-eqb g 2 k, ne-eqb g 6 (λ e. omega (arith, e, h)))
+
+  module _ (w : ℕ) where
+    pub size-3 : g ≡ 3 → w ≡ fixedSize w g
+    size-3 e = rw (eq-eqb g 3 e)
+
+    pub size-4 : (g ≡ 3 → ⊥) → g ≡ 4 → w * (w + 1) ≡ fixedSize w g
+    size-4 n e = rw (ne-eqb g 3 n, eq-eqb g 4 e)
+
+    pub size-5 : (g ≡ 3 → ⊥) → (g ≡ 4 → ⊥) → g ≡ 5 → 12 * w - 6 ≡ fixedSize w g
+    size-5 n k e = rw (ne-eqb g 3 n, ne-eqb g 4 k, eq-eqb g 5 e)
+
+    pub size-rest : (g ≡ 3 → ⊥) → (g ≡ 4 → ⊥) → (g ≡ 5 → ⊥) → 1 ≡ fixedSize w g
+    size-rest n k l = rw (ne-eqb g 3 n, ne-eqb g 4 k, ne-eqb g 5 l)
+
+    pub next-fits : w ≤ 7 → w * (w + 1) ≤ 56
+    next-fits h = mul-le-mul {n₂ = 7} {m₂ = 8} h (omega (arith, h))
+
+    pub size-fits : 0 < w → w ≤ 7 → (0 < fixedSize w g) × (fixedSize w g ≤ 78)
+    size-fits p h = go (eqb g 3) (eqb g 4) (eqb g 5)
+      where
+        go : (b3 b4 b5 : Bool) → (0 < cond b3 w (cond b4 (w * (w + 1)) (cond b5 (12 * w - 6) 1))) × (cond b3 w (cond b4 (w * (w + 1)) (cond b5 (12 * w - 6) 1)) ≤ 78)
+        go true b4 b5 = (p, omega (arith, h))
+        go false true b5 = (mul-le-mul {n₁ = 1} {m₁ = 1} p (omega (arith, p)), omega (arith, next-fits h))
+        go false false true = (omega (arith, p), omega (arith, h))
+        go false false false = (omega arith, omega arith)
+
+-- ---- heads
+
+module _ (hs : List ℕ) (a i : ℕ) where
+  pub count-low : {n : ℕ} → n ≡ lowCount i hs a → getD hs i 0 ≤ a → n + 1 ≡ lowCount (i + 1) hs a
+  count-low {n} e q =
+      ap₂ _+_ e (sym (ap (λ (b : Bool). cond b 1 0) (le-leb (getD hs i 0) a q))) ∙ ap (λ (k : ℕ). lowCount k hs a) (sym (add-one i))
+
+  pub count-high : {n : ℕ} → n ≡ lowCount i hs a → a < getD hs i 0 → n ≡ lowCount (i + 1) hs a
+  count-high {n} e q =
+      e ∙ omega arith ∙ ap (λ (k : ℕ). lowCount i hs a + k) (sym (ap (λ (b : Bool). cond b 1 0) (lt-leb (getD hs i 0) a q))) ∙ ap (λ (k : ℕ). lowCount k hs a) (sym (add-one i))
+
+  pub count-fits : lowCount i hs a ≤ i
+  count-fits = count-le i (λ r. leb (getD hs (pred r) 0) a)
+
+-- an element that the code reads is one of 16 bits
+pub element-fits : (xs : List ℕ) (k : ℕ) {x : ℕ} → ((i : ℕ) → Fits w16 (getD xs i 0)) → x ≡ getD xs k 0 → Fits w16 x
+element-fits xs k f e = subst (λ (n : ℕ). Fits w16 n) (sym e) (f k)
+
+-- the first m heads
+pub count-front : (m : ℕ) (hs : List ℕ) (a : ℕ) → m ≤ length hs → lowCount (length (take m hs)) (take m hs) a ≡ lowCount m hs a
+count-front m hs a h =
+    ap (λ (k : ℕ). lowCount k (take m hs) a) (length-take-le m hs h)
+    ∙ sum-ext m _ _ (λ r l. ap (λ (k : ℕ). cond (leb k a) 1 0) (getD-take m hs r 0 l))
+
+-- ---- from the tables
+
+module _ {P : Program} {t : Totals} {hs ss bs ks xs ys : List ℕ} (T : Tabled P t hs ss bs ks xs ys) where
+  abbrev w : ℕ
+  w = t .sizes .w
+
+  abbrev gs : ℕ → ℕ
+  gs = groupSize P w
+
+  pub sizes-in : Bounded (t .sizes)
+  sizes-in = elements.bounded P t hs ss bs ks xs ys T
+
+  pub width-asks : {x : ℕ} → x ≡ w → (0 < x) × (x ≤ 7)
+  width-asks e = (omega (arith, e, elements.width-pos P t hs ss bs ks xs ys T), omega (arith, e, sizes-in .bits))
+
+  pub bodies-asks : (t .sizes .m ≤ 500) × (length ss ≡ 1001)
+  bodies-asks = (sizes-in .rules, elements.starts-length P t hs ss bs ks xs ys T)
+
+  pub heads-asks : (t .sizes .m ≤ 500) × (t .sizes .m ≤ length hs)
+  heads-asks = (sizes-in .rules, omega (arith, sizes-in .rules, elements.heads-length P t hs ss bs ks xs ys T))
+
+  -- ---- groups
+
+  module _ (g : ℕ) where
+    pub group-1 : g ≡ 1 → {x : ℕ} → x ≡ getD ss (2 * t .sizes .m) 0 + t .sizes .m → x ≡ gs g
+    group-1 e q = q ∙ bodies-group T ∙ ap gs (sym e)
+
+    pub group-2 : g ≡ 2 → {x y : ℕ} → x ≡ t .sizes .m → y ≡ t .sizes .n → x + y ≡ gs g
+    group-2 e p q = ap₂ _+_ p q ∙ atoms-group T ∙ ap gs (sym e)
+
+    module _ {k x v y : ℕ} (p : k ≡ itemsOf t g) (q : x ≡ k) (u : v ≡ w) (r : y ≡ fixedSize v g) where
+      size-is : y ≡ fixedSize w g
+      size-is = r ∙ ap (λ (b : ℕ). fixedSize b g) u
+
+      pub product-fits : x * y ≤ 39000
+      product-fits =
+          mul-le-mul {n₂ = 500} {m₂ = 78}
+          (subst (λ (n : ℕ). n ≤ 500) (sym (q ∙ p ∙ items-is T g)) (items-fit P (T .limits) g))
+          (subst (λ (n : ℕ). n ≤ 78) (sym size-is) (size-fits g w (elements.width-pos P t hs ss bs ks xs ys T) (sizes-in .bits) .1))
+
+      pub group-rest : 0 < g → g ≤ 5 → (g ≡ 1 → ⊥) → (g ≡ 2 → ⊥) → x * y ≡ gs g
+      group-rest h l a b = ap₂ _*_ (q ∙ p) size-is ∙ fixed-group T g h (omega (arith, l)) (fixed-of g a b l)
+
+  module _ {x : ℕ} (e : x ≡ t .sizes .n) where
+    pub last-in : x ≤ t .clauses
+    last-in = omega (arith, e, groups-all T, last-group T)
+
+    last-is : t .clauses - x ≡ sum 6 gs
+    last-is = omega (arith, e, groups-all T, last-group T)
+
+    pub before-last : {left : ℕ} → left < t .clauses - x → left < sum 6 gs
+    before-last h = omega (arith, h, last-is)
+
+    pub in-last : {left : ℕ} → t .clauses - x ≤ left → left < t .clauses → Falls 7 gs left (record { number = 7; left = left - (t .clauses - x) })
+    in-last h q =
+        record {
+          at = record { some = omega arith; within = omega arith; left-are = omega (arith, h, last-is) };
+          inside = omega (arith, h, q, last-is, groups-all T);
+        }
+
+  -- ---- items
+
+  pub atoms-before : (a : ℕ) {x : ℕ} → x ≡ lowCount (t .sizes .m) hs a + a → x ≡ sum a (itemSize P w 2)
+  atoms-before a e = e ∙ atoms-sum T a
+
+  pub rule-size : (g a : ℕ) → 0 < g → g ≤ 7 → isFixed g ≡ false → (g ≡ 2 → ⊥) → {x y : ℕ} → x ≡ size P w g a 1 → y ≡ x → y ≡ itemSize P w g a
+  rule-size g a h l f n p q = q ∙ p ∙ rule-item P w g h l f n a
+
+  -- all atoms
+  pub atoms-all : {left : ℕ} → left < gs 2 → Between (itemCount P 2) (itemSize P w 2) left 0 (t .sizes .n)
+  atoms-all {left} h = subst (λ (n : ℕ). Between (itemCount P 2) (itemSize P w 2) left 0 n) (sym (items-is T 2)) (between-all h)
+
+  pub atoms-fit : {left a b : ℕ} → Between (itemCount P 2) (itemSize P w 2) left a b → b ≤ 500
+  atoms-fit B = omega (arith, B .within, items-fit P (T .limits) 2)
+
+  -- in group g, which is 2
+  pub falls-2 : {g left : ℕ} {r : Found} → g ≡ 2 → Falls (itemCount P 2) (itemSize P w 2) left r → Falls (itemCount P g) (itemSize P w g) left r
+  falls-2 {g} {left} {r} e F = subst (λ (k : ℕ). Falls (itemCount P k) (itemSize P w k) left r) (sym e) F
+
+  pub left-2 : {g left : ℕ} → g ≡ 2 → left < gs g → left < gs 2
+  left-2 {g} {left} e h = subst (λ (k : ℕ). left < gs k) e h
+
+  module _ {left v k : ℕ} (g : ℕ) (h : 0 < g) (l : g ≤ 7) (f : isFixed g ≡ true) (b : left < gs g) (u : v ≡ w) (r : k ≡ fixedSize v g) where
+    even-is : k ≡ fixedSize w g
+    even-is = r ∙ ap (λ (b : ℕ). fixedSize b g) u
+
+    pub even-some : 0 < k
+    even-some = subst (λ (n : ℕ). 0 < n) (sym even-is) (size-fits g w (elements.width-pos P t hs ss bs ks xs ys T) (sizes-in .bits) .0)
+
+    pub item-even : Falls (itemCount P g) (itemSize P w g) left (record { number = left / k + 1; left = left % k })
+    item-even = falls-even even-some (λ a q. fixed-item P w (elements.width-pos P t hs ss bs ks xs ys T) g h l f (suc a) ∙ sym even-is) b
+
+    pub even-fits : left / k < 500
+    even-fits = omega (arith, item-even .at .within, items-fit P (T .limits) g)
+
+  -- ---- the numbers of rows and items
+
+  module _ (g : ℕ) {n i : ℕ} where
+    pub row-below : n ≡ rowsOf (t .sizes) g → i < n → i < rowCount P w g
+    row-below e h = subst (λ (k : ℕ). i < k) (e ∙ rows-is T g) h
+
+    pub rows-end : n ≡ rowsOf (t .sizes) g → n ≤ i → rowCount P w g ≤ i
+    rows-end e h = subst (λ (k : ℕ). k ≤ i) (e ∙ rows-is T g) h
+
+    pub item-below : n ≡ itemsOf t g → i < n → i < itemCount P g
+    item-below e h = subst (λ (k : ℕ). i < k) (e ∙ items-is T g) h
+
+    pub items-end : n ≡ itemsOf t g → n ≤ i → itemCount P g ≤ i
+    items-end e h = subst (λ (k : ℕ). k ≤ i) (e ∙ items-is T g) h
+
+  -- row i of the item, where the search is
+  pub row-here : {g a i left at : ℕ} → 0 < g → g ≤ 7 → 0 < a → a ≤ itemCount P g → Passed (rowCount P w g) (size P w g a) left i at → RowAt P w g a i
+  row-here h l p q s = record { group-some = h; group-in = l; item-some = p; item-in = q; row-some = s .some; row-in = s .within }
+
+  -- row 1 of item a, where the search is
+  pub item-here : {g a left at : ℕ} → 0 < g → g ≤ 7 → Passed (itemCount P g) (itemSize P w g) left a at → RowAt P w g a 1
+  item-here {g} h l s = record { group-some = h; group-in = l; item-some = s .some; item-in = s .within; row-some = omega arith; row-in = row-some }
+    where
+      row-some : 0 < rowCount P w g
+      row-some = subst (λ (k : ℕ). 0 < k) (rows-is T g) (go (eqb g 2) (eqb g 4) (eqb g 5))
+        where
+          go : (b2 b4 b5 : Bool) → 0 < cond b2 (suc (t .sizes .m)) (cond b4 w (cond b5 (w + w) 1))
+          go true b4 b5 = omega arith
+          go false true b5 = elements.width-pos P t hs ss bs ks xs ys T
+          go false false true = omega (arith, elements.width-pos P t hs ss bs ks xs ys T)
+          go false false false = omega arith
+
+  module _ {g a i y : ℕ} (A : At P w g a i y) where
+    pub rows-left : {r : ℕ} → r ≡ rowsOf (t .sizes) g → i ≤ r
+    rows-left e = subst (λ (k : ℕ). i ≤ k) (sym (e ∙ rows-is T g)) (A .row-at .row-in)
+
+    pub items-left : {n : ℕ} → n ≡ itemsOf t g → a ≤ n
+    items-left e = subst (λ (k : ℕ). a ≤ k) (sym (e ∙ items-is T g)) (A .row-at .item-in)
+
+    pub spot-is : {x r n : ℕ} → x ≡ size P w g a i → r ≡ rowsOf (t .sizes) g → n ≡ itemsOf t g
+        → record { group = g; item = a; row = i; clause = y; clauses = x - y; rows = r - i; items = n - a } ≡ spot P w g a i y
+    spot-is p q e =
+        λ j. record {
+          group = g;
+          item = a;
+          row = i;
+          clause = y;
+          clauses = p j - y;
+          rows = (q ∙ rows-is T g) j - i;
+          items = (e ∙ items-is T g) j - a;
+        }

@@ -1,0 +1,209 @@
+-- How many clauses items and groups have.
+--   item-length, group-length, spots-length    as many spots as the sizes say
+--   fixed-item      each item of group 3, 4, 5 or 7
+--   rule-item       an item of group 1 or 6
+--   atoms-sum       the first a items of group 2
+--   bodies-group, atoms-group, fixed-group     group 1, group 2, and groups 3, 4, 5 and 7, from the tables
+--   groups-all      all groups have C clauses
+-- Assumes nothing.
+use Prim.Native.Nat.{ℕ, zero, suc, pred, _+_, _-_, _*_, _≤_, _<_}
+use native.Mathlib.Nat.{not-suc-le-zero, le-refl, zero-add, add-zero, add-suc}
+use native.Mathlib.Omega.{arith}
+use mathlib.Core.Path.{_≡_, refl, sym, _∙_, ap, ap₂, subst}
+use mathlib.Core.Logic.{_⊎_, inl, inr}
+use mathlib.Core.Bool.{Bool, true, false, cond, false≢true, true≢false}
+use mathlib.Core.List.{List}
+use lib.Dec.{eqb, leb}
+use lib.ListN.{length, getD}
+use borrow.Author.Tests.{eq-eqb, ne-eqb, le-leb, lt-leb}
+use Rattle.lists.specs.Lists.{sum}
+use Rattle.lists.proofs.Tests.{le-or-lt}
+use Rattle.lists.proofs.Growing.{one}
+use Rattle.lists.proofs.Tables.{sum-ext, sum-add, sum-const, sum-zero, length-tab, length-each}
+use Rattle.meaning.specs.Program.{Program}
+use Rattle.clause_walk.specs.Walk.{itemCount, rowCount, size, size2, headOf, bodyCount, chainSize, chainBit}
+use Rattle.reader_laws.specs.Breach.{kept}
+use Rattle.clause_tables.specs.declared.Totals.{Totals}
+use Rattle.clause_tables.specs.Tables.{Tabled}
+use Rattle.clause_table_laws.proofs.Elements.{rules-are, atoms-are, width-pos, head-is, head-atom, start-at}
+use Rattle.clause_layout.specs.Numbers.{itemsOf}
+use Rattle.clause_places.specs.Places.{spot, rowSpots, itemSpots, groupSpots, spots}
+use Rattle.clause_places.proofs.Steps.{items-is}
+use Rattle.clause_places.proofs.Numbers.{count-is}
+use Rattle.clause_finding.specs.Sizes.{itemSize, groupSize, lowCount, isFixed, fixedSize}
+
+-- ---- sums
+
+sum-append : (a b : ℕ) (f : ℕ → ℕ) → sum (a + b) f ≡ sum a f + sum b (λ i. f (a + i))
+sum-append a zero f = ap (λ (k : ℕ). sum k f) (add-zero a) ∙ sym (add-zero (sum a f))
+sum-append a (suc b) f =
+    ap (λ (k : ℕ). sum k f) (add-suc a b) ∙ ap₂ _+_ (sum-append a b f) (ap f (sym (add-suc a b)))
+    ∙ omega arith
+
+-- how many of the first m heads are a
+abbrev headCount : ℕ → List ℕ → ℕ → ℕ
+headCount m hs a = sum m (λ r. cond (eqb (getD hs (pred r) 0) a) 1 0)
+
+low-more : (m : ℕ) (hs : List ℕ) (a : ℕ) → lowCount m hs a + headCount m hs (suc a) ≡ lowCount m hs (suc a)
+low-more m hs a =
+    sym (sum-add m (λ r. cond (leb (getD hs (pred r) 0) a) 1 0) (λ r. cond (eqb (getD hs (pred r) 0) (suc a)) 1 0))
+    ∙ sum-ext m _ _ (λ r l. more (getD hs r 0) (le-or-lt (getD hs r 0) a) (le-or-lt (getD hs r 0) (suc a)))
+  where
+    more : (h : ℕ) → (h ≤ a) ⊎ (a < h) → (h ≤ suc a) ⊎ (suc a < h) → one (leb h a) + one (eqb h (suc a)) ≡ one (leb h (suc a))
+    more h (inl p) q = ap₂ _+_ (ap one (le-leb h a p)) (ap one (ne-eqb h (suc a) (λ e. omega (arith, e, p)))) ∙ sym (ap one (le-leb h (suc a) (omega (arith, p))))
+    more h (inr p) (inl q) = ap₂ _+_ (ap one (lt-leb h a p)) (ap one (eq-eqb h (suc a) (omega (arith, p, q)))) ∙ sym (ap one (le-leb h (suc a) q))
+    more h (inr p) (inr q) = ap₂ _+_ (ap one (lt-leb h a p)) (ap one (ne-eqb h (suc a) (λ e. omega (arith, e, q)))) ∙ sym (ap one (lt-leb h (suc a) q))
+
+-- ---- the spots
+
+module _ (P : Program) (w : ℕ) where
+  pub item-length : (g a : ℕ) → length (itemSpots P w g a) ≡ itemSize P w g a
+  item-length g a =
+      length-each (rowCount P w g) (rowSpots P w g a)
+      ∙ sum-ext (rowCount P w g) _ (size P w g a) (λ i h. length-tab (size P w g a (suc i)) (spot P w g a (suc i)))
+
+  pub group-length : (g : ℕ) → length (groupSpots P w g) ≡ groupSize P w g
+  group-length g =
+      length-each (itemCount P g) (itemSpots P w g) ∙ sum-ext (itemCount P g) _ (itemSize P w g) (λ a h. item-length g (suc a))
+
+  spots-length : length (spots P w) ≡ sum 7 (groupSize P w)
+  unfolding spots
+  spots-length = length-each 7 (groupSpots P w) ∙ sum-ext 7 (λ g. length (groupSpots P w g)) (groupSize P w) (λ g h. group-length (suc g))
+
+-- ---- items
+
+next-sum : (w : ℕ) → sum w (λ i. 2 * i) ≡ w * (w + 1)
+next-sum zero = refl
+next-sum (suc w) = omega (arith, next-sum w)
+
+chain-sum : (k : ℕ) → sum (suc k) chainSize ≡ 3 + 6 * k
+chain-sum zero = refl
+chain-sum (suc k) = omega (arith, chain-sum k, ap {B = ℕ} (λ (b : Bool). cond b 3 6) (ne-eqb (suc (suc k)) 1 (λ e. omega arith)))
+
+-- the two chains of a pair
+pair-sum : (w : ℕ) → 0 < w → sum (w + w) (λ i. chainSize (chainBit w i)) ≡ 12 * w - 6
+pair-sum zero p = absurd (not-suc-le-zero p)
+pair-sum (suc k) p =
+    sum-append (suc k) (suc k) (λ i. chainSize (chainBit (suc k) i))
+    ∙ ap₂ _+_
+    (sum-ext (suc k) _ chainSize (λ i h. ap (λ (b : Bool). chainSize (cond b (suc i) (suc i - suc k))) (le-leb (suc i) (suc k) h)))
+    (sum-ext (suc k) _ chainSize (λ i h.
+    ap (λ (b : Bool). chainSize (cond b (suc k + suc i) (suc k + suc i - suc k))) (lt-leb (suc k + suc i) (suc k) (omega arith)) ∙ ap chainSize (back (suc k) (suc i))))
+    ∙ omega (arith, chain-sum k)
+  where
+    back : (n i : ℕ) → n + i - n ≡ i
+    back n i = omega arith
+
+module _ (P : Program) (w : ℕ) where
+  pub fixed-item : 0 < w → (g : ℕ) → 0 < g → g ≤ 7 → isFixed g ≡ true → (a : ℕ) → itemSize P w g a ≡ fixedSize w g
+  unfolding rowCount size
+  fixed-item p zero h k e a = absurd (not-suc-le-zero h)
+  fixed-item p (suc zero) h k e a = absurd (false≢true e)
+  fixed-item p (suc (suc zero)) h k e a = absurd (false≢true e)
+  fixed-item p (suc (suc (suc zero))) h k e a = zero-add w
+  fixed-item p (suc (suc (suc (suc zero)))) h k e a = next-sum w
+  fixed-item p (suc (suc (suc (suc (suc zero))))) h k e a = pair-sum w p
+  fixed-item p (suc (suc (suc (suc (suc (suc zero)))))) h k e a = absurd (false≢true e)
+  fixed-item p (suc (suc (suc (suc (suc (suc (suc zero))))))) h k e a = refl
+  fixed-item p (suc (suc (suc (suc (suc (suc (suc (suc g)))))))) h k e a = absurd (omega (arith, k))
+
+  pub rule-item : (g : ℕ) → 0 < g → g ≤ 7 → isFixed g ≡ false → (g ≡ 2 → ⊥) → (a : ℕ) → size P w g a 1 ≡ itemSize P w g a
+  unfolding rowCount size
+  rule-item zero h k e f a = absurd (not-suc-le-zero h)
+  rule-item (suc zero) h k e f a = sym (zero-add (size P w 1 a 1))
+  rule-item (suc (suc zero)) h k e f a = absurd (f refl)
+  rule-item (suc (suc (suc zero))) h k e f a = absurd (true≢false e)
+  rule-item (suc (suc (suc (suc zero)))) h k e f a = absurd (true≢false e)
+  rule-item (suc (suc (suc (suc (suc zero))))) h k e f a = absurd (true≢false e)
+  rule-item (suc (suc (suc (suc (suc (suc zero)))))) h k e f a = sym (zero-add (size P w 6 a 1))
+  rule-item (suc (suc (suc (suc (suc (suc (suc zero))))))) h k e f a = absurd (true≢false e)
+  rule-item (suc (suc (suc (suc (suc (suc (suc (suc g)))))))) h k e f a = absurd (omega (arith, k))
+
+-- ---- from the tables
+
+rule-clauses : (P : Program) (w r : ℕ) → itemSize P w 1 r ≡ suc (bodyCount P r)
+unfolding rowCount size
+rule-clauses P w r = zero-add (suc (bodyCount P r))
+
+first-start : {P : Program} {t : Totals} {hs ss bs ks xs ys : List ℕ} → Tabled P t hs ss bs ks xs ys → getD ss 0 0 + 0 ≡ 0
+unfolding kept
+first-start T = ap (λ (l : List ℕ). getD l 0 0 + 0) (T .starts-are)
+
+module _ {P : Program} {t : Totals} {hs ss bs ks xs ys : List ℕ} (T : Tabled P t hs ss bs ks xs ys) where
+  abbrev w : ℕ
+  w = t .sizes .w
+
+  abbrev m : ℕ
+  m = t .sizes .m
+
+  rules : m ≡ length (P .rules)
+  rules = rules-are P t hs ss bs ks xs ys T
+
+  -- head r, from 0
+  head-at : (i : ℕ) → i < length (P .rules) → getD hs i 0 ≡ headOf P (suc i)
+  head-at i h = ap (λ (k : ℕ). getD hs k 0) (less i) ∙ head-is P t hs ss bs ks xs ys T (suc i) (omega arith) h
+    where
+      less : (i : ℕ) → i ≡ suc i - 1
+      less i = omega arith
+
+  atom-item : (a : ℕ) → headCount m hs a + 1 ≡ itemSize P w 2 a
+  unfolding rowCount size
+  atom-item a =
+      ap₂ _+_
+      (ap (λ (k : ℕ). headCount k hs a) rules
+      ∙ sum-ext (length (P .rules)) _ (size2 P a)
+      (λ i h. ap (λ (k : ℕ). cond (eqb k a) 1 0) (head-at i h) ∙ sym (ap (λ (b : Bool). cond b (cond (eqb (headOf P (suc i)) a) 1 0) 1) (le-leb (suc i) (length (P .rules)) h))))
+      (sym (ap (λ (b : Bool). cond b (cond (eqb (headOf P (suc (length (P .rules)))) a) 1 0) 1) (lt-leb (suc (length (P .rules))) (length (P .rules)) (omega arith))))
+
+  pub bodies-group : getD ss (2 * m) 0 + m ≡ groupSize P w 1
+  unfolding itemCount
+  bodies-group = ap (λ (k : ℕ). getD ss (2 * k) 0 + k) rules ∙ sym (go (length (P .rules)) (le-refl (length (P .rules))))
+    where
+      twice : (i : ℕ) → 2 * suc i ≡ 2 * i + 2
+      twice i = omega arith
+
+      go : (i : ℕ) → i ≤ length (P .rules) → sum i (itemSize P w 1) ≡ getD ss (2 * i) 0 + i
+      go zero h = sym (first-start T)
+      go (suc i) h =
+          let L = start-at P t hs ss bs ks xs ys T i h in
+          omega (
+            arith,
+            go i (omega (arith, h)),
+            rule-clauses P w (suc i),
+            L .first-up,
+            L .second-up,
+            L .count-are,
+            ap (λ (k : ℕ). getD ss k 0) (twice i),
+          )
+
+  head-in : (r : ℕ) → r < m → (0 < getD hs r 0) × (getD hs r 0 ≤ P .atoms)
+  head-in r h =
+      let k = subst (λ (n : ℕ). r < n) rules h in
+      subst (λ (a : ℕ). (0 < a) × (a ≤ P .atoms)) (sym (head-at r k)) (head-atom P (T .limits) (suc r) (omega arith) k)
+
+  pub atoms-sum : (a : ℕ) → lowCount m hs a + a ≡ sum a (itemSize P w 2)
+  atoms-sum zero =
+      ap (λ (k : ℕ). k + 0)
+      (sum-ext m _ (λ r. 0) (λ r h. ap {B = ℕ} (λ (b : Bool). cond b 1 0) (lt-leb (getD hs r 0) 0 (head-in r h .0))) ∙ sum-zero m)
+  atoms-sum (suc a) = omega (arith, atoms-sum a, low-more m hs a, atom-item (suc a))
+
+  pub atoms-group : m + t .sizes .n ≡ groupSize P w 2
+  unfolding itemCount
+  atoms-group =
+      ap₂ _+_
+      (sym (sum-ext m _ (λ r. 1) (λ r h. ap {B = ℕ} (λ (b : Bool). cond b 1 0) (le-leb (getD hs r 0) (P .atoms) (head-in r h .1))) ∙ sum-const m 1 ∙ omega arith))
+      (atoms-are P t hs ss bs ks xs ys T)
+      ∙ atoms-sum (P .atoms)
+
+  pub fixed-group : (g : ℕ) → 0 < g → g ≤ 7 → isFixed g ≡ true → itemsOf t g * fixedSize w g ≡ groupSize P w g
+  fixed-group g h k e =
+      ap (λ (n : ℕ). n * fixedSize w g) (items-is T g)
+      ∙ sym
+      (sum-ext (itemCount P g) (itemSize P w g) (λ a. fixedSize w g) (λ a l. fixed-item P w (width-pos P t hs ss bs ks xs ys T) g h k e (suc a))
+      ∙ sum-const (itemCount P g) (fixedSize w g))
+
+  pub groups-all : sum 7 (groupSize P w) ≡ t .clauses
+  groups-all = sym (spots-length P w) ∙ count-is T
+
+  pub last-group : groupSize P w 7 ≡ t .sizes .n
+  last-group = sym (fixed-group 7 (omega arith) (omega arith) refl) ∙ omega arith

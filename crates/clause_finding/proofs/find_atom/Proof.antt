@@ -1,0 +1,67 @@
+use Rattle.clause_finding.proofs.Coded.{heads-asks, atoms-before, atoms-all, atoms-fit}
+use Rattle.clause_finding.proofs.Falling.{between-low, between-high, falls-between}
+use Rattle.clause_finding.specs.Sizes.{itemSize}
+use Rattle.clause_finding.specs.Falls.{Between}
+use Rattle.clause_walk.specs.Walk.{itemCount}
+use Rattle.clause_tables.specs.Tables.{programIn}
+use native.Mathlib.Omega.{arith}
+use Prim.Native.Nat.{_-_}
+use Rattle.clause_finding.proofs.find_atom.Statement.{statement}
+use Rattle.clause_finding.proofs.find_atom.Tie as tie
+
+abbrev Inv-loop : tie.InvT-loop
+Inv-loop t heads starts bodies before partners owners left low₀ high₀ low high = Between (itemCount (programIn (t .sizes) heads starts bodies) 2) (itemSize (programIn (t .sizes) heads starts bodies) (t .sizes .w) 2) left low high
+
+abbrev μ-loop : tie.MeasureT-loop
+μ-loop t heads starts bodies before partners owners left low₀ high₀ low high = high - low
+
+loop-holds : tie.Need-loop-holds Inv-loop μ-loop
+loop-holds c = atoms-all (c .before .before .before .before .before .before .pre .0) (c .before .before .before .before .before .before .pre .1)
+
+add-loop : tie.Need-add-loop Inv-loop μ-loop
+add-loop c = omega (arith, atoms-fit (c .before .before .before .before .before .before .before .pre .0) (c .loop .inv), c .loop .inv .some)
+
+add-middle : tie.Need-add-middle Inv-loop μ-loop
+add-middle c = omega (arith, atoms-fit (c .before .before .before .before .before .before .before .before .pre .0) (c .before .loop .inv), c .before .loop .inv .some)
+
+atoms-size-requires : tie.Need-atoms-size-requires Inv-loop μ-loop
+atoms-size-requires c κs = heads-asks (c .before .before .before .before .before .before .before .before .pre .0)
+
+loop-less : tie.Need-loop-less Inv-loop μ-loop
+loop-less c = omega (arith, c .before .before .loop-test .taken)
+
+loop-again : tie.Need-loop-again Inv-loop μ-loop
+loop-again c = between-high (c .before .before .before .loop .inv) (omega (arith, c .before .before .loop-test .taken)) (omega (arith, c .before .before .loop-test .taken)) (atoms-before (c .before .before .before .before .before .before .before .before .before .before .pre .0) _ (c .before .atoms-size .ensures)) (c .if1 .taken)
+
+loop-less-2 : tie.Need-loop-less-2 Inv-loop μ-loop
+loop-less-2 c = omega (arith, c .before .before .loop-test .taken)
+
+loop-again-2 : tie.Need-loop-again-2 Inv-loop μ-loop
+loop-again-2 c = between-low (c .before .before .before .loop .inv) (omega (arith, c .before .before .loop-test .taken)) (atoms-before (c .before .before .before .before .before .before .before .before .before .before .pre .0) _ (c .before .atoms-size .ensures)) (c .if1 .left)
+
+atoms-size-requires-2 : tie.Need-atoms-size-requires-2 Inv-loop μ-loop
+atoms-size-requires-2 c κs = heads-asks (c .before .before .before .before .before .before .before .before .pre .0)
+
+sub-t16 : tie.Need-sub-t16 Inv-loop μ-loop
+sub-t16 c = omega (arith, c .before .before .loop .inv .low, atoms-before (c .before .before .before .before .before .before .before .before .before .pre .0) (c .before .before .loop .low) (c .atoms-size2 .ensures))
+
+returns : tie.Need-returns Inv-loop μ-loop
+returns c = falls-between (c .before .before .loop .inv) (c .before .loop-test .left) (atoms-before (c .before .before .before .before .before .before .before .before .before .pre .0) _ (c .atoms-size2 .ensures))
+
+pub find-atom-spec : {M : Type 1} → statement M
+find-atom-spec =
+    tie.close
+    (tie.spec
+    Inv-loop
+    μ-loop
+    loop-holds
+    add-loop
+    add-middle
+    atoms-size-requires
+    loop-less
+    loop-again
+    loop-less-2
+    loop-again-2
+    atoms-size-requires-2
+    sub-t16
+    returns)

@@ -1,0 +1,367 @@
+// The place of clause j, found by passing whole groups, items and rows.
+use clause_layout::items;
+use clause_layout::rows;
+use clause_layout::size;
+use clause_places::Place;
+use clause_places::Spot;
+use clause_places::start;
+use clause_tables::Totals;
+use numbers::wide;
+ghost use Prim.Native.Nat.{_+_, _*_, _≤_, _<_};
+ghost use mathlib.Core.Path.{_≡_};
+ghost use mathlib.Core.Bool.{false};
+ghost use lib.ListN.{length, getD};
+ghost use Rattle.clause_walk.specs.Walk.{itemCount, rowCount, size as sizeAt, At};
+ghost use Rattle.clause_tables.specs.Tables.{programIn, Ready};
+ghost use Rattle.clause_places.specs.Places.{spot, placeAt};
+ghost use Rattle.clause_finding.specs.Falls.{Falls};
+ghost use Rattle.clause_finding.specs.Sizes.{itemSize, groupSize, lowCount, isFixed, fixedSize};
+
+// A part, from 1, of several that follow one another, and how many clauses of that part stand before the one looked for.
+pub struct Found {
+    pub number: u16,
+    pub left: usize,
+}
+
+// Whether the items of group g have one size.
+fn is_fixed(g: u16) -> bool
+    ensures { λ r. ⌜ r ≡ isFixed g ⌝ }
+{
+    if g == 1 {
+        return false;
+    }
+    if g == 2 {
+        return false;
+    }
+    g != 6
+}
+
+// How many clauses each item of group 3, 4, 5 or 7 has.
+fn fixed_size(w: usize, g: u16) -> usize
+    requires { ⌜ (0 < w) × (w ≤ 7) ⌝ }
+    ensures { λ r. ⌜ r ≡ fixedSize w g ⌝ }
+{
+    if g == 3 {
+        return w;
+    }
+    if g == 4 {
+        return w * (w + 1);
+    }
+    if g == 5 {
+        return 12 * w - 6;
+    }
+    1
+}
+
+// How many heads are at most a.
+fn low_count(heads: &[u16], a: u16) -> u16
+    requires { ⌜ length (now heads) ≤ 500 ⌝ }
+    ensures { λ r. ⌜ r ≡ lowCount (length (now (heads .entry))) (now (heads .entry)) a ⌝ }
+{
+    let mut n: u16 = 0;
+    let mut i: usize = 0;
+    while i < heads.len() {
+        if heads[i] <= a {
+            n += 1;
+        }
+        i += 1;
+    }
+    n
+}
+
+// Group 2: how many clauses atoms 1 to a have.
+fn atoms_size(m: u16, heads: &[u16], a: u16) -> usize
+    requires { ⌜ (m ≤ 500) × (m ≤ length (now heads)) ⌝ }
+    ensures { λ r. ⌜ r ≡ lowCount m (now (heads .entry)) a + a ⌝ }
+{
+    wide(low_count(&heads[..m as usize], a)) + wide(a)
+}
+
+// Group 1: how many clauses its m rules have, from where the body atoms of the last rule end.
+fn bodies_size(m: u16, starts: &[u16]) -> usize
+    requires { ⌜ (m ≤ 500) × (length (now starts) ≡ 1001) ⌝ }
+    ensures { λ r. ⌜ r ≡ getD (now (starts .entry)) (2 * m) 0 + m ⌝ }
+{
+    let end = 2 * wide(m);
+    wide(starts[end]) + wide(m)
+}
+
+// How many clauses group g has, from 1 to 5.
+fn group_size<'a>(
+    t: Totals,
+    heads: &'a [u16],
+    starts: &'a [u16],
+    bodies: &'a [u16],
+    before: &'a [u16],
+    partners: &'a [u16],
+    owners: &'a [u16],
+    g: u16,
+) -> usize
+    requires { ⌜ (Ready t (now heads) (now starts) (now bodies) (now before) (now partners) (now owners)) × (0 < g) × (g ≤ 5) ⌝ }
+    ensures { λ r. ⌜ r ≡ groupSize (programIn (t .sizes) (now (heads .entry)) (now (starts .entry)) (now (bodies .entry))) (t .sizes .w) g ⌝ }
+{
+    if g == 1 {
+        return bodies_size(t.sizes.m, starts);
+    }
+    if g == 2 {
+        return wide(t.sizes.m) + wide(t.sizes.n);
+    }
+    wide(items(t, g)) * fixed_size(wide(t.sizes.w), g)
+}
+
+// The group with the clause behind `left` others.
+fn find_group<'a>(
+    t: Totals,
+    heads: &'a [u16],
+    starts: &'a [u16],
+    bodies: &'a [u16],
+    before: &'a [u16],
+    partners: &'a [u16],
+    owners: &'a [u16],
+    left: usize,
+) -> Found
+    requires { ⌜ (Ready t (now heads) (now starts) (now bodies) (now before) (now partners) (now owners)) × (left < t .clauses) ⌝ }
+    ensures { λ r. ⌜ Falls 7 (groupSize (programIn (t .sizes) (now (heads .entry)) (now (starts .entry)) (now (bodies .entry))) (t .sizes .w)) left r ⌝ }
+{
+    let last = t.clauses - wide(t.sizes.n);
+    if last <= left {
+        return Found {
+            number: 7,
+            left: left - last,
+        };
+    }
+    let mut g: u16 = 1;
+    let mut at = left;
+    while g < 6 {
+        let k = group_size(t, heads, starts, bodies, before, partners, owners, g);
+        if at < k {
+            return Found {
+                number: g,
+                left: at,
+            };
+        }
+        at -= k;
+        g += 1;
+    }
+    Found {
+        number: g,
+        left: at,
+    }
+}
+
+// Group 2: the atom with the clause behind `left` others of the group, by halving.
+fn find_atom<'a>(
+    t: Totals,
+    heads: &'a [u16],
+    starts: &'a [u16],
+    bodies: &'a [u16],
+    before: &'a [u16],
+    partners: &'a [u16],
+    owners: &'a [u16],
+    left: usize,
+) -> Found
+    requires { ⌜ (Ready t (now heads) (now starts) (now bodies) (now before) (now partners) (now owners)) × (left < groupSize (programIn (t .sizes) (now heads) (now starts) (now bodies)) (t .sizes .w) 2) ⌝ }
+    ensures { λ r. ⌜ Falls (itemCount (programIn (t .sizes) (now (heads .entry)) (now (starts .entry)) (now (bodies .entry))) 2) (itemSize (programIn (t .sizes) (now (heads .entry)) (now (starts .entry)) (now (bodies .entry))) (t .sizes .w) 2) left r ⌝ }
+{
+    let mut low: u16 = 0;
+    let mut high = t.sizes.n;
+    while low + 1 < high {
+        let middle = (low + high) / 2;
+        if left < atoms_size(t.sizes.m, heads, middle) {
+            high = middle;
+        } else {
+            low = middle;
+        }
+    }
+    Found {
+        number: high,
+        left: left - atoms_size(t.sizes.m, heads, low),
+    }
+}
+
+// The rule of group 1 or 6 with the clause behind `left` others of the group.
+fn find_rule<'a>(
+    t: Totals,
+    heads: &'a [u16],
+    starts: &'a [u16],
+    bodies: &'a [u16],
+    before: &'a [u16],
+    partners: &'a [u16],
+    owners: &'a [u16],
+    g: u16,
+    left: usize,
+) -> Found
+    requires { ⌜ (Ready t (now heads) (now starts) (now bodies) (now before) (now partners) (now owners)) × (0 < g) × (g ≤ 7) × (isFixed g ≡ false) × (g ≡ 2 → ⊥) × (left < groupSize (programIn (t .sizes) (now heads) (now starts) (now bodies)) (t .sizes .w) g) ⌝ }
+    ensures { λ r. ⌜ Falls (itemCount (programIn (t .sizes) (now (heads .entry)) (now (starts .entry)) (now (bodies .entry))) g) (itemSize (programIn (t .sizes) (now (heads .entry)) (now (starts .entry)) (now (bodies .entry))) (t .sizes .w) g) left r ⌝ }
+{
+    let n = items(t, g);
+    let mut a: u16 = 1;
+    let mut at = left;
+    while a < n {
+        let k = wide(size(t, heads, starts, bodies, before, partners, owners, g, a, 1));
+        if at < k {
+            return Found {
+                number: a,
+                left: at,
+            };
+        }
+        at -= k;
+        a += 1;
+    }
+    Found {
+        number: a,
+        left: at,
+    }
+}
+
+// The item of group g with the clause behind `left` others of the group. Items of one size are passed by a division.
+fn find_item<'a>(
+    t: Totals,
+    heads: &'a [u16],
+    starts: &'a [u16],
+    bodies: &'a [u16],
+    before: &'a [u16],
+    partners: &'a [u16],
+    owners: &'a [u16],
+    g: u16,
+    left: usize,
+) -> Found
+    requires { ⌜ (Ready t (now heads) (now starts) (now bodies) (now before) (now partners) (now owners)) × (0 < g) × (g ≤ 7) × (left < groupSize (programIn (t .sizes) (now heads) (now starts) (now bodies)) (t .sizes .w) g) ⌝ }
+    ensures { λ r. ⌜ Falls (itemCount (programIn (t .sizes) (now (heads .entry)) (now (starts .entry)) (now (bodies .entry))) g) (itemSize (programIn (t .sizes) (now (heads .entry)) (now (starts .entry)) (now (bodies .entry))) (t .sizes .w) g) left r ⌝ }
+{
+    if is_fixed(g) {
+        let k = fixed_size(wide(t.sizes.w), g);
+        let q = left / k;
+        return Found {
+            number: q as u16 + 1,
+            left: left % k,
+        };
+    }
+    if g == 2 {
+        return find_atom(t, heads, starts, bodies, before, partners, owners, left);
+    }
+    find_rule(t, heads, starts, bodies, before, partners, owners, g, left)
+}
+
+// The row of item a of group g with the clause behind `left` others of the item.
+fn find_row<'a>(
+    t: Totals,
+    heads: &'a [u16],
+    starts: &'a [u16],
+    bodies: &'a [u16],
+    before: &'a [u16],
+    partners: &'a [u16],
+    owners: &'a [u16],
+    g: u16,
+    a: u16,
+    left: usize,
+) -> Found
+    requires { ⌜ (Ready t (now heads) (now starts) (now bodies) (now before) (now partners) (now owners)) × (0 < g) × (g ≤ 7) × (0 < a) × (a ≤ itemCount (programIn (t .sizes) (now heads) (now starts) (now bodies)) g) × (left < itemSize (programIn (t .sizes) (now heads) (now starts) (now bodies)) (t .sizes .w) g a) ⌝ }
+    ensures { λ r. ⌜ Falls (rowCount (programIn (t .sizes) (now (heads .entry)) (now (starts .entry)) (now (bodies .entry))) (t .sizes .w) g) (sizeAt (programIn (t .sizes) (now (heads .entry)) (now (starts .entry)) (now (bodies .entry))) (t .sizes .w) g a) left r ⌝ }
+{
+    let n = rows(t.sizes, g);
+    let mut i: u16 = 1;
+    let mut at = left;
+    while i < n {
+        let k = wide(size(t, heads, starts, bodies, before, partners, owners, g, a, i));
+        if at < k {
+            return Found {
+                number: i,
+                left: at,
+            };
+        }
+        at -= k;
+        i += 1;
+    }
+    Found {
+        number: i,
+        left: at,
+    }
+}
+
+// Where clause y of row i of item a of group g stands.
+fn spot_at<'a>(
+    t: Totals,
+    heads: &'a [u16],
+    starts: &'a [u16],
+    bodies: &'a [u16],
+    before: &'a [u16],
+    partners: &'a [u16],
+    owners: &'a [u16],
+    g: u16,
+    a: u16,
+    i: u16,
+    y: u16,
+) -> Spot
+    requires { ⌜ (Ready t (now heads) (now starts) (now bodies) (now before) (now partners) (now owners)) × (At (programIn (t .sizes) (now heads) (now starts) (now bodies)) (t .sizes .w) g a i y) ⌝ }
+    ensures { λ r. ⌜ r ≡ spot (programIn (t .sizes) (now (heads .entry)) (now (starts .entry)) (now (bodies .entry))) (t .sizes .w) g a i y ⌝ }
+{
+    Spot {
+        group: g,
+        item: a,
+        row: i,
+        clause: y,
+        clauses: size(t, heads, starts, bodies, before, partners, owners, g, a, i) - y,
+        rows: rows(t.sizes, g) - i,
+        items: items(t, g) - a,
+    }
+}
+
+// The place of line j.
+pub fn place_of<'a>(
+    t: Totals,
+    heads: &'a [u16],
+    starts: &'a [u16],
+    bodies: &'a [u16],
+    before: &'a [u16],
+    partners: &'a [u16],
+    owners: &'a [u16],
+    j: usize,
+) -> Place
+    requires { ⌜ (Ready t (now heads) (now starts) (now bodies) (now before) (now partners) (now owners)) × (j ≤ t .clauses) ⌝ }
+    ensures { λ r. ⌜ r ≡ placeAt (programIn (t .sizes) (now (heads .entry)) (now (starts .entry)) (now (bodies .entry))) (t .sizes .w) j ⌝ }
+{
+    if j == 0 {
+        return start(t, heads, starts, bodies, before, partners, owners);
+    }
+    let g = find_group(t, heads, starts, bodies, before, partners, owners, j - 1);
+    let a = find_item(
+        t,
+        heads,
+        starts,
+        bodies,
+        before,
+        partners,
+        owners,
+        g.number,
+        g.left,
+    );
+    let i = find_row(
+        t,
+        heads,
+        starts,
+        bodies,
+        before,
+        partners,
+        owners,
+        g.number,
+        a.number,
+        a.left,
+    );
+    Place {
+        number: j,
+        spot: spot_at(
+            t,
+            heads,
+            starts,
+            bodies,
+            before,
+            partners,
+            owners,
+            g.number,
+            a.number,
+            i.number,
+            i.left as u16 + 1,
+        ),
+    }
+}

@@ -1,0 +1,70 @@
+use native.Mathlib.Omega.{arith}
+use Rattle.clause_layout.proofs.Groups.{rule1, rule6, bits4, bounded, heads-in, span-asks1, span-asks2, span-fits1, span-fits2, size-body, size-implied, size-zero, size-next, size-pair, size-rule, size-last}
+use borrow.Author.Needs.{needs}
+use Rattle.clause_layout.proofs.size.Statement.{statement}
+use Rattle.clause_layout.proofs.size.Tie as tie
+
+span-requires : tie.Need-span-requires
+span-requires c κs = span-asks2 (c .before .before .before .before .before .before .before .before .pre .0) (c .before .before .before .before .before .before .before .before .pre .1) (rule1 (c .before .before .before .before .before .before .before .before .pre .0) (c .before .before .before .before .before .before .before .before .pre .1) (c .if1 .taken))
+
+add-result : tie.Need-add-result
+add-result c = omega (arith, span-fits2 (c .before .before .before .before .before .before .before .before .before .pre .0) (c .before .before .before .before .before .before .before .before .before .pre .1) (rule1 (c .before .before .before .before .before .before .before .before .before .pre .0) (c .before .before .before .before .before .before .before .before .before .pre .1) (c .before .if1 .taken)) (c .span .ensures))
+
+returns : tie.Need-returns
+returns c = size-body (c .before .before .before .before .before .before .before .before .before .pre .0) (c .before .before .before .before .before .before .before .before .before .pre .1) (c .before .if1 .taken) (c .span .ensures)
+
+implied-size-requires : tie.Need-implied-size-requires
+implied-size-requires c κs = (heads-in (c .before .before .before .before .before .before .before .before .before .pre .0) (c .before .before .before .before .before .before .before .before .before .pre .1), c .before .before .before .before .before .before .before .before .before .pre .1 .row-some)
+
+returns-2 : tie.Need-returns-2
+returns-2 c = size-implied (c .before .before .before .before .before .before .before .before .before .before .pre .0) (c .before .before .before .before .before .before .before .before .before .before .pre .1) (c .before .if2 .taken) (c .implied-size .ensures)
+
+returns-3 : tie.Need-returns-3
+returns-3 c = size-zero (c .before .before .before .before .before .before .before .before .before .before .pre .0) (c .before .before .before .before .before .before .before .before .before .before .pre .1) (c .if3 .taken)
+
+mul-result : tie.Need-mul-result
+mul-result c = omega (arith, bits4 (c .before .before .before .before .before .before .before .before .before .before .before .pre .0) (c .before .before .before .before .before .before .before .before .before .before .before .pre .1) (c .if4 .taken))
+
+returns-4 : tie.Need-returns-4
+returns-4 c = size-next (c .before .before .before .before .before .before .before .before .before .before .before .pre .0) (c .before .before .before .before .before .before .before .before .before .before .before .pre .1) (c .if4 .taken)
+
+chain-bit-requires : tie.Need-chain-bit-requires
+chain-bit-requires c κs = search needs
+
+chain-size-requires : tie.Need-chain-size-requires
+chain-size-requires c κs = search needs
+
+returns-5 : tie.Need-returns-5
+returns-5 c = size-pair (c .before .before .before .before .before .before .before .before .before .before .before .before .before .before .pre .0) (c .before .before .before .before .before .before .before .before .before .before .before .before .before .before .pre .1) (c .before .before .if5 .taken) (c .before .chain-bit .ensures) (c .chain-size .ensures)
+
+span-requires-2 : tie.Need-span-requires-2
+span-requires-2 c κs = span-asks1 (c .before .before .before .before .before .before .before .before .before .before .before .before .before .pre .0) (c .before .before .before .before .before .before .before .before .before .before .before .before .before .pre .1) (rule6 (c .before .before .before .before .before .before .before .before .before .before .before .before .before .pre .0) (c .before .before .before .before .before .before .before .before .before .before .before .before .before .pre .1) (c .if6 .taken))
+
+rule-size-requires : tie.Need-rule-size-requires
+rule-size-requires c κs = (bounded (c .before .before .before .before .before .before .before .before .before .before .before .before .before .before .pre .0) .bits, span-fits1 (c .before .before .before .before .before .before .before .before .before .before .before .before .before .before .pre .0) (c .before .before .before .before .before .before .before .before .before .before .before .before .before .before .pre .1) (rule6 (c .before .before .before .before .before .before .before .before .before .before .before .before .before .before .pre .0) (c .before .before .before .before .before .before .before .before .before .before .before .before .before .before .pre .1) (c .before .if6 .taken)) (c .span2 .ensures))
+
+returns-6 : tie.Need-returns-6
+returns-6 c = size-rule (c .before .before .before .before .before .before .before .before .before .before .before .before .before .before .before .pre .0) (c .before .before .before .before .before .before .before .before .before .before .before .before .before .before .before .pre .1) (c .before .before .if6 .taken) (c .before .span2 .ensures) (c .rule-size .ensures)
+
+returns-7 : tie.Need-returns-7
+returns-7 c = size-last (c .before .before .before .before .before .before .before .before .before .before .before .before .before .pre .0) (c .before .before .before .before .before .before .before .before .before .before .before .before .before .pre .1) (record { not1 = c .before .before .before .before .before .if1 .left; not2 = c .before .before .before .before .if2 .left; not3 = c .before .before .before .if3 .left; not4 = c .before .before .if4 .left; not5 = c .before .if5 .left; not6 = c .if6 .left })
+
+pub size-spec : {M : Type 1} → statement M
+size-spec =
+    tie.close
+    (tie.spec
+    span-requires
+    add-result
+    returns
+    implied-size-requires
+    returns-2
+    returns-3
+    mul-result
+    returns-4
+    chain-bit-requires
+    chain-size-requires
+    returns-5
+    span-requires-2
+    rule-size-requires
+    returns-6
+    returns-7)

@@ -1,0 +1,107 @@
+-- The lines by the places of the clauses, from the tables.
+--   lines-count     there are C + 1 lines
+--   header-is       line 0
+--   clause-is       line n, from the place of clause n
+--   line-short      no line passes 3,008 bytes
+-- Assumes nothing.
+use Prim.Native.Nat.{ℕ, zero, suc, pred, _+_, _≤_, _<_, _^_}
+use native.Mathlib.Nat.{not-suc-le-zero, le-trans, pos-of-ne-zero}
+use native.Mathlib.Omega.{arith}
+use mathlib.Core.Path.{_≡_, sym, _∙_, ap, ap₂, subst}
+use mathlib.Core.List.{List, [], _++_}
+use lib.ListN.{length, getD, drop, length-map}
+use lib.Dec.{leb}
+use mathlib.Core.Bool.{true}
+use borrow.Author.Tests.{le-leb}
+use Rattle.lists.proofs.Tables.{getD-map}
+use Rattle.meaning.specs.Program.{Program}
+use Rattle.encoding.specs.Width.{width}
+use Rattle.encoding.specs.Clauses.{clauses}
+use Rattle.theory.proofs.Widths.{width-enough}
+use Rattle.theory.proofs.Counts.{count-whole}
+use Rattle.digits.specs.Bytes.{lineText}
+use Rattle.digits.proofs.Lengths.{line-length}
+use Rattle.clause_walk.specs.Walk.{clauseAt}
+use Rattle.clause_tables.specs.declared.Totals.{Totals}
+use Rattle.clause_tables.specs.Tables.{Tabled}
+use Rattle.clause_table_laws.proofs.Elements.{width-are, vars-are, clauses-are}
+use Rattle.clause_table_laws.proofs.Bounds.{variables-fit, clauses-fit, lines-fit}
+use Rattle.clause_text.specs.Lines.{headerText}
+use Rattle.clause_text.proofs.Parts.{header-small, header-length}
+use Rattle.clause_places.specs.declared.Place.{Place}
+use Rattle.clause_places.specs.Places.{placeAt}
+use Rattle.clause_places.proofs.Numbers.{placed-clause}
+use Rattle.clause_runs.specs.Lines.{linesOf, lineOf, clauseTotal}
+
+module _ {P : Program} {t : Totals} {hs ss bs ks xs ys : List ℕ} (T : Tabled P t hs ss bs ks xs ys) where
+  abbrev w : ℕ
+  w = t .sizes .w
+
+  widths : w ≡ width (P .atoms)
+  widths = width-are P t hs ss bs ks xs ys T
+
+  pub total-is : t .clauses ≡ clauseTotal P
+  total-is = clauses-are P t hs ss bs ks xs ys T
+
+  pub vars-short : t .vars ≤ 9890
+  vars-short = subst (λ (k : ℕ). k ≤ 9890) (sym (vars-are P t hs ss bs ks xs ys T)) (variables-fit P (T .limits))
+
+  pub clauses-short : t .clauses ≤ 53690
+  clauses-short = subst (λ (k : ℕ). k ≤ 53690) (sym total-is) (clauses-fit P (T .limits))
+
+  pub header-asks : (t .vars < 2 ^ 32) × (t .clauses < 2 ^ 32)
+  header-asks = (omega (arith, vars-short), omega (arith, clauses-short))
+
+  clauses-many : length (clauses P (width (P .atoms))) ≡ t .clauses
+  clauses-many = count-whole P (width (P .atoms)) (T .limits .all-atoms) (width-enough (P .atoms)) ∙ sym total-is
+
+  pub lines-count : length (linesOf P) ≡ suc (t .clauses)
+  unfolding linesOf
+  lines-count = ap suc (length-map (clauses P (width (P .atoms))) lineText ∙ clauses-many)
+
+  pub header-is : headerText (t .vars) (t .clauses) ≡ lineOf P 0
+  unfolding linesOf
+  header-is = ap₂ headerText (vars-are P t hs ss bs ks xs ys T) total-is
+
+  pub line-of-clause : (n : ℕ) → 0 < n → n ≤ t .clauses → lineText (getD (clauses P (width (P .atoms))) (pred n) []) ≡ lineOf P n
+  unfolding linesOf
+  line-of-clause zero p h = absurd (not-suc-le-zero p)
+  line-of-clause (suc n) p h =
+      sym (getD-map lineText (clauses P (width (P .atoms))) [] [] n (subst (λ (k : ℕ). n < k) (sym clauses-many) h))
+
+  -- ---- at the place of clause n
+
+  pub clause-is : {c : Place} → c ≡ placeAt P w (c .number) → 0 < c .number → c .number ≤ t .clauses
+      → lineText (clauseAt P w (c .spot .group) (c .spot .item) (c .spot .row) (c .spot .clause)) ≡ lineOf P (c .number)
+  clause-is {c} e p h = ap lineText (placed-clause T e p h) ∙ line-of-clause (c .number) p h
+
+  -- ---- lengths
+
+  pub line-short : (n : ℕ) → n ≤ t .clauses → length (lineOf P n) ≤ 3008
+  line-short zero h = subst (λ (l : List ℕ). length l ≤ 3008) header-is (le-trans (header-small (t .vars) (t .clauses) (header-asks .0) (header-asks .1)) (omega arith))
+  line-short (suc n) h =
+      subst (λ (l : List ℕ). length l ≤ 3008) (line-of-clause (suc n) (omega arith) h) (lines-fit P (T .limits) n (subst (λ (k : ℕ). n < k) (sym clauses-many) h))
+
+  pub short-fits : (n : ℕ) {room : ℕ} → n ≤ t .clauses → 3008 ≤ room → true ≡ leb (length (lineOf P n)) room
+  short-fits n {room} h k = sym (le-leb (length (lineOf P n)) room (le-trans (line-short n h) k))
+
+  -- a line has bytes
+  pub line-some : (n : ℕ) → n ≤ t .clauses → 0 < length (lineOf P n)
+  line-some zero h = subst (λ (l : List ℕ). 0 < length l) header-is (omega (arith, header-length (t .vars) (t .clauses)))
+  line-some (suc n) h =
+      subst (λ (l : List ℕ). 0 < length l) (line-of-clause (suc n) (omega arith) h) (omega (arith, line-length (getD (clauses P (width (P .atoms))) n [])))
+
+-- ---- what code has in its hands
+
+pub some-number : {n : ℕ} → (n ≡ 0 → ⊥) → 0 < n
+some-number f = pos-of-ne-zero f
+
+pub line-in-room : {l m : List ℕ} {n : ℕ} → l ≡ m → length m ≤ n → length l ≤ n
+line-in-room {l} {m} {n} e h = subst (λ (x : List ℕ). length x ≤ n) (sym e) h
+
+-- a buffer that begins with l, where l is m
+pub as-line : (b : List ℕ) {l m c : List ℕ} {r : ℕ} → l ≡ m → r ≡ length l → c ≡ l ++ drop r b → (r ≡ length m) × (c ≡ m ++ drop r b)
+as-line b {l} {m} {c} {r} e p q = (p ∙ ap length e, q ∙ ap (λ (x : List ℕ). x ++ drop r b) e)
+
+pub header-line : {P : Program} {t : Totals} {hs ss bs ks xs ys : List ℕ} → Tabled P t hs ss bs ks xs ys → {n : ℕ} → n ≡ 0 → headerText (t .vars) (t .clauses) ≡ lineOf P n
+header-line {P} T e = header-is T ∙ ap (lineOf P) (sym e)

@@ -1,0 +1,117 @@
+-- One line, and the lines of a whole row, written at the front of a buffer.
+--   one-taken     one line
+--   row-asks      what is asked at the first clause of a row
+--   row-taken     the lines of a row
+-- Assumes nothing.
+use Prim.Native.Nat.{ℕ, zero, suc, pred, _+_, _^_, _≤_, _<_}
+use native.Mathlib.Nat.{le-trans}
+use native.Mathlib.Omega.{arith}
+use mathlib.Core.Path.{_≡_, refl, sym, _∙_, ap, ap₂, subst}
+use mathlib.Core.Bool.{true}
+use mathlib.Core.List.{List, [], _++_, append-nil}
+use lib.ListN.{length, getD, take, drop, length-drop}
+use lib.Seq.{drop-cons, getD-drop}
+use Rattle.lists.specs.Lists.{each, joined}
+use Rattle.lists.proofs.Tables.{each-ext}
+use Rattle.meaning.specs.Program.{Program}
+use Rattle.digits.specs.Bytes.{lineText}
+use Rattle.clause_walk.specs.Walk.{size, clauseAt, RowAt}
+use Rattle.clause_tables.specs.declared.Totals.{Totals}
+use Rattle.clause_tables.specs.Tables.{Tabled}
+use Rattle.clause_places.specs.declared.Spot.{Spot}
+use Rattle.clause_places.specs.declared.Place.{Place}
+use Rattle.clause_places.specs.Places.{placeAt}
+use Rattle.clause_places.proofs.Numbers.{placed-at}
+use Rattle.clause_places.proofs.RowPlaces.{along, place-some, row-size}
+use Rattle.clause_text.specs.Rows.{isRowed, rowText}
+use Rattle.clause_blocks.proofs.RowTexts.{row-short}
+use Rattle.clause_runs.specs.Lines.{linesOf, lineOf}
+use Rattle.clause_runs.specs.Taken.{Taken}
+use Rattle.clause_runs.proofs.Placed.{lines-count, clause-is}
+use Rattle.clause_runs.proofs.Runs.{joined-next}
+
+-- k lines from line n on, line by line
+lines-each : (ls : List (List ℕ)) (n k : ℕ) → n + k ≤ length ls → joined (take k (drop n ls)) ≡ each k (λ y. getD ls (n + pred y) [])
+lines-each ls n zero h = refl
+lines-each ls n (suc k) h =
+    joined-next (drop n ls) k (subst (λ (m : ℕ). k < m) (sym (length-drop n ls)) (omega (arith, h)))
+    ∙ ap₂ (λ (x y : List ℕ). x ++ y) (lines-each ls n k (omega (arith, h))) (getD-drop n ls k [])
+
+module _ {P : Program} {t : Totals} {hs ss bs ks xs ys : List ℕ} (T : Tabled P t hs ss bs ks xs ys) {c : Place} (e : c ≡ placeAt P (t .sizes .w) (c .number)) (h : c .number ≤ t .clauses) where
+  abbrev w : ℕ
+  w = t .sizes .w
+
+  -- ---- one line
+
+  one-line : joined (take 1 (drop (c .number) (linesOf P))) ≡ lineOf P (c .number)
+  one-line =
+      ap (λ (ls : List (List ℕ)). joined (take 1 ls)) (drop-cons (linesOf P) (c .number) [] (subst (λ (m : ℕ). c .number < m) (sym (lines-count T)) (omega (arith, h))))
+      ∙ append-nil (lineOf P (c .number))
+
+  pub one-taken : (b : List ℕ) {r : ℕ} {l : List ℕ} {d : Place} → length (lineOf P (c .number)) ≤ length b
+      → (r ≡ length (lineOf P (c .number))) × (l ≡ lineOf P (c .number) ++ drop r b) → d ≡ placeAt P w (suc (c .number))
+      → Taken P w (c .number) (record { lines = 1; bytes = r; place = d }) b l
+  one-taken b {r} {l} {d} f u v =
+      record {
+        some = omega arith;
+        listed = omega (arith, h, lines-count T);
+        in-room = omega (arith, f, u .0);
+        bytes-are = u .0 ∙ sym (ap length one-line);
+        text-is = u .1 ∙ ap (λ (x : List ℕ). x ++ drop r b) (sym one-line);
+        place-is = v ∙ ap (placeAt P w) (more (c .number));
+      }
+    where
+      more : (n : ℕ) → suc n ≡ n + 1
+      more n = omega arith
+
+  -- ---- the lines of the row that begins at c
+
+  module _ (z : c .spot .clause ≡ 1) where
+    some : 0 < c .number
+    some = place-some T e h (omega (arith, z))
+
+    size-is : c .spot .clauses + 1 ≡ size P w (c .spot .group) (c .spot .item) (c .spot .row)
+    size-is = omega (arith, z, row-size T e h some)
+
+    pub row-asks : isRowed (c .spot .group) ≡ true → {n : ℕ} → 3008 ≤ n
+        → (Tabled P t hs ss bs ks xs ys) × (RowAt P w (c .spot .group) (c .spot .item) (c .spot .row)) × (isRowed (c .spot .group) ≡ true)
+        × (length (rowText P w (c .spot .group) (c .spot .item) (c .spot .row)) ≤ n)
+    row-asks r f = (T, placed-at T e some h .row-at, r, le-trans (row-short T (placed-at T e some h .row-at) r) f)
+
+    -- line by line, as far as the row goes
+    line-at : (y : ℕ) → y ≤ c .spot .clauses → getD (linesOf P) (c .number + y) [] ≡ lineText (clauseAt P w (c .spot .group) (c .spot .item) (c .spot .row) (suc y))
+    line-at y q =
+        sym (clause-is T {c = placeAt P w (c .number + y)} refl (omega (arith, some)) (along T e h y q .listed))
+        ∙ ap (λ (d : Spot). lineText (clauseAt P w (d .group) (d .item) (d .row) (d .clause))) (along T e h y q .stands)
+        ∙ ap (λ (n : ℕ). lineText (clauseAt P w (c .spot .group) (c .spot .item) (c .spot .row) n)) (from-one y z)
+      where
+        from-one : (y : ℕ) {n : ℕ} → n ≡ 1 → n + y ≡ suc y
+        from-one y q = omega (arith, q)
+
+    module _ (l : c .number + c .spot .clauses ≤ t .clauses) where
+      listed : c .number + (c .spot .clauses + 1) ≤ length (linesOf P)
+      listed = omega (arith, l, lines-count T)
+
+      row-lines : joined (take (c .spot .clauses + 1) (drop (c .number) (linesOf P))) ≡ rowText P w (c .spot .group) (c .spot .item) (c .spot .row)
+      row-lines =
+          lines-each (linesOf P) (c .number) (c .spot .clauses + 1) listed
+          ∙ each-ext (c .spot .clauses + 1) (λ y. getD (linesOf P) (c .number + pred y) []) (λ y. lineText (clauseAt P w (c .spot .group) (c .spot .item) (c .spot .row) y))
+          (λ y q. line-at y (omega (arith, q)))
+          ∙ ap (λ (n : ℕ). each n (λ y. lineText (clauseAt P w (c .spot .group) (c .spot .item) (c .spot .row) y))) size-is
+
+      pub row-taken : (b : List ℕ) {r : ℕ} {x : List ℕ} {f : Place} → isRowed (c .spot .group) ≡ true → 3008 ≤ length b
+          → (r ≡ length (rowText P w (c .spot .group) (c .spot .item) (c .spot .row))) × (x ≡ rowText P w (c .spot .group) (c .spot .item) (c .spot .row) ++ drop r b)
+          → f ≡ placeAt P w (suc (c .number + c .spot .clauses))
+          → Taken P w (c .number) (record { lines = c .spot .clauses + 1; bytes = r; place = f }) b x
+      row-taken b {r} {x} {f} g k u q =
+          record {
+            some = omega arith;
+            listed = listed;
+            in-room = omega (arith, u .0, row-asks g k .3);
+            bytes-are = u .0 ∙ sym (ap length row-lines);
+            text-is = u .1 ∙ ap (λ (y : List ℕ). y ++ drop r b) (sym row-lines);
+            place-is = q ∙ ap (placeAt P w) (more (c .number) (c .spot .clauses));
+          }
+        where
+          more : (m k : ℕ) → suc (m + k) ≡ m + (k + 1)
+          more m k = omega arith

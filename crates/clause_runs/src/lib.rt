@@ -1,0 +1,327 @@
+// The lines of the clause file from a place on, into a lent buffer (document 01, "Clauses, in order").
+use clause_blocks::put_row;
+use clause_layout::size;
+use clause_places::Place;
+use clause_places::further_row;
+use clause_places::next;
+use clause_places::past_row;
+use clause_tables::Totals;
+use clause_text::clause_length;
+use clause_text::header_length;
+use clause_text::is_rowed;
+use clause_text::put_clause;
+use clause_text::put_header;
+ghost use Prim.Native.Nat.{suc, _+_, _≤_};
+ghost use mathlib.Core.Path.{_≡_};
+ghost use mathlib.Core.Bool.{true};
+ghost use mathlib.Core.List.{_++_};
+ghost use lib.Dec.{leb};
+ghost use lib.ListN.{length, drop};
+ghost use Rattle.clause_tables.specs.Tables.{programIn, Ready};
+ghost use Rattle.clause_places.specs.Places.{placeAt};
+ghost use Rattle.clause_text.specs.Rows.{isRowed};
+ghost use Rattle.clause_runs.specs.Lines.{lineOf, partIn, runBytesIn};
+ghost use Rattle.clause_runs.specs.Taken.{Taken};
+
+// A run of lines as far as it fits: how many lines, their bytes, and the place of the line after them.
+pub struct Part {
+    pub lines: usize,
+    pub bytes: usize,
+    pub place: Place,
+}
+
+// The length of the line at place c: line 0 stands before the first clause.
+pub fn line_length<'a>(
+    t: Totals,
+    heads: &'a [u16],
+    starts: &'a [u16],
+    bodies: &'a [u16],
+    before: &'a [u16],
+    partners: &'a [u16],
+    owners: &'a [u16],
+    c: Place,
+) -> usize
+    requires { ⌜ (Ready t (now heads) (now starts) (now bodies) (now before) (now partners) (now owners)) × (c ≡ placeAt (programIn (t .sizes) (now heads) (now starts) (now bodies)) (t .sizes .w) (c .number)) × (c .number ≤ t .clauses) ⌝ }
+    ensures { λ r. ⌜ r ≡ length (lineOf (programIn (t .sizes) (now (heads .entry)) (now (starts .entry)) (now (bodies .entry))) (c .number)) ⌝ }
+{
+    if c.number == 0 {
+        return header_length(t.vars, t.clauses);
+    }
+    let s = c.spot;
+    clause_length(
+        t,
+        heads,
+        starts,
+        bodies,
+        before,
+        partners,
+        owners,
+        s.group,
+        s.item,
+        s.row,
+        s.clause,
+    )
+}
+
+// Writes that line at the front of the buffer and returns its length.
+pub fn put_line<'a>(
+    t: Totals,
+    heads: &'a [u16],
+    starts: &'a [u16],
+    bodies: &'a [u16],
+    before: &'a [u16],
+    partners: &'a [u16],
+    owners: &'a [u16],
+    c: Place,
+    buf: &mut [u8],
+) -> usize
+    requires { ⌜ (Ready t (now heads) (now starts) (now bodies) (now before) (now partners) (now owners)) × (c ≡ placeAt (programIn (t .sizes) (now heads) (now starts) (now bodies)) (t .sizes .w) (c .number)) × (c .number ≤ t .clauses) × (length (lineOf (programIn (t .sizes) (now heads) (now starts) (now bodies)) (c .number)) ≤ length (now buf)) ⌝ }
+    ensures { λ r. ⌜ (r ≡ length (lineOf (programIn (t .sizes) (now (heads .entry)) (now (starts .entry)) (now (bodies .entry))) (c .number))) × (now (buf .exit) ≡ lineOf (programIn (t .sizes) (now (heads .entry)) (now (starts .entry)) (now (bodies .entry))) (c .number) ++ drop r (now (buf .entry))) ⌝ }
+{
+    if c.number == 0 {
+        return put_header(t.vars, t.clauses, &mut *buf);
+    }
+    let s = c.spot;
+    put_clause(
+        t,
+        heads,
+        starts,
+        bodies,
+        before,
+        partners,
+        owners,
+        s.group,
+        s.item,
+        s.row,
+        s.clause,
+        &mut *buf,
+    )
+}
+
+// Whether that line fits `room` bytes. No line passes 3,008 bytes.
+fn fits<'a>(
+    t: Totals,
+    heads: &'a [u16],
+    starts: &'a [u16],
+    bodies: &'a [u16],
+    before: &'a [u16],
+    partners: &'a [u16],
+    owners: &'a [u16],
+    c: Place,
+    room: usize,
+) -> bool
+    requires { ⌜ (Ready t (now heads) (now starts) (now bodies) (now before) (now partners) (now owners)) × (c ≡ placeAt (programIn (t .sizes) (now heads) (now starts) (now bodies)) (t .sizes .w) (c .number)) × (c .number ≤ t .clauses) ⌝ }
+    ensures { λ r. ⌜ r ≡ leb (length (lineOf (programIn (t .sizes) (now (heads .entry)) (now (starts .entry)) (now (bodies .entry))) (c .number))) room ⌝ }
+{
+    if 3008 <= room {
+        return true;
+    }
+    line_length(t, heads, starts, bodies, before, partners, owners, c) <= room
+}
+
+// The place of the clause after the last one of c's row, by `past_row` only where the item has no further row.
+fn behind<'a>(
+    t: Totals,
+    heads: &'a [u16],
+    starts: &'a [u16],
+    bodies: &'a [u16],
+    before: &'a [u16],
+    partners: &'a [u16],
+    owners: &'a [u16],
+    c: Place,
+) -> Place
+    requires { ⌜ (Ready t (now heads) (now starts) (now bodies) (now before) (now partners) (now owners)) × (c ≡ placeAt (programIn (t .sizes) (now heads) (now starts) (now bodies)) (t .sizes .w) (c .number)) × (c .number ≤ t .clauses) ⌝ }
+    ensures { λ r. ⌜ (r ≡ placeAt (programIn (t .sizes) (now (heads .entry)) (now (starts .entry)) (now (bodies .entry))) (t .sizes .w) (suc (c .number + c .spot .clauses))) × (c .number + c .spot .clauses ≤ t .clauses) ⌝ }
+{
+    let s = c.spot;
+    if 0 < s.rows {
+        let k = size(
+            t,
+            heads,
+            starts,
+            bodies,
+            before,
+            partners,
+            owners,
+            s.group,
+            s.item,
+            s.row + 1,
+        );
+        if 0 < k {
+            return further_row(c, k);
+        }
+    }
+    past_row(t, heads, starts, bodies, before, partners, owners, c)
+}
+
+// Writes the lines of the row of groups 4 and 5 that begins at place c.
+fn put_whole_row<'a>(
+    t: Totals,
+    heads: &'a [u16],
+    starts: &'a [u16],
+    bodies: &'a [u16],
+    before: &'a [u16],
+    partners: &'a [u16],
+    owners: &'a [u16],
+    c: Place,
+    buf: &mut [u8],
+) -> Part
+    requires { ⌜ (Ready t (now heads) (now starts) (now bodies) (now before) (now partners) (now owners)) × (c ≡ placeAt (programIn (t .sizes) (now heads) (now starts) (now bodies)) (t .sizes .w) (c .number)) × (c .number ≤ t .clauses) × (isRowed (c .spot .group) ≡ true) × (c .spot .clause ≡ 1) × (3008 ≤ length (now buf)) ⌝ }
+    ensures { λ r. ⌜ Taken (programIn (t .sizes) (now (heads .entry)) (now (starts .entry)) (now (bodies .entry))) (t .sizes .w) (c .number) r (now (buf .entry)) (now (buf .exit)) ⌝ }
+{
+    let s = c.spot;
+    let bytes = put_row(
+        t,
+        heads,
+        starts,
+        bodies,
+        before,
+        partners,
+        owners,
+        s.group,
+        s.item,
+        s.row,
+        &mut *buf,
+    );
+    Part {
+        lines: s.clauses as usize + 1,
+        bytes: bytes,
+        place: behind(t, heads, starts, bodies, before, partners, owners, c),
+    }
+}
+
+// Writes the line at place c.
+fn put_one<'a>(
+    t: Totals,
+    heads: &'a [u16],
+    starts: &'a [u16],
+    bodies: &'a [u16],
+    before: &'a [u16],
+    partners: &'a [u16],
+    owners: &'a [u16],
+    c: Place,
+    buf: &mut [u8],
+) -> Part
+    requires { ⌜ (Ready t (now heads) (now starts) (now bodies) (now before) (now partners) (now owners)) × (c ≡ placeAt (programIn (t .sizes) (now heads) (now starts) (now bodies)) (t .sizes .w) (c .number)) × (c .number ≤ t .clauses) × (length (lineOf (programIn (t .sizes) (now heads) (now starts) (now bodies)) (c .number)) ≤ length (now buf)) ⌝ }
+    ensures { λ r. ⌜ Taken (programIn (t .sizes) (now (heads .entry)) (now (starts .entry)) (now (bodies .entry))) (t .sizes .w) (c .number) r (now (buf .entry)) (now (buf .exit)) ⌝ }
+{
+    let bytes = put_line(
+        t,
+        heads,
+        starts,
+        bodies,
+        before,
+        partners,
+        owners,
+        c,
+        &mut *buf,
+    );
+    Part {
+        lines: 1,
+        bytes: bytes,
+        place: next(t, heads, starts, bodies, before, partners, owners, c),
+    }
+}
+
+// Writes the line at place c, which fits, or the lines of the whole row that begins there.
+fn put_some<'a>(
+    t: Totals,
+    heads: &'a [u16],
+    starts: &'a [u16],
+    bodies: &'a [u16],
+    before: &'a [u16],
+    partners: &'a [u16],
+    owners: &'a [u16],
+    c: Place,
+    buf: &mut [u8],
+) -> Part
+    requires { ⌜ (Ready t (now heads) (now starts) (now bodies) (now before) (now partners) (now owners)) × (c ≡ placeAt (programIn (t .sizes) (now heads) (now starts) (now bodies)) (t .sizes .w) (c .number)) × (c .number ≤ t .clauses) × (length (lineOf (programIn (t .sizes) (now heads) (now starts) (now bodies)) (c .number)) ≤ length (now buf)) ⌝ }
+    ensures { λ r. ⌜ Taken (programIn (t .sizes) (now (heads .entry)) (now (starts .entry)) (now (bodies .entry))) (t .sizes .w) (c .number) r (now (buf .entry)) (now (buf .exit)) ⌝ }
+{
+    if 3008 <= buf.len() {
+        if c.spot.clause == 1 {
+            if is_rowed(c.spot.group) {
+                return put_whole_row(
+                    t,
+                    heads,
+                    starts,
+                    bodies,
+                    before,
+                    partners,
+                    owners,
+                    c,
+                    &mut *buf,
+                );
+            }
+        }
+    }
+    put_one(
+        t,
+        heads,
+        starts,
+        bodies,
+        before,
+        partners,
+        owners,
+        c,
+        &mut *buf,
+    )
+}
+
+// Writes as many whole lines as fit the buffer, from the line at place c on.
+pub fn put_lines<'a>(
+    t: Totals,
+    heads: &'a [u16],
+    starts: &'a [u16],
+    bodies: &'a [u16],
+    before: &'a [u16],
+    partners: &'a [u16],
+    owners: &'a [u16],
+    c: Place,
+    buf: &mut [u8],
+) -> Part
+    requires { ⌜ (Ready t (now heads) (now starts) (now bodies) (now before) (now partners) (now owners)) × (c ≡ placeAt (programIn (t .sizes) (now heads) (now starts) (now bodies)) (t .sizes .w) (c .number)) × (c .number ≤ suc (t .clauses)) ⌝ }
+    ensures { λ r. ⌜ (r ≡ partIn (programIn (t .sizes) (now (heads .entry)) (now (starts .entry)) (now (bodies .entry))) (t .sizes .w) (c .number) (length (now (buf .entry)))) × (now (buf .exit) ≡ runBytesIn (programIn (t .sizes) (now (heads .entry)) (now (starts .entry)) (now (bodies .entry))) (c .number) (now (buf .entry))) ⌝ }
+{
+    let mut at = c;
+    let mut lines: usize = 0;
+    let mut to: usize = 0;
+    while at.number <= t.clauses {
+        if !fits(
+            t,
+            heads,
+            starts,
+            bodies,
+            before,
+            partners,
+            owners,
+            at,
+            buf.len() - to,
+        ) {
+            return Part {
+                lines: lines,
+                bytes: to,
+                place: at,
+            };
+        }
+        let part = put_some(
+            t,
+            heads,
+            starts,
+            bodies,
+            before,
+            partners,
+            owners,
+            at,
+            &mut buf[to..],
+        );
+        to += part.bytes;
+        lines += part.lines;
+        at = part.place;
+    }
+    Part {
+        lines: lines,
+        bytes: to,
+        place: at,
+    }
+}

@@ -1,0 +1,19 @@
+use borrow.Author.Tests.{eq-eqb, ne-eqb}
+use borrow.Author.Needs.{needs}
+use Rattle.clause_slots.proofs.chain_slot.Statement.{statement}
+use Rattle.clause_slots.proofs.chain_slot.Tie as tie
+
+chain-first-requires : tie.Need-chain-first-requires
+chain-first-requires c κs = search needs
+
+returns : tie.Need-returns
+returns c = simp (eq-eqb _ _ (c .before .if1 .taken)) (c .chain-first .ensures)
+
+chain-next-requires : tie.Need-chain-next-requires
+chain-next-requires c κs = search needs
+
+returns-2 : tie.Need-returns-2
+returns-2 c = simp (ne-eqb _ _ (c .before .if1 .left)) (c .chain-next .ensures)
+
+pub chain-slot-spec : {M : Type 1} → statement M
+chain-slot-spec = tie.close (tie.spec chain-first-requires returns chain-next-requires returns-2)

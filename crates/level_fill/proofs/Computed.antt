@@ -1,0 +1,31 @@
+-- Computed facts about the definitions of this crate: a wrong definition breaks one of them.
+-- Assumes nothing.
+use mathlib.Core.Path.{_≡_, refl}
+use mathlib.Core.List.{[], _∷_}
+use Rattle.encoding.specs.Fill.{fillWith}
+use Rattle.encoding.specs.Clauses.{pairs}
+use Rattle.lists.specs.Lists.{each}
+use Rattle.meaning.specs.Samples.{setOf, fact, loop}
+use Rattle.answer_offers.specs.Offered.{valueBytes}
+use Rattle.level_fill.specs.Values.{bitBytes, lessBytes, pairBytes, familyBytes, filledWith}
+
+-- the lowest bit is first
+bits-read : bitBytes 3 6 ∷ bitBytes 3 1 ∷ [] ≡ (0 ∷ 1 ∷ 1 ∷ []) ∷ (1 ∷ 0 ∷ 0 ∷ []) ∷ []
+bits-read = refl
+
+less-read : lessBytes 3 1 2 ∷ lessBytes 3 4 3 ∷ lessBytes 3 3 3 ∷ [] ≡ (0 ∷ 1 ∷ 1 ∷ []) ∷ (1 ∷ 1 ∷ 0 ∷ []) ∷ (0 ∷ 0 ∷ 0 ∷ []) ∷ []
+less-read = refl
+
+-- the second chain compares the next
+pair-read : pairBytes 2 1 2 ≡ 0 ∷ 1 ∷ 0 ∷ 0 ∷ []
+pair-read = refl
+
+-- document 01's answer "v 1 2 3 4 -5 -6 7"
+fact-read : valueBytes (filledWith fact 2 (setOf (1 ∷ [])) (λ a. 1)) ≡ 1 ∷ 1 ∷ 1 ∷ 1 ∷ 0 ∷ 0 ∷ 1 ∷ []
+unfolding filledWith fillWith pairs
+fact-read = refl
+
+-- 1; 1 from 1: both bodies are true, and the second rule founds nothing; the families are those of the filled-out values
+loop-read : each 6 (familyBytes loop 1 2 (setOf (1 ∷ [])) (λ a. 1)) ≡ 1 ∷ 1 ∷ 1 ∷ 1 ∷ 0 ∷ 1 ∷ 0 ∷ 0 ∷ 1 ∷ 0 ∷ 0 ∷ 1 ∷ 0 ∷ []
+unfolding pairs
+loop-read = refl

@@ -1,0 +1,370 @@
+// The filled-out assignment of a set of atoms and their levels, family by family into a lent buffer (document 01, "Check and filling out").
+use clause_layout::entry;
+use clause_tables::Totals;
+use level_stages::byte_of;
+use level_stages::negatives_out;
+use level_stages::positives_below;
+use level_stages::positives_in;
+use numbers::Rule;
+use numbers::wide;
+use program::head;
+ghost use Prim.Native.Nat.{_+_, _≤_, _<_};
+ghost use mathlib.Core.Path.{_≡_};
+ghost use mathlib.Core.Bool.{cond};
+ghost use mathlib.Core.List.{_++_};
+ghost use lib.Dec.{eqb};
+ghost use lib.ListN.{length, drop};
+ghost use Rattle.lists.specs.Lists.{tab};
+ghost use Rattle.meaning.specs.Program.{ruleAt, bodyTrue};
+ghost use Rattle.meaning.specs.Stage.{level};
+ghost use Rattle.encoding.specs.Fill.{founds, fill};
+ghost use Rattle.clause_tables.specs.Tables.{programIn, Ready};
+ghost use Rattle.level_stages.specs.Levels.{setIn, levelAt};
+ghost use Rattle.answer_offers.specs.Offered.{valueBytes};
+ghost use Rattle.level_fill.specs.Values.{byteOf, atomBytes, bodyBytes, foundsBytes, bitBytes, levelBytes, lessBytes, pairBytes, chainBytes, filledWith};
+
+fn as_byte(x: bool) -> u8
+    ensures { λ r. ⌜ r ≡ byteOf x ⌝ }
+{
+    if x {
+        return 1;
+    }
+    0
+}
+
+// The level of atom a.
+fn level_of(levels: &[u8], a: u16) -> u16
+    requires { ⌜ (0 < a) × (a ≤ length (now levels)) ⌝ }
+    ensures { λ r. ⌜ (r ≡ levelAt (now (levels .entry)) a) × (r < 256) ⌝ }
+{
+    byte_of(levels, a) as u16
+}
+
+// Each function below writes its bytes at the front of the buffer and returns how many they are.
+
+// The w lowest bits of x.
+fn put_bits(w: usize, x: u16, buf: &mut [u8]) -> usize
+    requires { ⌜ length (bitBytes w x) ≤ length (now buf) ⌝ }
+    ensures { λ r. ⌜ (r ≡ length (bitBytes w x)) × (now (buf .exit) ≡ bitBytes w x ++ drop r (now (buf .entry))) ⌝ }
+{
+    let mut rest = x;
+    let mut i: usize = 0;
+    while i < w {
+        buf[i] = (rest % 2) as u8;
+        rest = rest / 2;
+        i += 1;
+    }
+    i
+}
+
+// Whether x is below y, with the bits p and q put above those for which `less` says it.
+fn less_with(p: u16, q: u16, less: u8) -> u8
+    requires { ⌜ q < 2 ⌝ }
+    ensures { λ r. ⌜ r ≡ cond (eqb p q) less q ⌝ }
+{
+    if p == q {
+        return less;
+    }
+    q as u8
+}
+
+// For i from 1 to w, whether the lowest i bits of x are below those of y.
+fn put_less(w: usize, x: u16, y: u16, buf: &mut [u8]) -> usize
+    requires { ⌜ length (lessBytes w x y) ≤ length (now buf) ⌝ }
+    ensures { λ r. ⌜ (r ≡ length (lessBytes w x y)) × (now (buf .exit) ≡ lessBytes w x y ++ drop r (now (buf .entry))) ⌝ }
+{
+    let mut p = x;
+    let mut q = y;
+    let mut less: u8 = 0;
+    let mut i: usize = 0;
+    while i < w {
+        less = less_with(p % 2, q % 2, less);
+        buf[i] = less;
+        p = p / 2;
+        q = q / 2;
+        i += 1;
+    }
+    i
+}
+
+// The two chains of a pair: x is the level of its body atom, y that of its head.
+fn put_pair(w: usize, x: u16, y: u16, buf: &mut [u8]) -> usize
+    requires { ⌜ (x < 256) × (length (pairBytes w x y) ≤ length (now buf)) ⌝ }
+    ensures { λ r. ⌜ (r ≡ length (pairBytes w x y)) × (now (buf .exit) ≡ pairBytes w x y ++ drop r (now (buf .entry))) ⌝ }
+{
+    let mut to = put_less(w, x, y, &mut *buf);
+    to += put_less(w, x + 1, y, &mut buf[to..]);
+    to
+}
+
+// The atoms.
+fn put_atoms(n: u16, set: &[u8], buf: &mut [u8]) -> usize
+    requires { ⌜ (n ≤ length (now set)) × (length (atomBytes n (setIn n (now set))) ≤ length (now buf)) ⌝ }
+    ensures { λ r. ⌜ (r ≡ length (atomBytes n (setIn n (now (set .entry))))) × (now (buf .exit) ≡ atomBytes n (setIn n (now (set .entry))) ++ drop r (now (buf .entry))) ⌝ }
+{
+    let mut a: usize = 0;
+    while a < wide(n) {
+        buf[a] = as_byte(set[a] != 0);
+        a += 1;
+    }
+    a
+}
+
+// The bits of the level of each atom with d more: its level, or its next.
+fn put_levels(n: u16, w: usize, d: u16, levels: &[u8], buf: &mut [u8]) -> usize
+    requires { ⌜ (n ≤ length (now levels)) × (d ≤ 1) × (length (levelBytes n w d (levelAt (now levels))) ≤ length (now buf)) ⌝ }
+    ensures { λ r. ⌜ (r ≡ length (levelBytes n w d (levelAt (now (levels .entry))))) × (now (buf .exit) ≡ levelBytes n w d (levelAt (now (levels .entry))) ++ drop r (now (buf .entry))) ⌝ }
+{
+    let mut to: usize = 0;
+    let mut a: u16 = 0;
+    while a < n {
+        let x = level_of(levels, a + 1);
+        to += put_bits(w, x + d, &mut buf[to..]);
+        a += 1;
+    }
+    to
+}
+
+// Whether the body of rule r is true.
+fn body_true<'a>(
+    t: Totals,
+    heads: &'a [u16],
+    starts: &'a [u16],
+    bodies: &'a [u16],
+    before: &'a [u16],
+    partners: &'a [u16],
+    owners: &'a [u16],
+    r: u16,
+    set: &'a [u8],
+) -> bool
+    requires { ⌜ (Ready t (now heads) (now starts) (now bodies) (now before) (now partners) (now owners)) × (0 < r) × (r ≤ t .sizes .m) × (t .sizes .n ≤ length (now set)) ⌝ }
+    ensures { λ x. ⌜ x ≡ bodyTrue (setIn (t .sizes .n) (now (set .entry))) (ruleAt (programIn (t .sizes) (now (heads .entry)) (now (starts .entry)) (now (bodies .entry)) .rules) r) ⌝ }
+{
+    if !positives_in(t, heads, starts, bodies, before, partners, owners, r, set) {
+        return false;
+    }
+    negatives_out(t, heads, starts, bodies, before, partners, owners, r, set)
+}
+
+// Whether rule r founds its head: its body is true and each of its B has a smaller level than the head.
+fn rule_founds<'a>(
+    t: Totals,
+    heads: &'a [u16],
+    starts: &'a [u16],
+    bodies: &'a [u16],
+    before: &'a [u16],
+    partners: &'a [u16],
+    owners: &'a [u16],
+    r: u16,
+    set: &'a [u8],
+    levels: &'a [u8],
+) -> bool
+    requires { ⌜ (Ready t (now heads) (now starts) (now bodies) (now before) (now partners) (now owners)) × (0 < r) × (r ≤ t .sizes .m) × (t .sizes .n ≤ length (now set)) × (t .sizes .n ≤ length (now levels)) ⌝ }
+    ensures { λ x. ⌜ x ≡ founds (setIn (t .sizes .n) (now (set .entry))) (levelAt (now (levels .entry))) (ruleAt (programIn (t .sizes) (now (heads .entry)) (now (starts .entry)) (now (bodies .entry)) .rules) r) (ruleAt (programIn (t .sizes) (now (heads .entry)) (now (starts .entry)) (now (bodies .entry)) .rules) r .positive) ⌝ }
+{
+    if !body_true(t, heads, starts, bodies, before, partners, owners, r, set) {
+        return false;
+    }
+    let h = head(heads, Rule(r)).0;
+    let y = byte_of(levels, h);
+    positives_below(
+        t,
+        heads,
+        starts,
+        bodies,
+        before,
+        partners,
+        owners,
+        r,
+        levels,
+        y,
+    )
+}
+
+// Of each rule, whether its body is true.
+fn put_bodies<'a>(
+    t: Totals,
+    heads: &'a [u16],
+    starts: &'a [u16],
+    bodies: &'a [u16],
+    before: &'a [u16],
+    partners: &'a [u16],
+    owners: &'a [u16],
+    set: &'a [u8],
+    buf: &mut [u8],
+) -> usize
+    requires { ⌜ (Ready t (now heads) (now starts) (now bodies) (now before) (now partners) (now owners)) × (t .sizes .n ≤ length (now set)) × (length (bodyBytes (programIn (t .sizes) (now heads) (now starts) (now bodies)) (setIn (t .sizes .n) (now set))) ≤ length (now buf)) ⌝ }
+    ensures { λ r. ⌜ (r ≡ length (bodyBytes (programIn (t .sizes) (now (heads .entry)) (now (starts .entry)) (now (bodies .entry))) (setIn (t .sizes .n) (now (set .entry))))) × (now (buf .exit) ≡ bodyBytes (programIn (t .sizes) (now (heads .entry)) (now (starts .entry)) (now (bodies .entry))) (setIn (t .sizes .n) (now (set .entry))) ++ drop r (now (buf .entry))) ⌝ }
+{
+    let mut r: u16 = 0;
+    while r < t.sizes.m {
+        let x = body_true(
+            t,
+            heads,
+            starts,
+            bodies,
+            before,
+            partners,
+            owners,
+            r + 1,
+            set,
+        );
+        let i = wide(r);
+        buf[i] = as_byte(x);
+        r += 1;
+    }
+    wide(r)
+}
+
+// Of each rule, whether it founds its head.
+fn put_founds<'a>(
+    t: Totals,
+    heads: &'a [u16],
+    starts: &'a [u16],
+    bodies: &'a [u16],
+    before: &'a [u16],
+    partners: &'a [u16],
+    owners: &'a [u16],
+    set: &'a [u8],
+    levels: &'a [u8],
+    buf: &mut [u8],
+) -> usize
+    requires { ⌜ (Ready t (now heads) (now starts) (now bodies) (now before) (now partners) (now owners)) × (t .sizes .n ≤ length (now set)) × (t .sizes .n ≤ length (now levels)) × (length (foundsBytes (programIn (t .sizes) (now heads) (now starts) (now bodies)) (setIn (t .sizes .n) (now set)) (levelAt (now levels))) ≤ length (now buf)) ⌝ }
+    ensures { λ r. ⌜ (r ≡ length (foundsBytes (programIn (t .sizes) (now (heads .entry)) (now (starts .entry)) (now (bodies .entry))) (setIn (t .sizes .n) (now (set .entry))) (levelAt (now (levels .entry))))) × (now (buf .exit) ≡ foundsBytes (programIn (t .sizes) (now (heads .entry)) (now (starts .entry)) (now (bodies .entry))) (setIn (t .sizes .n) (now (set .entry))) (levelAt (now (levels .entry))) ++ drop r (now (buf .entry))) ⌝ }
+{
+    let mut r: u16 = 0;
+    while r < t.sizes.m {
+        let x = rule_founds(
+            t,
+            heads,
+            starts,
+            bodies,
+            before,
+            partners,
+            owners,
+            r + 1,
+            set,
+            levels,
+        );
+        let i = wide(r);
+        buf[i] = as_byte(x);
+        r += 1;
+    }
+    wide(r)
+}
+
+// The chains of each pair.
+fn put_chains<'a>(
+    t: Totals,
+    heads: &'a [u16],
+    starts: &'a [u16],
+    bodies: &'a [u16],
+    before: &'a [u16],
+    partners: &'a [u16],
+    owners: &'a [u16],
+    w: usize,
+    levels: &'a [u8],
+    buf: &mut [u8],
+) -> usize
+    requires { ⌜ (Ready t (now heads) (now starts) (now bodies) (now before) (now partners) (now owners)) × (t .sizes .n ≤ length (now levels)) × (length (chainBytes (programIn (t .sizes) (now heads) (now starts) (now bodies)) w (levelAt (now levels))) ≤ length (now buf)) ⌝ }
+    ensures { λ r. ⌜ (r ≡ length (chainBytes (programIn (t .sizes) (now (heads .entry)) (now (starts .entry)) (now (bodies .entry))) w (levelAt (now (levels .entry))))) × (now (buf .exit) ≡ chainBytes (programIn (t .sizes) (now (heads .entry)) (now (starts .entry)) (now (bodies .entry))) w (levelAt (now (levels .entry))) ++ drop r (now (buf .entry))) ⌝ }
+{
+    let mut to: usize = 0;
+    let mut k: u16 = 0;
+    while k < t.pairs {
+        let x = level_of(levels, entry(partners, k + 1));
+        let y = level_of(levels, entry(owners, k + 1));
+        to += put_pair(w, x, y, &mut buf[to..]);
+        k += 1;
+    }
+    to
+}
+
+// The filled-out values of the set, for levels of any kind.
+fn put_values<'a>(
+    t: Totals,
+    heads: &'a [u16],
+    starts: &'a [u16],
+    bodies: &'a [u16],
+    before: &'a [u16],
+    partners: &'a [u16],
+    owners: &'a [u16],
+    set: &'a [u8],
+    levels: &'a [u8],
+    buf: &mut [u8],
+) -> usize
+    requires { ⌜ (Ready t (now heads) (now starts) (now bodies) (now before) (now partners) (now owners)) × (t .sizes .n ≤ length (now set)) × (t .sizes .n ≤ length (now levels)) × (t .vars ≤ length (now buf)) ⌝ }
+    ensures { λ r. ⌜ (r ≡ t .vars) × (now (buf .exit) ≡ valueBytes (filledWith (programIn (t .sizes) (now (heads .entry)) (now (starts .entry)) (now (bodies .entry))) (t .sizes .w) (setIn (t .sizes .n) (now (set .entry))) (levelAt (now (levels .entry)))) ++ drop (t .vars) (now (buf .entry))) ⌝ }
+{
+    let n = t.sizes.n;
+    let w = wide(t.sizes.w);
+    let mut to = put_atoms(n, set, &mut *buf);
+    to += put_bodies(
+        t,
+        heads,
+        starts,
+        bodies,
+        before,
+        partners,
+        owners,
+        set,
+        &mut buf[to..],
+    );
+    to += put_founds(
+        t,
+        heads,
+        starts,
+        bodies,
+        before,
+        partners,
+        owners,
+        set,
+        levels,
+        &mut buf[to..],
+    );
+    to += put_levels(n, w, 0, levels, &mut buf[to..]);
+    to += put_levels(n, w, 1, levels, &mut buf[to..]);
+    to += put_chains(
+        t,
+        heads,
+        starts,
+        bodies,
+        before,
+        partners,
+        owners,
+        w,
+        levels,
+        &mut buf[to..],
+    );
+    to
+}
+
+// Writes the filled-out assignment of the set, whose levels are at hand, to the first V bytes.
+pub fn put_filled<'a>(
+    t: Totals,
+    heads: &'a [u16],
+    starts: &'a [u16],
+    bodies: &'a [u16],
+    before: &'a [u16],
+    partners: &'a [u16],
+    owners: &'a [u16],
+    set: &'a [u8],
+    levels: &'a [u8],
+    assignment: &mut [u8],
+)
+    requires { ⌜ (Ready t (now heads) (now starts) (now bodies) (now before) (now partners) (now owners)) × (t .sizes .n ≤ length (now set)) × (now levels ≡ tab (t .sizes .n) (level (programIn (t .sizes) (now heads) (now starts) (now bodies)) (setIn (t .sizes .n) (now set))) ++ drop (t .sizes .n) (now levels)) × (t .vars ≤ length (now assignment)) ⌝ }
+    ensures { λ r. ⌜ now (assignment .exit) ≡ valueBytes (fill (programIn (t .sizes) (now (heads .entry)) (now (starts .entry)) (now (bodies .entry))) (t .sizes .w) (setIn (t .sizes .n) (now (set .entry)))) ++ drop (t .vars) (now (assignment .entry)) ⌝ }
+{
+    put_values(
+        t,
+        heads,
+        starts,
+        bodies,
+        before,
+        partners,
+        owners,
+        set,
+        levels,
+        &mut *assignment,
+    );
+}

@@ -1,0 +1,191 @@
+-- The two lists of a rule as parts of the array of body atoms, and what code asks of them.
+--   set-is, none-is, all-is          of atoms alone, a set is its bytes
+--   Part bs x y l                    from x to y the array holds the list l
+-- Of rule r of a program in its tables (Tabled P ..):
+--   start-asks                       what its starts ask
+--   positive-part, negative-part     its two lists
+--   rule-atoms                       its atoms are atoms
+--   positives-asked, negatives-asked, head-fits    and have bytes where n bytes are there
+--   head-asks, its-head-is           its head
+-- Of a rule alone:
+--   enters-not-kept, enters-unmet, enters-is    its tests in a round, one after the other
+-- Assumes nothing.
+use Prim.Native.Nat.{ℕ, zero, suc, pred, _+_, _-_, _*_, _≤_, _<_}
+use native.Mathlib.Nat.{le-trans, add-zero, not-suc-le-zero}
+use native.Mathlib.Omega.{arith}
+use mathlib.Core.Path.{_≡_, refl, sym, _∙_, ap, subst}
+use mathlib.Core.Bool.{Bool, true, false, not, _&&_, So, false≢true}
+use mathlib.Core.List.{List, [], _∷_, _++_}
+use lib.Dec.{ltb}
+use lib.ListN.{length, getD, take, drop}
+use lib.Seq.{take-take, take-add, drop-drop, take-at, drop-at}
+use Rattle.lists.specs.Lists.{all}
+use Rattle.lists.proofs.Tests.{all-at, all-in, all-ext}
+use Rattle.meaning.specs.Program.{Rule, Program, ruleAt, isAtom, noneIn}
+use Rattle.theory.proofs.Atoms.{RuleIn, rule-in, atom-pos, atom-le, is-atom}
+use Rattle.truth_clauses.specs.Truth.{valueIn}
+use Rattle.clause_tables.specs.declared.Totals.{Totals}
+use Rattle.clause_tables.specs.Tables.{Tabled}
+use Rattle.clause_walk.proofs.Tabs.{head-is as its-head}
+use Rattle.clause_table_laws.proofs.Elements.{Listed, start-first, rules-are, rules-fit, atoms-are, starts-length, bodies-length, heads-length, head-is, all-fit}
+use Rattle.level_stages.specs.Levels.{setIn, levelAt, isBelow, enters}
+
+-- ---- parts of a list
+
+pub record Part (bs : List ℕ) (x y : ℕ) (l : List ℕ) : Type 0 where
+  pub up : x ≤ y
+  pub short : y ≤ 500
+  pub within : y ≤ length bs
+  pub list-is : take (y - x) (drop x bs) ≡ l
+
+part-at : {bs l : List ℕ} {u v : ℕ} → Part bs u v l → {x y : ℕ} → x ≡ u → y ≡ v → Part bs x y l
+part-at {bs} {l} {u} {v} q {x} {y} e f = subst (λ (a : ℕ). Part bs a y l) (sym e) (subst (λ (b : ℕ). Part bs u b l) (sym f) q)
+
+front-is : (l p q : List ℕ) (i j : ℕ) → i ≤ j → take j l ≡ p ++ q → i ≡ length p → take i l ≡ p
+front-is l p q i j h e f = sym (take-take i j l h) ∙ ap (take i) e ∙ take-at p q i (sym f)
+
+back-is : (l p q : List ℕ) (i j : ℕ) → take (i + j) l ≡ p ++ q → take i l ≡ p → i ≡ length p → take j (drop i l) ≡ q
+back-is l p q i j e f g =
+    sym (drop-at p (take j (drop i l)) i (sym g))
+    ∙ ap (drop i) (ap (λ (x : List ℕ). x ++ take j (drop i l)) (sym f) ∙ sym (take-add i j l) ∙ e)
+    ∙ drop-at p q i (sym g)
+
+-- of three places in a row
+module _ (bs p q : List ℕ) (x y z : ℕ) (up : x ≤ y) (upper : y ≤ z) (short : z ≤ 500) (len : length bs ≡ 500)
+    (count : y - x ≡ length p) (whole : take (z - x) (drop x bs) ≡ p ++ q) where
+  first-part : Part bs x y p
+  first-part =
+      record {
+        up = up;
+        short = le-trans upper short;
+        within = omega (arith, upper, short, len);
+        list-is = front-is (drop x bs) p q (y - x) (z - x) (omega (arith, upper)) whole count;
+      }
+
+  second-part : Part bs y z q
+  second-part =
+      record {
+        up = upper;
+        short = short;
+        within = omega (arith, short, len);
+        list-is =
+            ap (take (z - y)) (ap (λ (k : ℕ). drop k bs) (there x y up) ∙ sym (drop-drop (y - x) x bs))
+            ∙ back-is (drop x bs) p q (y - x) (z - y) (ap (λ (k : ℕ). take k (drop x bs)) (steps x y z up upper) ∙ whole) (first-part .list-is) count;
+      }
+    where
+      there : (x y : ℕ) → x ≤ y → y ≡ x + (y - x)
+      there x y h = omega arith
+
+      steps : (x y z : ℕ) → x ≤ y → y ≤ z → (y - x) + (z - y) ≡ z - x
+      steps x y z h k = omega arith
+
+all-wider : (n m : ℕ) (xs : List ℕ) → n ≤ m → So (all (isAtom n) xs) → So (all (isAtom m) xs)
+all-wider n m xs h t =
+    all-in (isAtom m) xs 0
+    (λ j k. let u = all-at (isAtom n) xs 0 t j k in is-atom m (getD xs j 0) (atom-pos n (getD xs j 0) u) (le-trans (atom-le n (getD xs j 0) u) h))
+
+-- ---- sets of atoms
+
+and-true : (a b : Bool) → So a → b ≡ (a && b)
+and-true true b t = refl
+and-true false b t = absurd (false≢true t)
+
+pub set-is : (n : ℕ) (s : List ℕ) (a : ℕ) → So (isAtom n a) → valueIn s a ≡ setIn n s a
+set-is n s a t = and-true (isAtom n a) (valueIn s a) t
+
+pub none-is : (n : ℕ) (s xs : List ℕ) → So (all (isAtom n) xs) → noneIn (valueIn s) xs ≡ noneIn (setIn n s) xs
+none-is n s xs t = all-ext (λ c. not (valueIn s c)) (λ c. not (setIn n s c)) xs 0 (λ j h. ap not (set-is n s (getD xs j 0) (all-at (isAtom n) xs 0 t j h)))
+
+pub all-is : (n : ℕ) (s xs : List ℕ) → So (all (isAtom n) xs) → all (valueIn s) xs ≡ all (setIn n s) xs
+all-is n s xs t = all-ext (valueIn s) (setIn n s) xs 0 (λ j h. set-is n s (getD xs j 0) (all-at (isAtom n) xs 0 t j h))
+
+-- ---- of the tables
+
+module _ {P : Program} {t : Totals} {hs ss bs ks xs ys : List ℕ} (T : Tabled P t hs ss bs ks xs ys) (r : ℕ) (p : 0 < r) (h : r ≤ t .sizes .m) where
+  inside : r ≤ length (P .rules)
+  inside = subst (λ (m : ℕ). r ≤ m) (rules-are P t hs ss bs ks xs ys T) h
+
+  listed : Listed P ss bs r (r - 1)
+  listed = start-first P t hs ss bs ks xs ys T r p inside
+
+  pub start-asks : (k : ℕ) → k ≤ 2 → (0 < r) × (r ≤ 500) × (k ≤ 2) × (length ss ≡ 1001)
+  start-asks k l = (p, le-trans inside (rules-fit P t hs ss bs ks xs ys T), l, starts-length P t hs ss bs ks xs ys T)
+
+  pub positive-part : {x y : ℕ} → x ≡ getD ss (2 * (r - 1) + 0) 0 → y ≡ getD ss (2 * (r - 1) + 1) 0 → Part bs x y (ruleAt (P .rules) r .positive)
+  positive-part e f =
+      part-at
+      (first-part bs (ruleAt (P .rules) r .positive) (ruleAt (P .rules) r .negative) _ _ _ (listed .first-up) (listed .second-up) (listed .end-fits)
+      (bodies-length P t hs ss bs ks xs ys T) (listed .positives-are) (listed .body-are))
+      (e ∙ ap (λ (k : ℕ). getD ss k 0) (add-zero (2 * (r - 1)))) f
+
+  pub negative-part : {x y : ℕ} → x ≡ getD ss (2 * (r - 1) + 1) 0 → y ≡ getD ss (2 * (r - 1) + 2) 0 → Part bs x y (ruleAt (P .rules) r .negative)
+  negative-part =
+      part-at
+      (second-part bs (ruleAt (P .rules) r .positive) (ruleAt (P .rules) r .negative) _ _ _ (listed .first-up) (listed .second-up) (listed .end-fits)
+      (bodies-length P t hs ss bs ks xs ys T) (listed .positives-are) (listed .body-are))
+
+  pub rule-atoms : RuleIn (t .sizes .n) (ruleAt (P .rules) r)
+  rule-atoms =
+      subst (λ (n : ℕ). RuleIn n (ruleAt (P .rules) r)) (sym (atoms-are P t hs ss bs ks xs ys T))
+      (rule-in (P .atoms) (P .rules) (all-fit P (T .limits)) (pred r) (before-it r p inside))
+    where
+      before-it : (r : ℕ) {m : ℕ} → 0 < r → r ≤ m → pred r < m
+      before-it zero l k = absurd (not-suc-le-zero l)
+      before-it (suc r) l k = k
+
+  -- the part's atoms have bytes
+  pub positives-asked : (b : List ℕ) {x y : ℕ} → t .sizes .n ≤ length b → Part bs x y (ruleAt (P .rules) r .positive)
+      → So (all (isAtom (length b)) (take (y - x) (drop x bs)))
+  positives-asked b k q =
+      subst (λ (l : List ℕ). So (all (isAtom (length b)) l)) (sym (q .list-is)) (all-wider (t .sizes .n) (length b) (ruleAt (P .rules) r .positive) k (rule-atoms .positive-in))
+
+  pub negatives-asked : (b : List ℕ) {x y : ℕ} → t .sizes .n ≤ length b → Part bs x y (ruleAt (P .rules) r .negative)
+      → So (all (isAtom (length b)) (take (y - x) (drop x bs)))
+  negatives-asked b k q =
+      subst (λ (l : List ℕ). So (all (isAtom (length b)) l)) (sym (q .list-is)) (all-wider (t .sizes .n) (length b) (ruleAt (P .rules) r .negative) k (rule-atoms .negative-in))
+
+  pub head-asks : (0 < r) × (r ≤ length hs)
+  head-asks = (p, omega (arith, inside, rules-fit P t hs ss bs ks xs ys T, heads-length P t hs ss bs ks xs ys T))
+
+  pub its-head-is : {a : ℕ} → a ≡ getD hs (r - 1) 0 → a ≡ ruleAt (P .rules) r .head
+  its-head-is e = e ∙ head-is P t hs ss bs ks xs ys T r p inside ∙ its-head (P .rules) r
+
+  pub head-fits : (b : List ℕ) {a : ℕ} → t .sizes .n ≤ length b → a ≡ getD hs (r - 1) 0 → (0 < a) × (a ≤ length b)
+  head-fits b {a} k e =
+      let u = subst (λ (x : ℕ). So (isAtom (t .sizes .n) x)) (sym (its-head-is e)) (rule-atoms .head-in) in
+      (atom-pos (t .sizes .n) a u, le-trans (atom-le (t .sizes .n) a u) k)
+
+-- ---- the tests of a rule, one after the other; r is what each gave
+
+all-and : (p q : ℕ → Bool) (xs : List ℕ) → (all p xs && all q xs) ≡ all (λ x. p x && q x) xs
+all-and p q [] = refl
+all-and p q (x ∷ xs) = swap (p x) (all p xs) (q x) (all q xs) ∙ ap (λ (b : Bool). (p x && q x) && b) (all-and p q xs)
+  where
+    swap : (a b c d : Bool) → ((a && b) && (c && d)) ≡ ((a && c) && (b && d))
+    swap true b true d = refl
+    swap true true false d = refl
+    swap true false false d = refl
+    swap false b c d = refl
+
+-- set bytes s, level bytes ls
+module _ {n : ℕ} {R : Rule} (I : RuleIn n R) (s ls : List ℕ) (i : ℕ) {u : Bool}
+    (e : u ≡ noneIn (valueIn s) (R .negative)) where
+  pub enters-not-kept : u ≡ false → false ≡ enters (setIn n s) ls i R
+  enters-not-kept z = sym (ap (λ (b : Bool). b && all (isBelow ls i) (R .positive)) (sym (none-is n s (R .negative) (I .negative-in)) ∙ sym e ∙ z))
+
+  module _ {v : Bool} (f : v ≡ all (valueIn ls) (R .positive)) (z : u ≡ true) where
+    kept : noneIn (setIn n s) (R .negative) ≡ true
+    kept = sym (none-is n s (R .negative) (I .negative-in)) ∙ sym e ∙ z
+
+    -- what is left of the test
+    left : (v && all (λ b. ltb (levelAt ls b) i) (R .positive)) ≡ enters (setIn n s) ls i R
+    left =
+        ap (λ (b : Bool). b && all (λ b. ltb (levelAt ls b) i) (R .positive)) f
+        ∙ all-and (valueIn ls) (λ b. ltb (levelAt ls b) i) (R .positive)
+        ∙ sym (ap (λ (b : Bool). b && all (isBelow ls i) (R .positive)) kept)
+
+    pub enters-unmet : v ≡ false → false ≡ enters (setIn n s) ls i R
+    enters-unmet y = sym (ap (λ (b : Bool). b && all (λ b. ltb (levelAt ls b) i) (R .positive)) y) ∙ left
+
+    pub enters-is : {x : Bool} → v ≡ true → x ≡ all (λ b. ltb (levelAt ls b) i) (R .positive) → x ≡ enters (setIn n s) ls i R
+    enters-is y g = g ∙ sym (ap (λ (b : Bool). b && all (λ b. ltb (levelAt ls b) i) (R .positive)) y) ∙ left

@@ -1,0 +1,113 @@
+-- Lists of atoms and bytes read one after the other, as the loops do.
+--   byte-is, byte-put           the byte of an atom
+--   scan-asks                   the atom at hand has a byte
+--   scan-more, scan-fails, scan-all    a test of each atom of a list
+--   unlike-zero, unlike-some    one of two bytes alone is 0
+--   Alike, alike-more, unlike-here, unlike-nowhere    the first atom at which bytes differ so
+--   zeros-more                  zeros, one more
+-- Assumes nothing.
+use Prim.Native.Nat.{ℕ, zero, suc, pred, _+_, _-_, _≤_, _<_}
+use native.Mathlib.Nat.{le-antisymm}
+use native.Mathlib.Numerals.{add-one}
+use native.Mathlib.Omega.{arith}
+use mathlib.Core.Path.{_≡_, refl, sym, _∙_, ap, subst}
+use mathlib.Core.Logic.{⊎-elim}
+use mathlib.Core.Bool.{Bool, true, false, not, So, Bool·beq}
+use mathlib.Core.List.{List, [], _∷_, _++_, append-assoc}
+use lib.Dec.{eqb}
+use lib.ListN.{length, getD, take, drop, set}
+use lib.Seq.{take-suc, take-all, set-at, drop-cons}
+use borrow.Author.Tests.{eq-eqb, ne-eqb}
+use Rattle.lists.specs.Lists.{all, tab, first}
+use Rattle.lists.proofs.Bools.{and-in, false-of, not-So}
+use Rattle.lists.proofs.Tests.{le-or-lt, all-at, all-append, up-to}
+use Rattle.lists.proofs.Tables.{length-tab}
+use Rattle.lists.proofs.First.{first-is, first-le, first-pos, first-none}
+use Rattle.meaning.specs.Program.{isAtom}
+use Rattle.theory.proofs.Atoms.{atom-pos, atom-le}
+use Rattle.clause_literals.proofs.Products.{one-before}
+use Rattle.truth_clauses.specs.Truth.{valueIn}
+use Rattle.level_stages.specs.Levels.{levelAt, firstUnlike}
+
+pub byte-is : (bs : List ℕ) {x a : ℕ} → x ≡ a → getD bs (x - 1) 0 ≡ levelAt bs a
+byte-is bs {x} {a} e = ap (λ (k : ℕ). getD bs (k - 1) 0) e ∙ ap (λ (k : ℕ). getD bs k 0) (one-before a)
+
+pub byte-put : (bs : List ℕ) {x a : ℕ} (v : ℕ) → x ≡ a → set bs (x - 1) v ≡ set bs (pred a) v
+byte-put bs {x} {a} v e = ap (λ (k : ℕ). set bs k v) (ap (λ (k : ℕ). k - 1) e ∙ one-before a)
+
+-- ---- a test of each atom of a list
+
+pub scan-asks : (n : ℕ) (xs : List ℕ) (j : ℕ) → So (all (isAtom n) xs) → j < length xs → (0 < getD xs j 0) × (getD xs j 0 ≤ n)
+scan-asks n xs j t h =
+    let u = all-at (isAtom n) xs 0 t j h in (atom-pos n (getD xs j 0) u, atom-le n (getD xs j 0) u)
+
+module _ (p : ℕ → Bool) (xs : List ℕ) (j : ℕ) where
+  pub scan-more : j < length xs → So (all p (take j xs)) → So (p (getD xs j 0)) → So (all p (take (j + 1) xs))
+  scan-more h t u =
+      ap (λ (k : ℕ). all p (take k xs)) (add-one j) ∙ ap (all p) (take-suc xs j 0 h)
+      ∙ all-append p (take j xs) (getD xs j 0 ∷ []) ∙ and-in t (and-in u refl)
+
+  pub scan-fails : j < length xs → p (getD xs j 0) ≡ false → false ≡ all p xs
+  scan-fails h u = sym (false-of (all p xs) (λ t. not-So (p (getD xs j 0)) u (all-at p xs 0 t j h)))
+
+  pub scan-all : length xs ≤ j → So (all p (take j xs)) → true ≡ all p xs
+  scan-all h t = sym (ap (all p) (sym (take-all j xs h)) ∙ t)
+
+-- ---- the first atom at which bytes differ in being 0
+
+pub unlike-zero : (x y : ℕ) → x ≡ 0 → not (eqb y 0) ≡ not (Bool·beq (not (eqb x 0)) (not (eqb y 0)))
+unlike-zero x y e = go (eqb y 0) ∙ sym (ap (λ (b : Bool). not (Bool·beq (not b) (not (eqb y 0)))) (eq-eqb x 0 e))
+  where
+    go : (b : Bool) → not b ≡ not (Bool·beq false (not b))
+    go true = refl
+    go false = refl
+
+pub unlike-some : (x y : ℕ) → (x ≡ 0 → ⊥) → eqb y 0 ≡ not (Bool·beq (not (eqb x 0)) (not (eqb y 0)))
+unlike-some x y f = go (eqb y 0) ∙ sym (ap (λ (b : Bool). not (Bool·beq (not b) (not (eqb y 0)))) (ne-eqb x 0 f))
+  where
+    go : (b : Bool) → b ≡ not (Bool·beq true (not b))
+    go true = refl
+    go false = refl
+
+module _ (s ls : List ℕ) where
+  abbrev unlikeAt : ℕ → Bool
+  unlikeAt a = not (Bool·beq (valueIn s a) (valueIn ls a))
+
+  -- the atoms 1 to a are alike
+  abbrev pub Alike : ℕ → Type 0
+  Alike a = (i : ℕ) → i < a → unlikeAt (suc i) ≡ false
+
+  pub alike-more : (a : ℕ) {r : Bool} → Alike a → r ≡ unlikeAt (suc a) → r ≡ false → Alike (a + 1)
+  alike-more a f e u = subst (λ (k : ℕ). Alike k) (sym (add-one a)) (up-to (λ i. unlikeAt (suc i) ≡ false) a f (sym e ∙ u))
+
+  pub unlike-here : (n a : ℕ) {r : Bool} → Alike a → a < n → r ≡ unlikeAt (suc a) → r ≡ true → a + 1 ≡ firstUnlike n s ls
+  unfolding firstUnlike
+  unlike-here n a f h e u = le-antisymm least (subst (λ (k : ℕ). first n unlikeAt ≤ k) (sym (add-one a)) (first-le n unlikeAt a h here))
+    where
+      here : So (unlikeAt (suc a))
+      here = sym e ∙ u
+
+      no : (k : ℕ) → k ≡ first n unlikeAt → k < a + 1 → ⊥
+      no zero q l = absurd (omega (arith, first-pos n unlikeAt a h here, q))
+      no (suc k) q l =
+          not-So (unlikeAt (suc k)) (f k (omega (arith, l)))
+          (subst (λ (x : ℕ). So (unlikeAt x)) (sym q) (first-is n unlikeAt .passes (omega (arith, q))))
+
+      least : a + 1 ≤ first n unlikeAt
+      least = ⊎-elim (λ (l : a + 1 ≤ first n unlikeAt). l) (λ (l : first n unlikeAt < a + 1). absurd (no (first n unlikeAt) refl l)) (le-or-lt (a + 1) (first n unlikeAt))
+
+  pub unlike-nowhere : (n a : ℕ) → Alike a → n ≤ a → 0 ≡ firstUnlike n s ls
+  unfolding firstUnlike
+  unlike-nowhere n a f h = sym (first-none n unlikeAt (λ i k. f i (omega (arith, h, k))))
+
+-- ---- zeros
+
+pub zeros-more : (bs e : List ℕ) (j : ℕ) → j < length bs → e ≡ tab j (λ a. 0) ++ drop j bs → set e j 0 ≡ tab (j + 1) (λ a. 0) ++ drop (j + 1) bs
+zeros-more bs e j h q =
+    ap (λ (l : List ℕ). set l j 0) (q ∙ ap (λ (l : List ℕ). tab j (λ a. 0) ++ l) (drop-cons bs j 0 h))
+    ∙ set-at (tab j (λ a. 0)) (getD bs j 0) (drop (suc j) bs) 0 j (length-tab j (λ a. 0))
+    ∙ sym (append-assoc (tab j (λ a. 0)) (0 ∷ []) (drop (suc j) bs))
+    ∙ ap (λ (k : ℕ). tab k (λ a. 0) ++ drop k bs) (sym (add-one j))
+
+pub zeros-all : (bs e : List ℕ) (n j : ℕ) → j ≤ n → n ≤ j → e ≡ tab j (λ a. 0) ++ drop j bs → e ≡ tab n (λ a. 0) ++ drop n bs
+zeros-all bs e n j h l q = q ∙ ap (λ (k : ℕ). tab k (λ a. 0) ++ drop k bs) (le-antisymm h l)

@@ -1,0 +1,56 @@
+use Prim.Native.Nat.{_-_}
+use denote.Ref.{now}
+use borrow.Author.Needs.{needs}
+use Rattle.clause_tables.specs.Tables.{programIn}
+use Rattle.level_stages.proofs.Turns.{Turned, begins, asks, goes, ends}
+use Rattle.level_stages.proofs.round.Statement.{statement}
+use Rattle.level_stages.proofs.round.Tie as tie
+
+abbrev Inv-loop : tie.InvT-loop
+Inv-loop t heads starts bodies before partners owners i set levels₀ given₀ r₀ levels given r = Turned (programIn (t .sizes) heads starts bodies) t set levels₀ i r levels given
+
+abbrev μ-loop : tie.MeasureT-loop
+μ-loop t heads starts bodies before partners owners i set levels₀ given₀ r₀ levels given r = t .sizes .m - r
+
+loop-holds : tie.Need-loop-holds Inv-loop μ-loop
+loop-holds c = begins (c .before .before .before .before .before .before .before .before .pre .0) (now (c .before .before .before .before .before .before .before .before .args .set)) (now (c .before .before .before .before .before .before .before .before .args .levels)) (c .before .before .before .before .before .before .before .before .args .i) (c .before .before .before .before .before .before .before .before .pre .3)
+
+add-put-rule : tie.Need-add-put-rule Inv-loop μ-loop
+add-put-rule c = search needs
+
+put-rule-requires : tie.Need-put-rule-requires Inv-loop μ-loop
+put-rule-requires c κs = let q = asks (c .before .before .before .before .before .before .before .before .before .before .before .before .pre .0) (now (c .before .before .before .before .before .before .before .before .before .before .before .before .args .set)) (now (c .before .before .before .before .before .before .before .before .before .before .before .before .args .levels)) (c .before .before .before .before .before .before .before .before .before .before .before .before .args .i) (c .before .before .before .loop .inv) (c .before .if1 .taken) (c .before .before .before .before .before .before .before .before .before .before .before .before .pre .3) in (c .before .before .before .before .before .before .before .before .before .before .before .before .pre .0, q .0, q .1, c .before .before .before .before .before .before .before .before .before .before .before .before .pre .2, q .2)
+
+either-requires : tie.Need-either-requires Inv-loop μ-loop
+either-requires c κs = search needs
+
+add-r : tie.Need-add-r Inv-loop μ-loop
+add-r c = search needs
+
+loop-less : tie.Need-loop-less Inv-loop μ-loop
+loop-less c = search needs
+
+loop-again : tie.Need-loop-again Inv-loop μ-loop
+loop-again c = goes (c .before .before .before .before .before .before .before .before .before .before .before .before .before .before .before .before .pre .0) (now (c .before .before .before .before .before .before .before .before .before .before .before .before .before .before .before .before .args .set)) (now (c .before .before .before .before .before .before .before .before .before .before .before .before .before .before .before .before .args .levels)) (c .before .before .before .before .before .before .before .before .before .before .before .before .before .before .before .before .args .i) (c .before .before .before .before .before .before .before .loop .inv) (c .before .before .before .before .before .before .before .before .before .before .before .before .before .before .before .before .pre .1) (c .before .before .before .before .before .if1 .taken) (c .before .before .before .put-rule .kept .1 .1 .1 .1 .1 .1 .1 .1 .1 .1 .0) (c .before .before .before .put-rule .ensures) (c .either .ensures)
+
+same-length : tie.Need-same-length Inv-loop μ-loop
+same-length c = c .before .before .loop .inv .same
+
+returns : tie.Need-returns Inv-loop μ-loop
+returns c = ends (c .before .before .before .before .before .before .before .before .before .before .before .pre .0) (now (c .before .before .before .before .before .before .before .before .before .before .before .args .set)) (now (c .before .before .before .before .before .before .before .before .before .before .before .args .levels)) (c .before .before .before .before .before .before .before .before .before .before .before .args .i) (c .before .before .loop .inv) (c .if1 .left)
+
+pub round-spec : {M : Type 1} → statement M
+round-spec =
+    tie.close
+    (tie.spec
+    Inv-loop
+    μ-loop
+    loop-holds
+    add-put-rule
+    put-rule-requires
+    either-requires
+    add-r
+    loop-less
+    loop-again
+    same-length
+    returns)

@@ -1,0 +1,379 @@
+// The level numbers of a set of atoms (document 01, "Meaning"): the stages of its reduct, in one round over the rules for each,
+// and the smallest atom where the set and the least model differ.
+use clause_tables::Totals;
+use numbers::Rule;
+use numbers::wide;
+use program::head;
+ghost use Prim.Native.Nat.{pred, _+_, _-_, _*_, _≤_, _<_};
+ghost use mathlib.Core.Path.{_≡_};
+ghost use mathlib.Core.Bool.{So, not, _||_, Bool·beq};
+ghost use mathlib.Core.List.{_++_};
+ghost use lib.Dec.{eqb, ltb};
+ghost use lib.ListN.{length, getD, drop, set as put};
+ghost use Rattle.lists.specs.Lists.{all, any, tab};
+ghost use Rattle.meaning.specs.Program.{ruleAt, isAtom, noneIn};
+ghost use Rattle.meaning.specs.Stage.{level};
+ghost use Rattle.clause_tables.specs.Tables.{programIn, Ready};
+ghost use Rattle.truth_clauses.specs.Truth.{valueIn};
+ghost use Rattle.level_stages.specs.Levels.{setIn, levelAt, enters, fires, firedBytes, levelAfter, firstUnlike};
+
+// The byte of atom a.
+pub fn byte_of(bytes: &[u8], a: u16) -> u8
+    requires { ⌜ (0 < a) × (a ≤ length (now bytes)) ⌝ }
+    ensures { λ r. ⌜ r ≡ levelAt (now (bytes .entry)) a ⌝ }
+{
+    bytes[wide(a) - 1]
+}
+
+fn put_byte(bytes: &mut [u8], a: u16, x: u8)
+    requires { ⌜ (0 < a) × (a ≤ length (now bytes)) ⌝ }
+    ensures { λ r. ⌜ now (bytes .exit) ≡ put (now (bytes .entry)) (pred a) x ⌝ }
+{
+    let i = wide(a) - 1;
+    bytes[i] = x;
+}
+
+// Of a list of atoms: whether each has byte 0, whether none has, and whether each has a byte below x.
+fn none_in<'a>(atoms: &'a [u16], bytes: &'a [u8]) -> bool
+    requires { ⌜ So (all (isAtom (length (now bytes))) (now atoms)) ⌝ }
+    ensures { λ r. ⌜ r ≡ noneIn (valueIn (now (bytes .entry))) (now (atoms .entry)) ⌝ }
+{
+    let mut j: usize = 0;
+    while j < atoms.len() {
+        if byte_of(bytes, atoms[j]) != 0 {
+            return false;
+        }
+        j += 1;
+    }
+    true
+}
+
+fn all_in<'a>(atoms: &'a [u16], bytes: &'a [u8]) -> bool
+    requires { ⌜ So (all (isAtom (length (now bytes))) (now atoms)) ⌝ }
+    ensures { λ r. ⌜ r ≡ all (valueIn (now (bytes .entry))) (now (atoms .entry)) ⌝ }
+{
+    let mut j: usize = 0;
+    while j < atoms.len() {
+        if byte_of(bytes, atoms[j]) == 0 {
+            return false;
+        }
+        j += 1;
+    }
+    true
+}
+
+fn all_below<'a>(atoms: &'a [u16], bytes: &'a [u8], x: u8) -> bool
+    requires { ⌜ So (all (isAtom (length (now bytes))) (now atoms)) ⌝ }
+    ensures { λ r. ⌜ r ≡ all (λ b. ltb (levelAt (now (bytes .entry)) b) x) (now (atoms .entry)) ⌝ }
+{
+    let mut j: usize = 0;
+    while j < atoms.len() {
+        if x <= byte_of(bytes, atoms[j]) {
+            return false;
+        }
+        j += 1;
+    }
+    true
+}
+
+// Where the lists of rule r begin and end: start 0 is that of B, start 1 that of C, and C ends at start 2.
+fn list_start(starts: &[u16], r: u16, k: usize) -> usize
+    requires { ⌜ (0 < r) × (r ≤ 500) × (k ≤ 2) × (length (now starts) ≡ 1001) ⌝ }
+    ensures { λ x. ⌜ x ≡ getD (now (starts .entry)) (2 * (r - 1) + k) 0 ⌝ }
+{
+    let j = 2 * wide(r - 1) + k;
+    wide(starts[j])
+}
+
+// Of rule r: whether each C atom has byte 0, whether no B atom has, and whether each B atom has a byte below y.
+pub fn negatives_out<'a>(
+    t: Totals,
+    heads: &'a [u16],
+    starts: &'a [u16],
+    bodies: &'a [u16],
+    before: &'a [u16],
+    partners: &'a [u16],
+    owners: &'a [u16],
+    r: u16,
+    bytes: &'a [u8],
+) -> bool
+    requires { ⌜ (Ready t (now heads) (now starts) (now bodies) (now before) (now partners) (now owners)) × (0 < r) × (r ≤ t .sizes .m) × (t .sizes .n ≤ length (now bytes)) ⌝ }
+    ensures { λ x. ⌜ x ≡ noneIn (valueIn (now (bytes .entry))) (ruleAt (programIn (t .sizes) (now (heads .entry)) (now (starts .entry)) (now (bodies .entry)) .rules) r .negative) ⌝ }
+{
+    let first = list_start(starts, r, 1);
+    let end = list_start(starts, r, 2);
+    none_in(&bodies[first..end], bytes)
+}
+
+pub fn positives_in<'a>(
+    t: Totals,
+    heads: &'a [u16],
+    starts: &'a [u16],
+    bodies: &'a [u16],
+    before: &'a [u16],
+    partners: &'a [u16],
+    owners: &'a [u16],
+    r: u16,
+    bytes: &'a [u8],
+) -> bool
+    requires { ⌜ (Ready t (now heads) (now starts) (now bodies) (now before) (now partners) (now owners)) × (0 < r) × (r ≤ t .sizes .m) × (t .sizes .n ≤ length (now bytes)) ⌝ }
+    ensures { λ x. ⌜ x ≡ all (valueIn (now (bytes .entry))) (ruleAt (programIn (t .sizes) (now (heads .entry)) (now (starts .entry)) (now (bodies .entry)) .rules) r .positive) ⌝ }
+{
+    let first = list_start(starts, r, 0);
+    let end = list_start(starts, r, 1);
+    all_in(&bodies[first..end], bytes)
+}
+
+pub fn positives_below<'a>(
+    t: Totals,
+    heads: &'a [u16],
+    starts: &'a [u16],
+    bodies: &'a [u16],
+    before: &'a [u16],
+    partners: &'a [u16],
+    owners: &'a [u16],
+    r: u16,
+    bytes: &'a [u8],
+    y: u8,
+) -> bool
+    requires { ⌜ (Ready t (now heads) (now starts) (now bodies) (now before) (now partners) (now owners)) × (0 < r) × (r ≤ t .sizes .m) × (t .sizes .n ≤ length (now bytes)) ⌝ }
+    ensures { λ x. ⌜ x ≡ all (λ b. ltb (levelAt (now (bytes .entry)) b) y) (ruleAt (programIn (t .sizes) (now (heads .entry)) (now (starts .entry)) (now (bodies .entry)) .rules) r .positive) ⌝ }
+{
+    let first = list_start(starts, r, 0);
+    let end = list_start(starts, r, 1);
+    all_below(&bodies[first..end], bytes, y)
+}
+
+// Whether rule r is kept and each of its B has a level below i.
+fn rule_enters<'a>(
+    t: Totals,
+    heads: &'a [u16],
+    starts: &'a [u16],
+    bodies: &'a [u16],
+    before: &'a [u16],
+    partners: &'a [u16],
+    owners: &'a [u16],
+    r: u16,
+    i: u8,
+    set: &'a [u8],
+    levels: &'a [u8],
+) -> bool
+    requires { ⌜ (Ready t (now heads) (now starts) (now bodies) (now before) (now partners) (now owners)) × (0 < r) × (r ≤ t .sizes .m) × (t .sizes .n ≤ length (now set)) × (t .sizes .n ≤ length (now levels)) ⌝ }
+    ensures { λ x. ⌜ x ≡ enters (setIn (t .sizes .n) (now (set .entry))) (now (levels .entry)) i (ruleAt (programIn (t .sizes) (now (heads .entry)) (now (starts .entry)) (now (bodies .entry)) .rules) r) ⌝ }
+{
+    if !negatives_out(t, heads, starts, bodies, before, partners, owners, r, set) {
+        return false;
+    }
+    if !positives_in(
+        t,
+        heads,
+        starts,
+        bodies,
+        before,
+        partners,
+        owners,
+        r,
+        levels,
+    ) {
+        return false;
+    }
+    positives_below(
+        t,
+        heads,
+        starts,
+        bodies,
+        before,
+        partners,
+        owners,
+        r,
+        levels,
+        i,
+    )
+}
+
+// One rule's turn in round i: its head is given level i if it has none and the rule puts it into stage i.
+fn put_rule<'a>(
+    t: Totals,
+    heads: &'a [u16],
+    starts: &'a [u16],
+    bodies: &'a [u16],
+    before: &'a [u16],
+    partners: &'a [u16],
+    owners: &'a [u16],
+    r: u16,
+    i: u8,
+    set: &'a [u8],
+    levels: &mut [u8],
+) -> bool
+    requires { ⌜ (Ready t (now heads) (now starts) (now bodies) (now before) (now partners) (now owners)) × (0 < r) × (r ≤ t .sizes .m) × (t .sizes .n ≤ length (now set)) × (t .sizes .n ≤ length (now levels)) ⌝ }
+    ensures { λ x. ⌜ (x ≡ fires (setIn (t .sizes .n) (now (set .entry))) (now (levels .entry)) i (ruleAt (programIn (t .sizes) (now (heads .entry)) (now (starts .entry)) (now (bodies .entry)) .rules) r)) × (now (levels .exit) ≡ firedBytes (setIn (t .sizes .n) (now (set .entry))) i (ruleAt (programIn (t .sizes) (now (heads .entry)) (now (starts .entry)) (now (bodies .entry)) .rules) r) (now (levels .entry))) ⌝ }
+{
+    let h = head(heads, Rule(r)).0;
+    if byte_of(&levels[..], h) != 0 {
+        return false;
+    }
+    if !rule_enters(
+        t,
+        heads,
+        starts,
+        bodies,
+        before,
+        partners,
+        owners,
+        r,
+        i,
+        set,
+        &levels[..],
+    ) {
+        return false;
+    }
+    put_byte(&mut *levels, h, i);
+    true
+}
+
+fn either(x: bool, y: bool) -> bool
+    ensures { λ r. ⌜ r ≡ (x || y) ⌝ }
+{
+    if x {
+        return true;
+    }
+    y
+}
+
+// Round i: each rule has its turn. Whether an atom was given a level.
+fn round<'a>(
+    t: Totals,
+    heads: &'a [u16],
+    starts: &'a [u16],
+    bodies: &'a [u16],
+    before: &'a [u16],
+    partners: &'a [u16],
+    owners: &'a [u16],
+    i: u8,
+    set: &'a [u8],
+    levels: &mut [u8],
+) -> bool
+    requires { ⌜ (Ready t (now heads) (now starts) (now bodies) (now before) (now partners) (now owners)) × (0 < i) × (t .sizes .n ≤ length (now set)) × (t .sizes .n ≤ length (now levels)) ⌝ }
+    ensures { λ x. ⌜ (x ≡ any (fires (setIn (t .sizes .n) (now (set .entry))) (now (levels .entry)) i) (programIn (t .sizes) (now (heads .entry)) (now (starts .entry)) (now (bodies .entry)) .rules)) × (now (levels .exit) ≡ tab (t .sizes .n) (levelAfter (setIn (t .sizes .n) (now (set .entry))) (now (levels .entry)) i (programIn (t .sizes) (now (heads .entry)) (now (starts .entry)) (now (bodies .entry)) .rules)) ++ drop (t .sizes .n) (now (levels .entry))) ⌝ }
+{
+    let mut given = false;
+    let mut r: u16 = 0;
+    while r < t.sizes.m {
+        let x = put_rule(
+            t,
+            heads,
+            starts,
+            bodies,
+            before,
+            partners,
+            owners,
+            r + 1,
+            i,
+            set,
+            &mut *levels,
+        );
+        given = either(given, x);
+        r += 1;
+    }
+    given
+}
+
+fn zero_bytes(n: u16, bytes: &mut [u8])
+    requires { ⌜ n ≤ length (now bytes) ⌝ }
+    ensures { λ r. ⌜ now (bytes .exit) ≡ tab n (λ a. 0) ++ drop n (now (bytes .entry)) ⌝ }
+{
+    let mut j: usize = 0;
+    while j < wide(n) {
+        bytes[j] = 0;
+        j += 1;
+    }
+}
+
+// The rounds, on bytes that are 0. A round that gives no level is the last.
+fn rounds<'a>(
+    t: Totals,
+    heads: &'a [u16],
+    starts: &'a [u16],
+    bodies: &'a [u16],
+    before: &'a [u16],
+    partners: &'a [u16],
+    owners: &'a [u16],
+    set: &'a [u8],
+    levels: &mut [u8],
+)
+    requires { ⌜ (Ready t (now heads) (now starts) (now bodies) (now before) (now partners) (now owners)) × (t .sizes .n ≤ length (now set)) × (t .sizes .n ≤ length (now levels)) × (now levels ≡ tab (t .sizes .n) (λ a. 0) ++ drop (t .sizes .n) (now levels)) ⌝ }
+    ensures { λ r. ⌜ now (levels .exit) ≡ tab (t .sizes .n) (level (programIn (t .sizes) (now (heads .entry)) (now (starts .entry)) (now (bodies .entry))) (setIn (t .sizes .n) (now (set .entry)))) ++ drop (t .sizes .n) (now (levels .entry)) ⌝ }
+{
+    let mut i: u8 = 0;
+    while (i as u16) < t.sizes.n {
+        if !round(
+            t,
+            heads,
+            starts,
+            bodies,
+            before,
+            partners,
+            owners,
+            i + 1,
+            set,
+            &mut *levels,
+        ) {
+            return;
+        }
+        i += 1;
+    }
+}
+
+// Writes the level of each atom of 1 to n, 0 where no stage holds it.
+pub fn stage_levels<'a>(
+    t: Totals,
+    heads: &'a [u16],
+    starts: &'a [u16],
+    bodies: &'a [u16],
+    before: &'a [u16],
+    partners: &'a [u16],
+    owners: &'a [u16],
+    set: &'a [u8],
+    levels: &mut [u8],
+)
+    requires { ⌜ (Ready t (now heads) (now starts) (now bodies) (now before) (now partners) (now owners)) × (t .sizes .n ≤ length (now set)) × (t .sizes .n ≤ length (now levels)) ⌝ }
+    ensures { λ r. ⌜ now (levels .exit) ≡ tab (t .sizes .n) (level (programIn (t .sizes) (now (heads .entry)) (now (starts .entry)) (now (bodies .entry))) (setIn (t .sizes .n) (now (set .entry)))) ++ drop (t .sizes .n) (now (levels .entry)) ⌝ }
+{
+    zero_bytes(t.sizes.n, &mut *levels);
+    rounds(
+        t,
+        heads,
+        starts,
+        bodies,
+        before,
+        partners,
+        owners,
+        set,
+        &mut *levels,
+    );
+}
+
+// Whether one of two bytes alone is 0.
+fn unlike(x: u8, y: u8) -> bool
+    ensures { λ r. ⌜ r ≡ not (Bool·beq (not (eqb x 0)) (not (eqb y 0))) ⌝ }
+{
+    if x == 0 {
+        return y != 0;
+    }
+    y == 0
+}
+
+// The smallest atom of 1 to n that has byte 0 in one of the set and the levels alone, 0 if there is none.
+pub fn first_difference<'a>(n: u16, set: &'a [u8], levels: &'a [u8]) -> usize
+    requires { ⌜ (n ≤ length (now set)) × (n ≤ length (now levels)) ⌝ }
+    ensures { λ r. ⌜ r ≡ firstUnlike n (now (set .entry)) (now (levels .entry)) ⌝ }
+{
+    let mut a: usize = 0;
+    while a < wide(n) {
+        if unlike(set[a], levels[a]) {
+            return a + 1;
+        }
+        a += 1;
+    }
+    0
+}

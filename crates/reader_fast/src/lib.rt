@@ -1,0 +1,412 @@
+// Reads many bytes at once where the text has the expected form: fixed bytes, numbers of one to three digits, lists, lines.
+//
+// Each function goes on from where the reading stands, or stays there: the rest of the text is read to the same end from the stand that it
+// returns. None of them refuses a text. What they do not take is left to the automaton.
+use numbers::Atom;
+use numbers::Rule;
+use numbers::wide;
+use reader_form::is_digit;
+use reader_work::put_body;
+use reader_work::put_head;
+ghost use Prim.Native.Nat.{_<_};
+ghost use mathlib.Core.Path.{_≡_};
+ghost use Rattle.reader_fast.specs.Standing.{readOn, Goes, GoesHeads, GoesStarts, GoesBodies};
+ghost use Rattle.reader_fast.specs.Standing.{hasAt, numeralOf, numeralAt, readyAt, listAt, listingAt, fitsAt, addedTo};
+
+// Where the reading stands, with no number at hand and nothing refused: the place in the form and its mode, the next byte, what is counted,
+// and the list's last number. The fields leave no gap between them, so a copy moves whole words.
+pub struct Stand {
+    pub k: usize,
+    pub at: usize,
+    pub rules: u16,
+    pub held: u16,
+    pub prev: u16,
+    pub atoms: u8,
+    pub mode: u8,
+}
+
+// A number, and how many digits it has: size 0 stands for no number.
+struct Numeral {
+    value: u16,
+    size: usize,
+}
+
+// ---- the text
+
+// Whether the bytes from `at` on begin with `word`.
+fn has<'a>(text: &'a [u8], at: usize, word: &'a [u8]) -> bool
+    ensures { λ r. ⌜ r ≡ hasAt (now (text .entry)) at (now (word .entry)) ⌝ }
+{
+    if text.len() < word.len() {
+        return false;
+    }
+    if text.len() - word.len() < at {
+        return false;
+    }
+    let mut k: usize = 0;
+    while k < word.len() {
+        if text[at + k] != word[k] {
+            return false;
+        }
+        k += 1;
+    }
+    true
+}
+
+// The number of one to three digits, the first not 0, that begins with the bytes a, b and c.
+fn numeral_of(a: u8, b: u8, c: u8) -> Numeral
+    ensures { λ r. ⌜ r ≡ numeralOf a b c ⌝ }
+{
+    if a < 49 {
+        return Numeral { value: 0, size: 0 };
+    }
+    if 57 < a {
+        return Numeral { value: 0, size: 0 };
+    }
+    let x = (a - 48) as u16;
+    if !is_digit(b) {
+        return Numeral { value: x, size: 1 };
+    }
+    let y = x * 10 + (b - 48) as u16;
+    if !is_digit(c) {
+        return Numeral { value: y, size: 2 };
+    }
+    Numeral {
+        value: y * 10 + (c - 48) as u16,
+        size: 3,
+    }
+}
+
+// Such a number at `at`, where four bytes are left.
+fn numeral_at(text: &[u8], at: usize) -> Numeral
+    ensures { λ r. ⌜ r ≡ numeralAt (now (text .entry)) at ⌝ }
+{
+    if text.len() < 4 {
+        return Numeral { value: 0, size: 0 };
+    }
+    if text.len() - 4 < at {
+        return Numeral { value: 0, size: 0 };
+    }
+    numeral_of(text[at], text[at + 1], text[at + 2])
+}
+
+// ---- the stand
+
+// Whether the reading stands at place k itself, with fewer than 500 rules.
+fn ready(s: Stand, k: usize) -> bool
+    ensures { λ r. ⌜ r ≡ readyAt s k ⌝ }
+{
+    if s.k != k {
+        return false;
+    }
+    if s.mode != 0 {
+        return false;
+    }
+    s.rules < 500
+}
+
+// Whether place k has a list.
+fn is_list(k: usize) -> bool
+    ensures { λ r. ⌜ r ≡ listAt k ⌝ }
+{
+    if k == 19 {
+        return true;
+    }
+    k == 23
+}
+
+// Whether the reading stands in a list where a number may begin.
+fn listing(s: Stand) -> bool
+    ensures { λ r. ⌜ r ≡ listingAt s ⌝ }
+{
+    if !is_list(s.k) {
+        return false;
+    }
+    if s.mode == 0 {
+        return true;
+    }
+    s.mode == 3
+}
+
+// Whether the number is an atom above the list's last one, and there is room for it.
+fn fits(s: Stand, value: u16) -> bool
+    ensures { λ r. ⌜ r ≡ fitsAt s value ⌝ }
+{
+    if (s.atoms as u16) < value {
+        return false;
+    }
+    if value <= s.prev {
+        return false;
+    }
+    s.held < 500
+}
+
+// The stand with one body atom more, at place k, in `mode`, before byte `at`.
+fn added(s: Stand, value: u16, k: usize, mode: u8, at: usize) -> Stand
+    requires { ⌜ s .held < 500 ⌝ }
+    ensures { λ r. ⌜ r ≡ addedTo s value k mode at ⌝ }
+{
+    Stand {
+        k: k,
+        at: at,
+        rules: s.rules,
+        held: s.held + 1,
+        prev: value,
+        atoms: s.atoms,
+        mode: mode,
+    }
+}
+
+// ---- the parts of the form
+
+// The first line.
+fn first(text: &[u8], s: Stand) -> Stand
+    ensures { λ r. ⌜ Goes s r (now (text .entry)) ⌝ }
+{
+    if !ready(s, 0) {
+        return s;
+    }
+    let at = s.at;
+    if !has(text, at, b"(atoms ") {
+        return s;
+    }
+    let n = numeral_at(text, at + 7);
+    if n.size == 0 {
+        return s;
+    }
+    if 126 < n.value {
+        return s;
+    }
+    let to = at + 7 + n.size;
+    if !has(text, to, b")\n") {
+        return s;
+    }
+    Stand {
+        k: 10,
+        at: to + 2,
+        rules: s.rules,
+        held: s.held,
+        prev: s.prev,
+        atoms: n.value as u8,
+        mode: 0,
+    }
+}
+
+// The bytes before a head.
+fn begun(text: &[u8], s: Stand) -> Stand
+    ensures { λ r. ⌜ Goes s r (now (text .entry)) ⌝ }
+{
+    if !ready(s, 10) {
+        return s;
+    }
+    let at = s.at;
+    if !has(text, at, b"(rule ") {
+        return s;
+    }
+    Stand {
+        k: 16,
+        at: at + 6,
+        rules: s.rules,
+        held: s.held,
+        prev: s.prev,
+        atoms: s.atoms,
+        mode: 0,
+    }
+}
+
+// A head, and the bytes up to the first list.
+fn headed(text: &[u8], s: Stand, heads: &mut [u16; 500]) -> Stand
+    ensures { λ r. ⌜ GoesHeads s (now (heads .entry)) r (now (heads .exit)) (now (text .entry)) ⌝ }
+{
+    if !ready(s, 16) {
+        return s;
+    }
+    let at = s.at;
+    let n = numeral_at(text, at);
+    if n.size == 0 {
+        return s;
+    }
+    if (s.atoms as u16) < n.value {
+        return s;
+    }
+    let to = at + n.size;
+    if !has(text, to, b" (") {
+        return s;
+    }
+    put_head(&mut *heads, Rule(s.rules + 1), Atom(n.value));
+    Stand {
+        k: 19,
+        at: to + 2,
+        rules: s.rules,
+        held: s.held,
+        prev: 0,
+        atoms: s.atoms,
+        mode: 0,
+    }
+}
+
+// The closing bracket of an empty list.
+fn closed(text: &[u8], s: Stand) -> Stand
+    ensures { λ r. ⌜ Goes s r (now (text .entry)) ⌝ }
+{
+    if !is_list(s.k) {
+        return s;
+    }
+    if s.mode != 0 {
+        return s;
+    }
+    let at = s.at;
+    if !has(text, at, b")") {
+        return s;
+    }
+    Stand {
+        k: s.k + 2,
+        at: at + 1,
+        rules: s.rules,
+        held: s.held,
+        prev: s.prev,
+        atoms: s.atoms,
+        mode: 0,
+    }
+}
+
+// A body atom, and the space or bracket behind it.
+fn item(text: &[u8], s: Stand, bodies: &mut [u16; 500]) -> Stand
+    ensures { λ r. ⌜ GoesBodies s (now (bodies .entry)) r (now (bodies .exit)) (now (text .entry)) ⌝ }
+{
+    if !listing(s) {
+        return s;
+    }
+    let n = numeral_at(text, s.at);
+    if n.size == 0 {
+        return s;
+    }
+    if !fits(s, n.value) {
+        return s;
+    }
+    let to = s.at + n.size;
+    let b = text[to];
+    if b == 32 {
+        put_body(&mut *bodies, wide(s.held), Atom(n.value));
+        return added(s, n.value, s.k, 3, to + 1);
+    }
+    if b == 41 {
+        put_body(&mut *bodies, wide(s.held), Atom(n.value));
+        return added(s, n.value, s.k + 2, 0, to + 1);
+    }
+    s
+}
+
+// The atoms of a list, and its closing bracket.
+fn items(text: &[u8], s: Stand, bodies: &mut [u16; 500]) -> Stand
+    ensures { λ r. ⌜ GoesBodies s (now (bodies .entry)) r (now (bodies .exit)) (now (text .entry)) ⌝ }
+{
+    let mut p = s;
+    while is_list(p.k) {
+        let q = item(text, p, &mut *bodies);
+        if q.at <= p.at {
+            return q;
+        }
+        p = q;
+    }
+    p
+}
+
+// The bytes between the two lists.
+fn between(text: &[u8], s: Stand, starts: &mut [u16; 1001]) -> Stand
+    ensures { λ r. ⌜ GoesStarts s (now (starts .entry)) r (now (starts .exit)) (now (text .entry)) ⌝ }
+{
+    if !ready(s, 21) {
+        return s;
+    }
+    let at = s.at;
+    if !has(text, at, b" (") {
+        return s;
+    }
+    starts[2 * wide(s.rules) + 1] = s.held;
+    Stand {
+        k: 23,
+        at: at + 2,
+        rules: s.rules,
+        held: s.held,
+        prev: 0,
+        atoms: s.atoms,
+        mode: 0,
+    }
+}
+
+// The end of a rule line.
+fn shut(text: &[u8], s: Stand, starts: &mut [u16; 1001]) -> Stand
+    ensures { λ r. ⌜ GoesStarts s (now (starts .entry)) r (now (starts .exit)) (now (text .entry)) ⌝ }
+{
+    if !ready(s, 25) {
+        return s;
+    }
+    let at = s.at;
+    if !has(text, at, b")\n") {
+        return s;
+    }
+    starts[2 * wide(s.rules) + 2] = s.held;
+    Stand {
+        k: 10,
+        at: at + 2,
+        rules: s.rules + 1,
+        held: s.held,
+        prev: 0,
+        atoms: s.atoms,
+        mode: 0,
+    }
+}
+
+// A rule line, or what of it is taken.
+fn rule(
+    text: &[u8],
+    s: Stand,
+    heads: &mut [u16; 500],
+    starts: &mut [u16; 1001],
+    bodies: &mut [u16; 500],
+) -> Stand
+    ensures { λ r. ⌜ readOn r (now (heads .exit)) (now (starts .exit)) (now (bodies .exit)) (now (text .entry)) ≡ readOn s (now (heads .entry)) (now (starts .entry)) (now (bodies .entry)) (now (text .entry)) ⌝ }
+{
+    let a = begun(text, s);
+    if a.k != 16 {
+        return a;
+    }
+    let b = headed(text, a, &mut *heads);
+    if b.k != 19 {
+        return b;
+    }
+    let c = closed(text, b);
+    let d = items(text, c, &mut *bodies);
+    if d.k != 21 {
+        return d;
+    }
+    let e = between(text, d, &mut *starts);
+    if e.k != 23 {
+        return e;
+    }
+    let f = closed(text, e);
+    let g = items(text, f, &mut *bodies);
+    shut(text, g, &mut *starts)
+}
+
+// The first line and the rule lines, up to what is not taken.
+pub fn lines(
+    text: &[u8],
+    s: Stand,
+    heads: &mut [u16; 500],
+    starts: &mut [u16; 1001],
+    bodies: &mut [u16; 500],
+) -> Stand
+    ensures { λ r. ⌜ readOn r (now (heads .exit)) (now (starts .exit)) (now (bodies .exit)) (now (text .entry)) ≡ readOn s (now (heads .entry)) (now (starts .entry)) (now (bodies .entry)) (now (text .entry)) ⌝ }
+{
+    let mut p = first(text, s);
+    while p.at < text.len() {
+        let q = rule(text, p, &mut *heads, &mut *starts, &mut *bodies);
+        if q.at <= p.at {
+            return q;
+        }
+        p = q;
+    }
+    p
+}

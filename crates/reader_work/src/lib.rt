@@ -1,0 +1,271 @@
+// What the reader keeps while it reads a program text, and what each byte does to it (document 01, rows 3 to 7).
+use numbers::Atom;
+use numbers::Rule;
+use numbers::wide;
+ghost use Prim.Native.Nat.{_-_, _≤_, _<_};
+ghost use mathlib.Core.Path.{_≡_};
+ghost use lib.ListN.{set};
+ghost use Rattle.reader_work.specs.Work.{refusedOf, withPrev, grownOf, valueOf, beginOf, atomsEnded, headEnded, headStored, bodyEnded, bodyStored};
+ghost use Rattle.reader_work.specs.Work.{openedOf, startStored, ruleShut, endedOf, endedHeads, endedBodies, bracketOf, bracketStarts};
+ghost use Rattle.reader_work.specs.Work.{workOf, workHeads, workStarts, workBodies};
+
+// What is read so far: the number of atoms, the rules and body atoms stored, the list's last number, and the first refusal with its spot
+// (number 0 while there is none).
+pub struct Counts {
+    pub atoms: u16,
+    pub rules: u16,
+    pub held: u16,
+    pub prev: u16,
+    pub number: u8,
+    pub spot: usize,
+}
+
+// Stores the head of rule r, and body atom j, from 0.
+pub fn put_head(heads: &mut [u16; 500], r: Rule, a: Atom)
+    requires { ⌜ (0 < r .0) × (r .0 ≤ 500) ⌝ }
+    ensures { λ u. ⌜ now (heads .exit) ≡ set (now (heads .entry)) (r .0 - 1) (a .0) ⌝ }
+{
+    let i = wide(r.0 - 1);
+    heads[i] = a.0;
+}
+
+pub fn put_body(bodies: &mut [u16; 500], j: usize, a: Atom)
+    requires { ⌜ j < 500 ⌝ }
+    ensures { λ u. ⌜ now (bodies .exit) ≡ set (now (bodies .entry)) j (a .0) ⌝ }
+{
+    bodies[j] = a.0;
+}
+
+// The counts with a refusal.
+pub fn refused(c: Counts, number: u8, spot: usize) -> Counts
+    ensures { λ r. ⌜ r ≡ refusedOf c number spot ⌝ }
+{
+    Counts {
+        atoms: c.atoms,
+        rules: c.rules,
+        held: c.held,
+        prev: c.prev,
+        number: number,
+        spot: spot,
+    }
+}
+
+// The number at hand with one digit more, kept at 1000 once it is that large.
+fn grown(value: u16, b: u8) -> u16
+    ensures { λ r. ⌜ r ≡ grownOf value b ⌝ }
+{
+    if 999 < value {
+        return 1000;
+    }
+    if b < 48 {
+        return 0;
+    }
+    let d = b - 48;
+    let v = value * 10 + d as u16;
+    if 1000 < v {
+        return 1000;
+    }
+    v
+}
+
+// The number at hand after byte b with action `act`: 1 begins it, 2 goes on; there is none otherwise.
+pub fn value_after(act: u8, value: u16, b: u8) -> u16
+    ensures { λ r. ⌜ r ≡ valueOf act value b ⌝ }
+{
+    if act == 1 {
+        return grown(0, b);
+    }
+    if act == 2 {
+        return grown(value, b);
+    }
+    0
+}
+
+// Where the number at hand begins, 0 where there is none.
+pub fn begin_after(act: u8, begin: usize, i: usize) -> usize
+    ensures { λ r. ⌜ r ≡ beginOf act begin i ⌝ }
+{
+    if act == 1 {
+        return i;
+    }
+    if act == 2 {
+        return begin;
+    }
+    0
+}
+
+// The number of atoms is read.
+fn atoms_ended(value: u16, begin: usize, c: Counts) -> Counts
+    ensures { λ r. ⌜ r ≡ atomsEnded value begin c ⌝ }
+{
+    if 126 < value {
+        return refused(c, 3, begin);
+    }
+    Counts {
+        atoms: value,
+        rules: c.rules,
+        held: c.held,
+        prev: c.prev,
+        number: c.number,
+        spot: c.spot,
+    }
+}
+
+// A list begins: none of its numbers is read.
+fn list_begun(c: Counts) -> Counts
+    ensures { λ r. ⌜ r ≡ withPrev c 0 ⌝ }
+{
+    Counts {
+        atoms: c.atoms,
+        rules: c.rules,
+        held: c.held,
+        prev: 0,
+        number: c.number,
+        spot: c.spot,
+    }
+}
+
+// A head is read.
+fn head_ended(value: u16, begin: usize, c: Counts, heads: &mut [u16; 500]) -> Counts
+    ensures { λ r. ⌜ (r ≡ headEnded value begin c) × (now (heads .exit) ≡ headStored value c (now (heads .entry))) ⌝ }
+{
+    if value == 0 {
+        return refused(c, 4, begin);
+    }
+    if c.atoms < value {
+        return refused(c, 4, begin);
+    }
+    if c.rules < 500 {
+        put_head(&mut *heads, Rule(c.rules + 1), Atom(value));
+        return list_begun(c);
+    }
+    list_begun(c)
+}
+
+// A body atom is read.
+fn body_ended(value: u16, begin: usize, c: Counts, bodies: &mut [u16; 500]) -> Counts
+    ensures { λ r. ⌜ (r ≡ bodyEnded value begin c) × (now (bodies .exit) ≡ bodyStored value c (now (bodies .entry))) ⌝ }
+{
+    if value == 0 {
+        return refused(c, 4, begin);
+    }
+    if c.atoms < value {
+        return refused(c, 4, begin);
+    }
+    if value <= c.prev {
+        return refused(c, 5, begin);
+    }
+    if c.held < 500 {
+        put_body(&mut *bodies, wide(c.held), Atom(value));
+        return Counts {
+            atoms: c.atoms,
+            rules: c.rules,
+            held: c.held + 1,
+            prev: value,
+            number: c.number,
+            spot: c.spot,
+        };
+    }
+    refused(c, 7, begin)
+}
+
+// A rule line begins at i.
+fn opened(i: usize, c: Counts) -> Counts
+    ensures { λ r. ⌜ r ≡ openedOf i c ⌝ }
+{
+    if c.rules < 500 {
+        return c;
+    }
+    refused(c, 6, i)
+}
+
+// Stores the end of list j of the rule at hand, 1 for the positive one and 2 for the negative.
+fn list_shut(j: usize, c: Counts, starts: &mut [u16; 1001])
+    ensures { λ r. ⌜ now (starts .exit) ≡ startStored j c (now (starts .entry)) ⌝ }
+{
+    if 499 < c.rules {
+        return;
+    }
+    if j < 3 {
+        let r = wide(c.rules);
+        starts[2 * r + j] = c.held;
+    }
+}
+
+// A rule line ends.
+fn rule_shut(c: Counts) -> Counts
+    ensures { λ r. ⌜ r ≡ ruleShut c ⌝ }
+{
+    if c.rules < 500 {
+        return Counts {
+            atoms: c.atoms,
+            rules: c.rules + 1,
+            held: c.held,
+            prev: 0,
+            number: c.number,
+            spot: c.spot,
+        };
+    }
+    c
+}
+
+// The number at place k is read.
+fn number_ended(
+    k: usize,
+    value: u16,
+    begin: usize,
+    c: Counts,
+    heads: &mut [u16; 500],
+    bodies: &mut [u16; 500],
+) -> Counts
+    ensures { λ r. ⌜ (r ≡ endedOf k value begin c) × ((now (heads .exit) ≡ endedHeads k value c (now (heads .entry))) × (now (bodies .exit) ≡ endedBodies k value c (now (bodies .entry)))) ⌝ }
+{
+    if k == 7 {
+        return atoms_ended(value, begin, c);
+    }
+    if k == 16 {
+        return head_ended(value, begin, c, &mut *heads);
+    }
+    body_ended(value, begin, c, &mut *bodies)
+}
+
+// A list or a line begins or ends at byte i.
+fn bracket(act: u8, i: usize, c: Counts, starts: &mut [u16; 1001]) -> Counts
+    ensures { λ r. ⌜ (r ≡ bracketOf act i c) × (now (starts .exit) ≡ bracketStarts act c (now (starts .entry))) ⌝ }
+{
+    if act == 4 {
+        return opened(i, c);
+    }
+    if act == 5 {
+        list_shut(1, c, &mut *starts);
+        return list_begun(c);
+    }
+    list_shut(2, c, &mut *starts);
+    rule_shut(c)
+}
+
+// What byte i does with action `act` from place k.
+pub fn work(
+    act: u8,
+    k: usize,
+    value: u16,
+    begin: usize,
+    i: usize,
+    c: Counts,
+    heads: &mut [u16; 500],
+    starts: &mut [u16; 1001],
+    bodies: &mut [u16; 500],
+) -> Counts
+    ensures { λ r. ⌜ (r ≡ workOf act k value begin i c) × ((now (heads .exit) ≡ workHeads act k value c (now (heads .entry))) × ((now (starts .exit) ≡ workStarts act c (now (starts .entry))) × (now (bodies .exit) ≡ workBodies act k value c (now (bodies .entry))))) ⌝ }
+{
+    if act < 3 {
+        return c;
+    }
+    if c.number != 0 {
+        return c;
+    }
+    if act == 3 {
+        return number_ended(k, value, begin, c, &mut *heads, &mut *bodies);
+    }
+    bracket(act, i, c, &mut *starts)
+}

@@ -1,0 +1,287 @@
+// Truth of single literals, and of whole rows of clauses, under an assignment (document 01, "Check and filling out").
+use clause_layout::chain_at;
+use clause_layout::entry;
+use clause_literals::Sizes;
+use clause_literals::below_var;
+use clause_literals::body_var;
+use clause_literals::founds_var;
+use clause_literals::is_negative;
+use clause_literals::level_var;
+use clause_literals::literal;
+use clause_literals::magnitude;
+use clause_literals::negated;
+use clause_literals::next_below_var;
+use clause_literals::next_var;
+use clause_slots::Chain;
+use clause_slots::chain_bit;
+use clause_tables::Totals;
+use numbers::Atom;
+use numbers::Rule;
+use numbers::Var;
+use numbers::atom_var;
+ghost use Prim.Native.Nat.{_+_, _-_, _*_, _^_, _≤_, _<_};
+ghost use mathlib.Core.Path.{_≡_};
+ghost use mathlib.Core.Bool.{true, false, _||_, _&&_};
+ghost use lib.IntN.{natAbs};
+ghost use lib.ListN.{length, getD};
+ghost use Rattle.encoding.specs.Literal.{literalTrue};
+ghost use Rattle.encoding.specs.Variables.{levelVar, nextVar, varCount};
+ghost use Rattle.clause_literals.specs.Sizes.{sizesOf, Bounded};
+ghost use Rattle.clause_walk.specs.Walk.{signed, RowAt};
+ghost use Rattle.clause_tables.specs.Tables.{programIn, Ready};
+ghost use Rattle.truth_blocks.specs.Values.{valueIn, numberTrue};
+ghost use Rattle.truth_blocks.specs.Rows.{Has, twoTrue, threeTrue, BitIn, bitTrue, nextTrue, zeroTrue, foundsTrue, factTrue, boundTrue, ruleTrue, rowPasses};
+
+// Whether variable v has 1.
+pub fn value_of(assignment: &[u8], v: usize) -> bool
+    requires { ⌜ (0 < v) × (v ≤ length (now assignment)) ⌝ }
+    ensures { λ r. ⌜ r ≡ valueIn (now (assignment .entry)) v ⌝ }
+{
+    assignment[v - 1] != 0
+}
+
+// Whether the literal x is true: its sign and its variable's value.
+pub fn holds(x: i32, assignment: &[u8]) -> bool
+    requires { ⌜ (natAbs x < 2 ^ 31) × (0 < natAbs x) × (natAbs x ≤ length (now assignment)) ⌝ }
+    ensures { λ r. ⌜ r ≡ numberTrue (now (assignment .entry)) x ⌝ }
+{
+    let v = value_of(assignment, magnitude(x) as usize);
+    if is_negative(x) {
+        return !v;
+    }
+    v
+}
+
+// Whether a literal, given by its sign and its variable, is true.
+fn signed_holds(p: bool, v: Var, assignment: &[u8]) -> bool
+    requires { ⌜ Has (now assignment) (v .0) ⌝ }
+    ensures { λ r. ⌜ r ≡ literalTrue (valueIn (now (assignment .entry))) (signed p (v .0)) ⌝ }
+{
+    if p {
+        return holds(literal(v), assignment);
+    }
+    holds(negated(v), assignment)
+}
+
+// Whether a clause of two such literals is true, and of three.
+fn two_hold(p: bool, x: Var, q: bool, y: Var, assignment: &[u8]) -> bool
+    requires { ⌜ (Has (now assignment) (x .0)) × (Has (now assignment) (y .0)) ⌝ }
+    ensures { λ r. ⌜ r ≡ twoTrue (valueIn (now (assignment .entry))) p (x .0) q (y .0) ⌝ }
+{
+    signed_holds(p, x, assignment) | signed_holds(q, y, assignment)
+}
+
+fn three_hold(p: bool, x: Var, q: bool, y: Var, s: bool, z: Var, assignment: &[u8]) -> bool
+    requires { ⌜ (Has (now assignment) (x .0)) × (Has (now assignment) (y .0)) × (Has (now assignment) (z .0)) ⌝ }
+    ensures { λ r. ⌜ r ≡ threeTrue (valueIn (now (assignment .entry))) p (x .0) q (y .0) s (z .0) ⌝ }
+{
+    signed_holds(p, x, assignment) | signed_holds(q, y, assignment) | signed_holds(s, z, assignment)
+}
+
+// Whether every clause of a chain's first bit is true, and of a further one.
+fn first_bit_holds(c: Chain, assignment: &[u8]) -> bool
+    requires { ⌜ BitIn (now assignment) c 1 ⌝ }
+    ensures { λ r. ⌜ r ≡ bitTrue (valueIn (now (assignment .entry))) c 1 ⌝ }
+{
+    let z = c.z;
+    let x = c.x;
+    let y = c.y;
+    two_hold(false, z, false, x, assignment)
+        & two_hold(false, z, true, y, assignment)
+        & three_hold(true, z, true, x, false, y, assignment)
+}
+
+fn next_bit_holds(c: Chain, assignment: &[u8]) -> bool
+    requires { ⌜ BitIn (now assignment) c 2 ⌝ }
+    ensures { λ r. ⌜ r ≡ bitTrue (valueIn (now (assignment .entry))) c 2 ⌝ }
+{
+    let z = c.z;
+    let x = c.x;
+    let y = c.y;
+    let g = c.g;
+    three_hold(false, z, false, x, true, y, assignment)
+        & three_hold(false, z, false, x, true, g, assignment)
+        & three_hold(false, z, true, y, true, g, assignment)
+        & three_hold(true, z, true, x, false, y, assignment)
+        & three_hold(true, z, true, x, false, g, assignment)
+        & three_hold(true, z, false, y, false, g, assignment)
+}
+
+// Whether every clause of bit i of a chain is true.
+fn bit_holds(c: Chain, i: u16, assignment: &[u8]) -> bool
+    requires { ⌜ BitIn (now assignment) c i ⌝ }
+    ensures { λ r. ⌜ r ≡ bitTrue (valueIn (now (assignment .entry))) c i ⌝ }
+{
+    if i == 1 {
+        return first_bit_holds(c, assignment);
+    }
+    next_bit_holds(c, assignment)
+}
+
+// Group 4, with bit i of a next, u, and of its level, v: whether both clauses of a lower bit x are true.
+fn lower_holds(x: Var, u: Var, v: Var, assignment: &[u8]) -> bool
+    requires { ⌜ (Has (now assignment) (x .0)) × (Has (now assignment) (u .0)) × (Has (now assignment) (v .0)) ⌝ }
+    ensures { λ r. ⌜ r ≡ (threeTrue (valueIn (now (assignment .entry))) true (x .0) false (u .0) true (v .0) && threeTrue (valueIn (now (assignment .entry))) true (x .0) true (u .0) false (v .0)) ⌝ }
+{
+    three_hold(true, x, false, u, true, v, assignment)
+        & three_hold(true, x, true, u, false, v, assignment)
+}
+
+// Whether both long clauses are true, where `low` says that some lower bit has 0.
+fn long_hold(low: bool, u: Var, v: Var, assignment: &[u8]) -> bool
+    requires { ⌜ (Has (now assignment) (u .0)) × (Has (now assignment) (v .0)) ⌝ }
+    ensures { λ r. ⌜ r ≡ ((low || twoTrue (valueIn (now (assignment .entry))) false (u .0) false (v .0)) && (low || twoTrue (valueIn (now (assignment .entry))) true (u .0) true (v .0))) ⌝ }
+{
+    (low | two_hold(false, u, false, v, assignment))
+        & (low | two_hold(true, u, true, v, assignment))
+}
+
+// Group 4, atom a: whether every clause of row i is true.
+fn next_row_holds(s: Sizes, a: Atom, i: u16, assignment: &[u8]) -> bool
+    requires { ⌜ (Bounded s) × (0 < a .0) × (a .0 ≤ 126) × (0 < i) × (i ≤ 7) × (levelVar (sizesOf s) (a .0) i ≤ length (now assignment)) × (nextVar (sizesOf s) (a .0) i ≤ length (now assignment)) ⌝ }
+    ensures { λ r. ⌜ r ≡ nextTrue (valueIn (now (assignment .entry))) (sizesOf s) (a .0) i ⌝ }
+{
+    let u = next_var(s, a, i);
+    let v = level_var(s, a, i);
+    let mut low = false;
+    let mut j: u16 = 0;
+    while j + 1 < i {
+        let x = level_var(s, a, j + 1);
+        if !lower_holds(x, u, v, assignment) {
+            return false;
+        }
+        low = low | signed_holds(false, x, assignment);
+        j += 1;
+    }
+    long_hold(low, u, v, assignment)
+}
+
+// Group 3, atom a: whether every clause of its row is true.
+fn zero_row_holds(s: Sizes, a: Atom, assignment: &[u8]) -> bool
+    requires { ⌜ (Bounded s) × (0 < a .0) × (a .0 ≤ 126) × (a .0 ≤ length (now assignment)) × (levelVar (sizesOf s) (a .0) (s .w) ≤ length (now assignment)) ⌝ }
+    ensures { λ r. ⌜ r ≡ zeroTrue (valueIn (now (assignment .entry))) (sizesOf s) (a .0) ⌝ }
+{
+    let w = s.w;
+    let mut y: u16 = 0;
+    while y < w {
+        if !two_hold(true, atom_var(a), false, level_var(s, a, y + 1), assignment) {
+            return false;
+        }
+        y += 1;
+    }
+    true
+}
+
+// Group 6, rule r, whose b pairs stand behind k others: whether s(r) says that its body is true with every pair's level below.
+fn founds_hold(s: Sizes, r: Rule, k: u16, b: u16, assignment: &[u8]) -> bool
+    requires { ⌜ (Bounded s) × (0 < r .0) × (r .0 ≤ s .m) × (k + b ≤ 500) × (varCount (sizesOf s) (k + b) ≤ length (now assignment)) ⌝ }
+    ensures { λ x. ⌜ x ≡ foundsTrue (valueIn (now (assignment .entry))) (sizesOf s) (r .0) k b ⌝ }
+{
+    let f = founds_var(s, r);
+    let t = body_var(s, r);
+    if !two_hold(false, f, true, t, assignment) {
+        return false;
+    }
+    let mut low = false;
+    let mut j: u16 = 0;
+    while j < b {
+        let p = below_var(s, k + (j + 1), s.w);
+        if !two_hold(false, f, true, p, assignment) {
+            return false;
+        }
+        low = low | signed_holds(false, p, assignment);
+        j += 1;
+    }
+    two_hold(true, f, false, t, assignment) | low
+}
+
+// Whether a true body without pairs gives the head, h, level 1.
+fn fact_holds(s: Sizes, r: Rule, h: Atom, assignment: &[u8]) -> bool
+    requires { ⌜ (Bounded s) × (0 < r .0) × (r .0 ≤ s .m) × (0 < h .0) × (h .0 ≤ s .n) × (varCount (sizesOf s) 0 ≤ length (now assignment)) ⌝ }
+    ensures { λ x. ⌜ x ≡ factTrue (valueIn (now (assignment .entry))) (sizesOf s) (r .0) (h .0) ⌝ }
+{
+    let t = body_var(s, r);
+    let w = s.w;
+    let mut j: u16 = 0;
+    while j < w {
+        let first = j == 0;
+        if !two_hold(false, t, first, level_var(s, h, j + 1), assignment) {
+            return false;
+        }
+        j += 1;
+    }
+    true
+}
+
+// Whether a true body leaves some pair's next not below the head.
+fn bound_holds(s: Sizes, r: Rule, k: u16, b: u16, assignment: &[u8]) -> bool
+    requires { ⌜ (Bounded s) × (0 < r .0) × (r .0 ≤ s .m) × (k + b ≤ 500) × (varCount (sizesOf s) (k + b) ≤ length (now assignment)) ⌝ }
+    ensures { λ x. ⌜ x ≡ boundTrue (valueIn (now (assignment .entry))) (sizesOf s) (r .0) k b ⌝ }
+{
+    let mut low = signed_holds(false, body_var(s, r), assignment);
+    let mut j: u16 = 0;
+    while j < b {
+        let q = next_below_var(s, k + (j + 1), s.w);
+        low = low | signed_holds(false, q, assignment);
+        j += 1;
+    }
+    low
+}
+
+// Group 6, rule r with head h and b pairs behind k others: whether every clause is true.
+fn rule_row_holds(s: Sizes, r: Rule, h: Atom, k: u16, b: u16, assignment: &[u8]) -> bool
+    requires { ⌜ (Bounded s) × (0 < r .0) × (r .0 ≤ s .m) × (0 < h .0) × (h .0 ≤ s .n) × (k + b ≤ 500) × (varCount (sizesOf s) (k + b) ≤ length (now assignment)) ⌝ }
+    ensures { λ x. ⌜ x ≡ ruleTrue (valueIn (now (assignment .entry))) (sizesOf s) (r .0) (h .0) k b ⌝ }
+{
+    if !founds_hold(s, r, k, b, assignment) {
+        return false;
+    }
+    if b == 0 {
+        return fact_holds(s, r, h, assignment);
+    }
+    bound_holds(s, r, k, b, assignment)
+}
+
+// How many pairs rule r has: its positive body atoms.
+fn pair_count(starts: &[u16], r: u16) -> u16
+    requires { ⌜ (0 < r) × (r ≤ 500) × (length (now starts) ≡ 1001) × (getD (now starts) (2 * (r - 1)) 0 ≤ getD (now starts) (2 * (r - 1) + 1) 0) ⌝ }
+    ensures { λ x. ⌜ x ≡ getD (now (starts .entry)) (2 * (r - 1) + 1) 0 - getD (now (starts .entry)) (2 * (r - 1)) 0 ⌝ }
+{
+    let j = 2 * ((r - 1) as usize);
+    starts[j + 1] - starts[j]
+}
+
+// Whether row i of item a of group g is taken whole, as those of groups 3 to 6 are, and all its clauses are true.
+pub fn row_passes<'a>(
+    t: Totals,
+    heads: &'a [u16],
+    starts: &'a [u16],
+    bodies: &'a [u16],
+    before: &'a [u16],
+    partners: &'a [u16],
+    owners: &'a [u16],
+    g: u16,
+    a: u16,
+    i: u16,
+    assignment: &'a [u8],
+) -> bool
+    requires { ⌜ (Ready t (now heads) (now starts) (now bodies) (now before) (now partners) (now owners)) × (RowAt (programIn (t .sizes) (now heads) (now starts) (now bodies)) (t .sizes .w) g a i) × (t .vars ≤ length (now assignment)) ⌝ }
+    ensures { λ r. ⌜ r ≡ rowPasses (programIn (t .sizes) (now (heads .entry)) (now (starts .entry)) (now (bodies .entry))) (t .sizes .w) (valueIn (now (assignment .entry))) g a i ⌝ }
+{
+    if g == 5 {
+        let c = chain_at(t, heads, starts, bodies, before, partners, owners, g, a, i);
+        return bit_holds(c, chain_bit(t.sizes.w, i), assignment);
+    }
+    if g == 4 {
+        return next_row_holds(t.sizes, Atom(a), i, assignment);
+    }
+    if g == 3 {
+        return zero_row_holds(t.sizes, Atom(a), assignment);
+    }
+    if g == 6 {
+        let b = pair_count(starts, a);
+        let h = Atom(entry(heads, a));
+        return rule_row_holds(t.sizes, Rule(a), h, entry(before, a), b, assignment);
+    }
+    false
+}

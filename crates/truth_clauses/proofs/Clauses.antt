@@ -1,0 +1,239 @@
+-- Truth of a clause slot by slot, and the first false clause place by place, from the tables.
+-- Assumes nothing.
+use Prim.Native.Nat.{ℕ, zero, suc, pred, _+_, _-_, _≤_, _<_}
+use native.Mathlib.Nat.{le-trans, le-antisymm, not-suc-le-zero, suc-add}
+use native.Mathlib.Numerals.{add-one, one-add}
+use native.Mathlib.Omega.{arith}
+use mathlib.Core.Path.{_≡_, refl, sym, _∙_, ap, ap₂, subst}
+use mathlib.Core.Bool.{Bool, true, false, not, _||_, cond, So, false≢true}
+use mathlib.Core.List.{List, [], _∷_}
+use lib.ListN.{length}
+use Rattle.lists.specs.Lists.{all, any, each, first}
+use Rattle.lists.proofs.Bools.{and-left, not-So}
+use Rattle.lists.proofs.Tests.{le-or-lt, up-to, allTo-at, any-append, any-each, anyTo-in}
+use Rattle.lists.proofs.First.{IsFirst, first-is, first-le, first-none}
+use Rattle.theory.proofs.Atoms.{atom-le}
+use mathlib.Core.Logic.{⊎-elim}
+use Rattle.meaning.specs.Program.{Program, isAtom}
+use Rattle.encoding.specs.Width.{width}
+use Rattle.encoding.specs.Literal.{Literal, literalTrue, clauseTrue, variable}
+use Rattle.encoding.specs.Clauses.{clauses, variables}
+use Rattle.theory.proofs.Widths.{width-enough}
+use Rattle.theory.proofs.Counts.{count-whole}
+use Rattle.clause_walk.specs.Walk.{size, slots, slot, clauseAt, At}
+use Rattle.clause_slots.specs.declared.Signed.{Signed}
+use Rattle.clause_slots.specs.Signed.{literalIn, held}
+use Rattle.clause_tables.specs.declared.Totals.{Totals}
+use Rattle.clause_tables.specs.Tables.{Tabled}
+use Rattle.clause_table_laws.proofs.Elements.{width-are, vars-are, clauses-are}
+use Rattle.clause_table_laws.proofs.Bounds.{slot-in}
+use Rattle.clause_layout.specs.Numbers.{pastEmpty}
+use Rattle.clause_layout.proofs.Passed.{passed, passed-each}
+use Rattle.clause_text.specs.Lines.{literalsIn}
+use Rattle.clause_text.proofs.Held.{held-is}
+use Rattle.clause_text.proofs.Clause.{slotted, slot-asks}
+use Rattle.clause_places.specs.declared.Spot.{Spot}
+use Rattle.clause_places.specs.declared.Place.{Place}
+use Rattle.clause_places.specs.Places.{placeAt}
+use Rattle.clause_places.proofs.Numbers.{number-is, own-number, placed-at, placed-clause}
+use Rattle.clause_places.proofs.RowPlaces.{along, row-size}
+use Rattle.truth_clauses.specs.Truth.{valueIn, falseAt, firstFalse}
+use Rattle.truth_blocks.specs.Rows.{rowTrue, isWhole, rowPasses}
+use Rattle.truth_clauses.specs.Standing.{TrueTo, Standing}
+use Rattle.clause_places.specs.Places.{furtherRow}
+use Rattle.truth_clauses.proofs.Values.{variable-in}
+use Rattle.clause_places.proofs.Behind.{behind-is, place-listed}
+
+or-false : (a b : Bool) → a ≡ false → b ≡ false → (a || b) ≡ false
+or-false a b p q = ap₂ _||_ p q
+
+held-in : (n : ℕ) (ls : List Literal) → So (all (λ z. isAtom n (variable z)) ls) → variable (held ls) ≤ n
+held-in n [] u = omega arith
+held-in n (z ∷ ls) u = atom-le n (variable z) (and-left (isAtom n (variable z)) (all (λ z. isAtom n (variable z)) ls) u)
+
+module _ {P : Program} {t : Totals} {hs ss bs ks xs ys : List ℕ} (T : Tabled P t hs ss bs ks xs ys) where
+  abbrev w : ℕ
+  w = t .sizes .w
+
+  module _ {g a i y : ℕ} (A : At P w g a i y) (vs : List ℕ) where
+    -- some literal of the first l slots is true
+    abbrev trueIn : ℕ → Bool
+    trueIn l = any (literalTrue (valueIn vs)) (each l (slot P w g a i y))
+
+    module _ (x : Signed) {k l : ℕ} (e : k ≡ slots P w g a i y) (h : l < k) (q : literalIn x ≡ held (slot P w g a i y (l + 1))) where
+      slot-is : literalsIn x ≡ slot P w g a i y (suc l)
+      slot-is =
+          held-is x (slot P w g a i y (suc l)) (slotted T A (suc l) (omega arith) (subst (λ (n : ℕ). suc l ≤ n) e h)) (q ∙ ap (λ (n : ℕ). held (slot P w g a i y n)) (add-one l))
+
+      one-more : {d : Bool} → d ≡ any (literalTrue (valueIn vs)) (literalsIn x) → trueIn (suc l) ≡ (trueIn l || d)
+      one-more u =
+          any-append (literalTrue (valueIn vs)) (each l (slot P w g a i y)) (slot P w g a i y (suc l))
+          ∙ ap (λ (b : Bool). trueIn l || b) (sym (u ∙ ap (any (literalTrue (valueIn vs))) slot-is))
+
+      pub none-yet : {d : Bool} {r : ℕ} → d ≡ any (literalTrue (valueIn vs)) (literalsIn x) → d ≡ false → trueIn l ≡ false
+          → r ≡ pastEmpty (t .sizes .m) hs g a i (l + 1) → trueIn r ≡ false
+      none-yet {d} {r} u z f p =
+          ap (λ (c : List Literal). any (literalTrue (valueIn vs)) c) (passed-each (passed T A (omega arith) (slot-asks T A e h .3) p))
+          ∙ ap trueIn (add-one l) ∙ one-more u ∙ or-false (trueIn l) d f z
+
+      -- a true literal among the slots makes the clause true
+      pub some-true : {d : Bool} → d ≡ any (literalTrue (valueIn vs)) (literalsIn x) → d ≡ true → true ≡ clauseTrue (valueIn vs) (clauseAt P w g a i y)
+      some-true {d} u z =
+          sym
+          (any-each (literalTrue (valueIn vs)) (slots P w g a i y) (slot P w g a i y)
+          ∙ anyTo-in (slots P w g a i y) (λ j. any (literalTrue (valueIn vs)) (slot P w g a i y j)) l (subst (λ (n : ℕ). l < n) e h) (ap (any (literalTrue (valueIn vs))) (sym slot-is) ∙ sym u ∙ z))
+
+      -- its variable has a byte
+      pub variable-fits : t .vars ≤ length vs → x .var .0 ≤ length vs
+      variable-fits v =
+          le-trans
+          (subst (λ (k : ℕ). k ≤ t .vars) (ap variable (sym q) ∙ variable-in x)
+          (subst (λ (k : ℕ). variable (held (slot P w g a i y (l + 1))) ≤ k) (sym (vars-are P t hs ss bs ks xs ys T))
+          (held-in (variables P (width (P .atoms))) (slot P w g a i y (l + 1)) in-slot)))
+          v
+        where
+          in-slot : So (all (λ z. isAtom (variables P (width (P .atoms))) (variable z)) (slot P w g a i y (l + 1)))
+          in-slot =
+              subst (λ (v : ℕ). At P v g a i y → l + 1 ≤ slots P v g a i y → So (all (λ z. isAtom (variables P (width (P .atoms))) (variable z)) (slot P v g a i y (l + 1)))) (sym (width-are P t hs ss bs ks xs ys T))
+              (λ A h. slot-in P (T .limits) g a i y (l + 1) A (omega arith) h) A (slot-asks T A e h .3)
+
+    -- all slots are passed, and none holds a true literal
+    pub all-false : {k l : ℕ} → k ≡ slots P w g a i y → l ≤ k → k ≤ l → trueIn l ≡ false → false ≡ clauseTrue (valueIn vs) (clauseAt P w g a i y)
+    all-false e h n f = sym (ap trueIn (sym (le-antisymm h n ∙ e)) ∙ f)
+
+  -- ---- place by place
+
+  module _ (vs : List ℕ) where
+    clauses-many : length (clauses P (width (P .atoms))) ≡ t .clauses
+    clauses-many = count-whole P (width (P .atoms)) (T .limits .all-atoms) (width-enough (P .atoms)) ∙ sym (clauses-are P t hs ss bs ks xs ys T)
+
+    pub none-before : TrueTo P vs 0
+    none-before = record { each-true = λ j h. absurd (not-suc-le-zero h) }
+
+    module _ {c : Place} (e : c ≡ placeAt P w (c .number)) (p : 0 < c .number) (h : c .number ≤ t .clauses) where
+      module _ {d : Bool} (u : d ≡ clauseTrue (valueIn vs) (clauseAt P w (c .spot .group) (c .spot .item) (c .spot .row) (c .spot .clause))) where
+        false-is : falseAt P vs (c .number) ≡ not d
+        false-is = ap not (ap (clauseTrue (valueIn vs)) (sym (placed-clause T e p h)) ∙ sym u)
+
+        pub true-to : (n : ℕ) → c .number ≡ suc n → d ≡ true → TrueTo P vs n → TrueTo P vs (c .number)
+        true-to n q z G =
+            record {
+              each-true = λ j l. up-to (λ j. falseAt P vs (suc j) ≡ false) n (G .each-true) (ap (falseAt P vs) (sym q) ∙ false-is ∙ ap not z) j (subst (λ (k : ℕ). j < k) q l);
+            }
+
+        pub first-found : (n : ℕ) → c .number ≡ suc n → d ≡ false → TrueTo P vs n → c .number ≡ firstFalse P vs
+        unfolding firstFalse
+        first-found n q z G =
+            le-antisymm
+            (not-before (first many (falseAt P vs)) (first-is many (falseAt P vs)))
+            (subst (λ (k : ℕ). first many (falseAt P vs) ≤ k) (sym q) (first-le many (falseAt P vs) n (subst (λ (k : ℕ). n < k) (sym clauses-many) (subst (λ (k : ℕ). k ≤ t .clauses) q h)) (ap (falseAt P vs) (sym q) ∙ false-is ∙ ap not z)))
+          where
+            many : ℕ
+            many = length (clauses P (width (P .atoms)))
+
+            not-before : (f : ℕ) → IsFirst (length (clauses P (width (P .atoms)))) (falseAt P vs) f → c .number ≤ f
+            not-before f F = ⊎-elim (λ (l : c .number ≤ f). l) (λ (l : f < c .number). absurd (low f F l)) (le-or-lt (c .number) f)
+              where
+                low : (f : ℕ) → IsFirst (length (clauses P (width (P .atoms)))) (falseAt P vs) f → f < c .number → ⊥
+                low zero F l = not-So (falseAt P vs (suc n)) (F .none-at-all refl n (subst (λ (k : ℕ). n < k) (sym clauses-many) (subst (λ (k : ℕ). k ≤ t .clauses) q h))) (ap (falseAt P vs) (sym q) ∙ false-is ∙ ap not z)
+                low (suc f) F l = not-So (falseAt P vs (suc f)) (G .each-true f (omega (arith, q, l))) (F .passes (omega arith))
+
+    pub none-false : (n : ℕ) → t .clauses ≤ n → TrueTo P vs n → 0 ≡ firstFalse P vs
+    unfolding firstFalse
+    none-false n h G =
+        sym (first-none (length (clauses P (width (P .atoms)))) (falseAt P vs) (λ i l. G .each-true i (le-trans (subst (λ (k : ℕ). i < k) clauses-many l) h)))
+
+    stands-by : {c : Place} {n : ℕ} → c ≡ placeAt P w (suc n) → n ≤ t .clauses → TrueTo P vs n → Standing P t vs c
+    stands-by {c} {n} e h G =
+        record {
+          own = own-number T e;
+          some = omega (arith, number-is T e);
+          within = omega (arith, number-is T e, h);
+          true-before = subst (λ (k : ℕ). TrueTo P vs (pred k)) (sym (number-is T e)) G;
+        }
+
+    pub start-asks : {c : Place} → c ≡ placeAt P w 0 → (c ≡ placeAt P w (c .number)) × (c .number ≤ t .clauses)
+    start-asks e = (own-number T e, omega (arith, number-is T e))
+
+    pub begun : {c d : Place} → c ≡ placeAt P w 0 → d ≡ placeAt P w (suc (c .number)) → Standing P t vs d
+    begun e f = stands-by (f ∙ ap (λ (n : ℕ). placeAt P w (suc n)) (number-is T e)) (omega arith) none-before
+
+    module _ {c : Place} (S : Standing P t vs c) (h : c .number ≤ t .clauses) where
+      one-before : c .number ≡ suc (pred (c .number))
+      one-before = go (c .number) (S .some)
+        where
+          go : (n : ℕ) → 0 < n → n ≡ suc (pred n)
+          go zero p = absurd (not-suc-le-zero p)
+          go (suc n) p = refl
+
+      pub clause-asks : At P w (c .spot .group) (c .spot .item) (c .spot .row) (c .spot .clause)
+      clause-asks = placed-at T (S .own) (S .some) h
+
+      module _ {r : Bool} (u : r ≡ clauseTrue (valueIn vs) (clauseAt P w (c .spot .group) (c .spot .item) (c .spot .row) (c .spot .clause))) where
+        pub clause-passed : r ≡ true → {d : Place} → d ≡ placeAt P w (suc (c .number)) → Standing P t vs d
+        clause-passed z e = stands-by e h (true-to (S .own) (S .some) h u (pred (c .number)) one-before z (S .true-before))
+
+        pub clause-false : r ≡ false → c .number ≡ firstFalse P vs
+        clause-false z = first-found (S .own) (S .some) h u (pred (c .number)) one-before z (S .true-before)
+
+      -- the row that begins at c
+      module _ (z : c .spot .clause ≡ 1) {r : Bool} (u : r ≡ rowPasses P w (valueIn vs) (c .spot .group) (c .spot .item) (c .spot .row)) (v : r ≡ true) where
+        row-clause : (y : ℕ) → y ≤ c .spot .clauses → So (clauseTrue (valueIn vs) (clauseAt P w (c .spot .group) (c .spot .item) (c .spot .row) (suc y)))
+        unfolding rowTrue
+        row-clause y q =
+            allTo-at (size P w (c .spot .group) (c .spot .item) (c .spot .row)) (λ y. clauseTrue (valueIn vs) (clauseAt P w (c .spot .group) (c .spot .item) (c .spot .row) y))
+            (whole (isWhole (c .spot .group)) (rowTrue P w (valueIn vs) (c .spot .group) (c .spot .item) (c .spot .row)) (sym u ∙ v)) y
+            (subst (λ (n : ℕ). y < n) (row-size T (S .own) h (S .some)) (omega (arith, q, z)))
+          where
+            whole : (d e : Bool) → cond d e false ≡ true → e ≡ true
+            whole true e p = p
+            whole false e p = absurd (false≢true p)
+
+        row-false : (y : ℕ) → y ≤ c .spot .clauses → falseAt P vs (suc (pred (c .number) + y)) ≡ false
+        row-false y q =
+            ap (falseAt P vs) (number-at (c .number) y one-before)
+            ∙ ap not
+            (ap (clauseTrue (valueIn vs))
+            (sym (placed-clause T {c = placeAt P w (c .number + y)} refl (omega (arith, S .some)) (along T (S .own) h y q .listed))
+            ∙ ap (λ (d : Spot). clauseAt P w (d .group) (d .item) (d .row) (d .clause)) (along T (S .own) h y q .stands)
+            ∙ ap (λ (n : ℕ). clauseAt P w (c .spot .group) (c .spot .item) (c .spot .row) (n + y)) z)
+            ∙ row-clause-at y q)
+          where
+            number-at : (n y : ℕ) → n ≡ suc (pred n) → suc (pred n + y) ≡ n + y
+            number-at n y q = sym (ap (λ (m : ℕ). m + y) q ∙ suc-add (pred n) y)
+
+            row-clause-at : (y : ℕ) → y ≤ c .spot .clauses → clauseTrue (valueIn vs) (clauseAt P w (c .spot .group) (c .spot .item) (c .spot .row) (1 + y)) ≡ true
+            row-clause-at y q = ap (λ (n : ℕ). clauseTrue (valueIn vs) (clauseAt P w (c .spot .group) (c .spot .item) (c .spot .row) n)) (one-add y) ∙ row-clause y q
+
+        row-to : (k : ℕ) → k ≤ suc (c .spot .clauses) → (j : ℕ) → j < pred (c .number) + k → falseAt P vs (suc j) ≡ false
+        row-to zero q j l = S .true-before .each-true j (omega (arith, l))
+        row-to (suc k) q j l =
+            up-to (λ j. falseAt P vs (suc j) ≡ false) (pred (c .number) + k) (row-to k (omega (arith, q))) (row-false k (omega (arith, q))) j (omega (arith, l))
+
+        pub row-passed : {d : Place} → (d ≡ placeAt P w (suc (c .number + c .spot .clauses))) × (c .number + c .spot .clauses ≤ t .clauses) → Standing P t vs d
+        row-passed e =
+            stands-by (e .0) (e .1) (record { each-true = λ j l. row-to (suc (c .spot .clauses)) (omega arith) j (omega (arith, l, one-before)) })
+
+    -- the next row of the item, behind one that is taken whole and true
+    pub furthered : {c : Place} (S : Standing P t vs c) (h : c .number ≤ t .clauses) → c .spot .clause ≡ 1 → 0 < c .spot .rows → {r : Bool}
+        → r ≡ rowPasses P w (valueIn vs) (c .spot .group) (c .spot .item) (c .spot .row) → r ≡ true → {k : ℕ}
+        → k ≡ size P w (c .spot .group) (c .spot .item) (c .spot .row + 1) → 0 < k → {d : Place} → d ≡ furtherRow c k
+        → (Standing P t vs d) × (c .number < d .number) × (d .number ≤ t .clauses)
+    furthered {c} S h z p u v {k} q l {d} e =
+        (D, omega (arith, ap (λ (x : Place). x .number) e), within-list)
+      where
+        at : d ≡ placeAt P w (suc (c .number + c .spot .clauses))
+        at = e ∙ behind-is T (S .own) h p q l .0
+
+        D : Standing P t vs d
+        D = row-passed S h z u v (at, behind-is T (S .own) h p q l .1)
+
+        within-list : d .number ≤ t .clauses
+        within-list = place-listed T (D .own) (omega (arith, ap (λ (x : Place). x .spot .clause) e))
+
+    pub ended : {c : Place} → Standing P t vs c → t .clauses < c .number → 0 ≡ firstFalse P vs
+    ended {c} S h = none-false (pred (c .number)) (below (c .number) h) (S .true-before)
+      where
+        below : (n : ℕ) {k : ℕ} → k < n → k ≤ pred n
+        below zero q = absurd (not-suc-le-zero q)
+        below (suc n) q = omega (arith, q)

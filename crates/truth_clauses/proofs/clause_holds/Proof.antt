@@ -1,0 +1,75 @@
+use Rattle.truth_clauses.proofs.Clauses.{none-yet, some-true, variable-fits, all-false}
+use Rattle.truth_clauses.specs.Truth.{valueIn}
+use Rattle.clause_text.proofs.Clause.{slot-asks, past-asks, past-within, past-less}
+use Rattle.clause_tables.specs.Tables.{programIn}
+use Rattle.clause_walk.specs.Walk.{slot}
+use Rattle.encoding.specs.Literal.{literalTrue}
+use Rattle.lists.specs.Lists.{any, each}
+use borrow.Author.Needs.{needs}
+use mathlib.Core.Bool.{false}
+use mathlib.Core.Path.{_≡_, refl}
+use Prim.Native.Nat.{_-_, _≤_}
+use denote.Ref.{now}
+use Rattle.truth_clauses.proofs.clause_holds.Statement.{statement}
+use Rattle.truth_clauses.proofs.clause_holds.Tie as tie
+
+abbrev Inv-loop : tie.InvT-loop
+Inv-loop t heads starts bodies before partners owners g a i y assignment k c l₀ l = (l ≤ k) × (any (literalTrue (valueIn assignment)) (each l (slot (programIn (t .sizes) heads starts bodies) (t .sizes .w) g a i y)) ≡ false)
+
+abbrev μ-loop : tie.MeasureT-loop
+μ-loop t heads starts bodies before partners owners g a i y assignment k c l₀ l = k - l
+
+slots-requires : tie.Need-slots-requires Inv-loop μ-loop
+slots-requires c κs = (c .before .before .before .before .before .before .before .pre .0, c .before .before .before .before .before .before .before .pre .1)
+
+chain-at-requires : tie.Need-chain-at-requires Inv-loop μ-loop
+chain-at-requires c κs = (c .before .before .before .before .before .before .before .before .pre .0, c .before .before .before .before .before .before .before .before .pre .1 .row-at)
+
+loop-holds : tie.Need-loop-holds Inv-loop μ-loop
+loop-holds c = (search needs, refl)
+
+add-literal-in : tie.Need-add-literal-in Inv-loop μ-loop
+add-literal-in c = search needs
+
+literal-in-requires : tie.Need-literal-in-requires Inv-loop μ-loop
+literal-in-requires c κs = let q = slot-asks (c .before .before .before .before .before .before .before .before .before .before .before .pre .0) (c .before .before .before .before .before .before .before .before .before .before .before .pre .1) (c .before .before .before .slots .ensures) (c .loop-test .taken) in (q .0, q .1, q .2, q .3, c .before .before .chain-at .ensures)
+
+slot-holds-requires : tie.Need-slot-holds-requires Inv-loop μ-loop
+slot-holds-requires c κs = variable-fits (c .before .before .before .before .before .before .before .before .before .before .before .before .pre .0) (c .before .before .before .before .before .before .before .before .before .before .before .before .pre .1) (now (c .before .before .before .before .before .before .before .before .before .before .before .before .args .assignment)) (c .literal-in .result) (c .before .before .before .before .slots .ensures) (c .before .loop-test .taken) (c .literal-in .ensures) (c .before .before .before .before .before .before .before .before .before .before .before .before .pre .2)
+
+returns : tie.Need-returns Inv-loop μ-loop
+returns c = some-true (c .before .before .before .before .before .before .before .before .before .before .before .before .before .before .pre .0) (c .before .before .before .before .before .before .before .before .before .before .before .before .before .before .pre .1) (now (c .before .before .before .before .before .before .before .before .before .before .before .before .before .before .args .assignment)) (c .before .before .literal-in .result) (c .before .before .before .before .before .before .slots .ensures) (c .before .before .before .loop-test .taken) (c .before .before .literal-in .ensures) (c .before .slot-holds .ensures) (c .if1 .taken)
+
+add-past-empty : tie.Need-add-past-empty Inv-loop μ-loop
+add-past-empty c = search needs
+
+past-empty-requires : tie.Need-past-empty-requires Inv-loop μ-loop
+past-empty-requires c κs = past-asks (c .before .before .before .before .before .before .before .before .before .before .before .before .before .before .pre .0) (c .before .before .before .before .before .before .before .before .before .before .before .before .before .before .pre .1) (c .before .before .before .before .loop .l)
+
+loop-less : tie.Need-loop-less Inv-loop μ-loop
+loop-less c = past-less (c .before .before .before .before .before .before .before .before .before .before .before .before .before .before .before .pre .0) (c .before .before .before .before .before .before .before .before .before .before .before .before .before .before .before .pre .1) (c .before .before .before .before .before .before .before .slots .ensures) (c .before .before .before .before .loop-test .taken) (c .past-empty .ensures)
+
+loop-again : tie.Need-loop-again Inv-loop μ-loop
+loop-again c = (past-within (c .before .before .before .before .before .before .before .before .before .before .before .before .before .before .before .pre .0) (c .before .before .before .before .before .before .before .before .before .before .before .before .before .before .before .pre .1) (c .before .before .before .before .before .before .before .slots .ensures) (c .before .before .before .before .loop-test .taken) (c .past-empty .ensures), none-yet (c .before .before .before .before .before .before .before .before .before .before .before .before .before .before .before .pre .0) (c .before .before .before .before .before .before .before .before .before .before .before .before .before .before .before .pre .1) (now (c .before .before .before .before .before .before .before .before .before .before .before .before .before .before .before .args .assignment)) (c .before .before .before .literal-in .result) (c .before .before .before .before .before .before .before .slots .ensures) (c .before .before .before .before .loop-test .taken) (c .before .before .before .literal-in .ensures) (c .before .before .slot-holds .ensures) (c .before .if1 .left) (c .before .before .before .before .before .loop .inv .1) (c .past-empty .ensures))
+
+returns-2 : tie.Need-returns-2 Inv-loop μ-loop
+returns-2 c = all-false (c .before .before .before .before .before .before .before .before .before .before .before .pre .0) (c .before .before .before .before .before .before .before .before .before .before .before .pre .1) (now (c .before .before .before .before .before .before .before .before .before .before .before .args .assignment)) (c .before .before .before .slots .ensures) (c .before .loop .inv .0) (c .loop-test .left) (c .before .loop .inv .1)
+
+pub clause-holds-spec : {M : Type 1} → statement M
+clause-holds-spec =
+    tie.close
+    (tie.spec
+    Inv-loop
+    μ-loop
+    slots-requires
+    chain-at-requires
+    loop-holds
+    add-literal-in
+    literal-in-requires
+    slot-holds-requires
+    returns
+    add-past-empty
+    past-empty-requires
+    loop-less
+    loop-again
+    returns-2)

@@ -1,0 +1,226 @@
+// Truth of clauses under an assignment (document 01, "Check and filling out").
+use clause_layout::chain_at;
+use clause_layout::literal_in;
+use clause_layout::past_empty;
+use clause_layout::size;
+use clause_layout::slots;
+use clause_places::Place;
+use clause_places::further_row;
+use clause_places::next;
+use clause_places::past_row;
+use clause_places::start;
+use clause_slots::Signed;
+use clause_tables::Totals;
+use clause_text::number_of;
+use truth_blocks::holds;
+use truth_blocks::row_passes;
+ghost use Prim.Native.Nat.{_+_, _≤_, _<_};
+ghost use mathlib.Core.Path.{_≡_};
+ghost use lib.ListN.{length};
+ghost use Rattle.lists.specs.Lists.{any};
+ghost use Rattle.encoding.specs.Literal.{literalTrue, clauseTrue};
+ghost use Rattle.clause_walk.specs.Walk.{clauseAt, At};
+ghost use Rattle.clause_tables.specs.Tables.{programIn, Ready};
+ghost use Rattle.clause_text.specs.Lines.{literalsIn};
+ghost use Rattle.truth_clauses.specs.Truth.{valueIn, firstFalse};
+ghost use Rattle.truth_clauses.specs.Standing.{Standing};
+
+// Whether a slot holds a true literal.
+fn slot_holds(x: Signed, assignment: &[u8]) -> bool
+    requires { ⌜ x .var .0 ≤ length (now assignment) ⌝ }
+    ensures { λ r. ⌜ r ≡ any (literalTrue (valueIn (now (assignment .entry)))) (literalsIn x) ⌝ }
+{
+    if x.var.0 == 0 {
+        return false;
+    }
+    holds(number_of(x), assignment)
+}
+
+// Whether clause y of row i of item a of group g is true.
+pub fn clause_holds<'a>(
+    t: Totals,
+    heads: &'a [u16],
+    starts: &'a [u16],
+    bodies: &'a [u16],
+    before: &'a [u16],
+    partners: &'a [u16],
+    owners: &'a [u16],
+    g: u16,
+    a: u16,
+    i: u16,
+    y: u16,
+    assignment: &'a [u8],
+) -> bool
+    requires { ⌜ (Ready t (now heads) (now starts) (now bodies) (now before) (now partners) (now owners)) × (At (programIn (t .sizes) (now heads) (now starts) (now bodies)) (t .sizes .w) g a i y) × (t .vars ≤ length (now assignment)) ⌝ }
+    ensures { λ r. ⌜ r ≡ clauseTrue (valueIn (now (assignment .entry))) (clauseAt (programIn (t .sizes) (now (heads .entry)) (now (starts .entry)) (now (bodies .entry))) (t .sizes .w) g a i y) ⌝ }
+{
+    let k = slots(
+        t,
+        heads,
+        starts,
+        bodies,
+        before,
+        partners,
+        owners,
+        g,
+        a,
+        i,
+        y,
+    );
+    let c = chain_at(t, heads, starts, bodies, before, partners, owners, g, a, i);
+    let mut l: u16 = 0;
+    while l < k {
+        let x = literal_in(
+            t,
+            heads,
+            starts,
+            bodies,
+            before,
+            partners,
+            owners,
+            c,
+            g,
+            a,
+            i,
+            y,
+            l + 1,
+        );
+        if slot_holds(x, assignment) {
+            return true;
+        }
+        l = past_empty(t.sizes.m, heads, g, a, i, l + 1);
+    }
+    false
+}
+
+// From a place with all clauses before it true to such a place further on in the item: past rows that are taken whole and are true.
+fn through_rows<'a>(
+    t: Totals,
+    heads: &'a [u16],
+    starts: &'a [u16],
+    bodies: &'a [u16],
+    before: &'a [u16],
+    partners: &'a [u16],
+    owners: &'a [u16],
+    c: Place,
+    assignment: &'a [u8],
+) -> Place
+    requires { ⌜ (Ready t (now heads) (now starts) (now bodies) (now before) (now partners) (now owners)) × (Standing (programIn (t .sizes) (now heads) (now starts) (now bodies)) t (now assignment) c) × (c .number ≤ t .clauses) × (t .vars ≤ length (now assignment)) ⌝ }
+    ensures { λ r. ⌜ (Standing (programIn (t .sizes) (now (heads .entry)) (now (starts .entry)) (now (bodies .entry))) t (now (assignment .entry)) r) × (c .number ≤ r .number) × (r .number ≤ t .clauses) ⌝ }
+{
+    let mut at = c;
+    while 0 < at.spot.rows {
+        let s = at.spot;
+        if s.clause != 1 {
+            return at;
+        }
+        if !row_passes(
+            t,
+            heads,
+            starts,
+            bodies,
+            before,
+            partners,
+            owners,
+            s.group,
+            s.item,
+            s.row,
+            assignment,
+        ) {
+            return at;
+        }
+        let k = size(
+            t,
+            heads,
+            starts,
+            bodies,
+            before,
+            partners,
+            owners,
+            s.group,
+            s.item,
+            s.row + 1,
+        );
+        if k == 0 {
+            return at;
+        }
+        at = further_row(at, k);
+    }
+    at
+}
+
+// The first clause that is false, 0 if none is.
+pub fn first_false<'a>(
+    t: Totals,
+    heads: &'a [u16],
+    starts: &'a [u16],
+    bodies: &'a [u16],
+    before: &'a [u16],
+    partners: &'a [u16],
+    owners: &'a [u16],
+    assignment: &'a [u8],
+) -> usize
+    requires { ⌜ (Ready t (now heads) (now starts) (now bodies) (now before) (now partners) (now owners)) × (t .vars ≤ length (now assignment)) ⌝ }
+    ensures { λ r. ⌜ r ≡ firstFalse (programIn (t .sizes) (now (heads .entry)) (now (starts .entry)) (now (bodies .entry))) (now (assignment .entry)) ⌝ }
+{
+    let mut at = next(
+        t,
+        heads,
+        starts,
+        bodies,
+        before,
+        partners,
+        owners,
+        start(t, heads, starts, bodies, before, partners, owners),
+    );
+    while at.number <= t.clauses {
+        let c = through_rows(
+            t,
+            heads,
+            starts,
+            bodies,
+            before,
+            partners,
+            owners,
+            at,
+            assignment,
+        );
+        let s = c.spot;
+        if s.clause == 1 {
+            if row_passes(
+                t,
+                heads,
+                starts,
+                bodies,
+                before,
+                partners,
+                owners,
+                s.group,
+                s.item,
+                s.row,
+                assignment,
+            ) {
+                at = past_row(t, heads, starts, bodies, before, partners, owners, c);
+                continue;
+            }
+        }
+        if !clause_holds(
+            t,
+            heads,
+            starts,
+            bodies,
+            before,
+            partners,
+            owners,
+            s.group,
+            s.item,
+            s.row,
+            s.clause,
+            assignment,
+        ) {
+            return c.number;
+        }
+        at = next(t, heads, starts, bodies, before, partners, owners, c);
+    }
+    0
+}
