@@ -4,9 +4,8 @@
 --   ends-given        what follows literal 0
 --   forms-given       the form of whole texts
 -- Assumes nothing.
-use Prim.Native.Nat.{ℕ, min}
 use mathlib.Core.Path.{_≡_, refl}
-use mathlib.Core.List.{List, [], _∷_, map}
+use mathlib.Core.List.{[], _∷_, map}
 use lib.IntN.{pos, negsuc}
 use Rattle.lists.specs.Ascii.{ascii}
 use Rattle.reader_form.specs.Automaton.{digitTest}

@@ -26,7 +26,7 @@ use Rattle.theory.proofs.Atoms.{atom-pos, atom-le}
 use Rattle.theory.proofs.Bits.{value-ext}
 use Rattle.theory.proofs.Base.{clauses-within}
 use Rattle.theory.proofs.Widths.{width-enough}
-use Rattle.reader_laws.specs.Row.{Limits}
+use Rattle.text.specs.Limits.{Limits}
 use Rattle.answer_values.specs.Assign.{unsetCount}
 use Rattle.truth_clauses.specs.Truth.{valueIn, falseAt, firstFalse}
 use Rattle.call_results.specs.Results.{trueCount, counters}

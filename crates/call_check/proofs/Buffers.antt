@@ -15,21 +15,23 @@ use mathlib.Core.List.{List, _++_}
 use lib.ListN.{length, drop}
 use Rattle.lists.specs.Lists.{tab, highest}
 use Rattle.meaning.specs.Program.{Program}
-use Rattle.program.specs.declared.TextRefusal.{TextRefusal}
-use Rattle.program.specs.declared.TextRefusal.the-variants as Refusal
-use Rattle.program.specs.Verdict.{readOf, textNumber}
-use Rattle.reader_laws.specs.Row.{Admitted}
+use Rattle.refusals.specs.declared.TextRefusal.{TextRefusal}
+use Rattle.refusals.specs.declared.TextRefusal.the-variants as Refusal
+use Rattle.reader.specs.Verdict.{readOf}
+use Rattle.refusals.specs.Numbers.{textNumber}
+use Rattle.text.specs.Limits.{Admitted}
 use Rattle.reader_laws.proofs.Rows.{row-few}
 use Rattle.answer_form.specs.Reading.{Spotted}
 use Rattle.answer_values.specs.Assign.{filledWith}
 use Rattle.answer_values.proofs.Rows.{unnamed-rest}
 use Rattle.answer_offers.specs.Offered.{valueBytes, valuesOf}
 use Rattle.call_results.specs.Results.{Result, assignmentAfter, levelsAfter, varTotal, programOf}
-use Rattle.call_check.specs.declared.CheckRefusal.{CheckRefusal}
-use Rattle.call_check.specs.declared.CheckRefusal.the-variants.{Text, ShortBuffer, OverlongAnswer, MalformedAnswer, NoModelOffered, StrayVariable, RepeatedVariable, FalseClause}
+use Rattle.refusals.specs.declared.CheckRefusal.{CheckRefusal}
+use Rattle.refusals.specs.declared.CheckRefusal.the-variants.{Text, ShortBuffer, OverlongAnswer, MalformedAnswer, NoModelOffered, StrayVariable, RepeatedVariable, FalseClause}
 use Rattle.call_check.specs.declared.CheckVerdict.{CheckVerdict}
 use Rattle.call_check.specs.declared.CheckVerdict.the-variants.{Model, Refused}
-use Rattle.call_check.specs.Check.{checkNumber, zeroes, refuse, checkOf, checkAnswer, checkAssignment, checkLevels}
+use Rattle.refusals.specs.Numbers.{checkNumber}
+use Rattle.call_check.specs.Check.{zeroes, refuse, checkOf, checkAnswer, checkAssignment, checkLevels}
 use Rattle.call_check.specs.Rows.{Offers, assumedNumber, trueNumber, levelsOf, CheckRow, of-text, short-assignment, short-levels, overlong-answer, malformed-answer, no-model-offered, stray-variable, repeated-variable, false-clause, CheckAnswers, Shows, ModelWritten}
 use Rattle.call_check.proofs.Spots.{offers-named}
 use Rattle.call_check.proofs.Verdicts.{shownResult, program-is, shown-answer, shows-result, model-offers, answers-refusal, answers-check-first}

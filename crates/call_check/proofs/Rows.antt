@@ -39,8 +39,8 @@ use Rattle.clause_table_laws.proofs.Elements.{vars-are, bounded}
 use Rattle.clause_table_laws.proofs.Bounds.{variables-fit}
 use Rattle.truth_clauses.specs.Truth.{valueIn, firstFalse}
 use Rattle.call_results.specs.Results.{Result, trueCount, levelIn, counters, assignmentAfter, varTotal}
-use Rattle.call_check.specs.declared.CheckRefusal.{CheckRefusal}
-use Rattle.call_check.specs.declared.CheckRefusal.the-variants.{ShortBuffer, OverlongAnswer, MalformedAnswer, NoModelOffered, StrayVariable, RepeatedVariable, FalseClause}
+use Rattle.refusals.specs.declared.CheckRefusal.{CheckRefusal}
+use Rattle.refusals.specs.declared.CheckRefusal.the-variants.{ShortBuffer, OverlongAnswer, MalformedAnswer, NoModelOffered, StrayVariable, RepeatedVariable, FalseClause}
 use Rattle.call_check.specs.declared.CheckVerdict.{CheckVerdict}
 use Rattle.call_check.specs.declared.CheckVerdict.the-variants.{Model, Refused}
 use Rattle.call_check.specs.Check.{zeroes, refuse, judged, noValues, outcomeOf, afterAssigning, assignedResult, formResult, answerResult, checkResult, Gives}

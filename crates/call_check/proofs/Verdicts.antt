@@ -23,16 +23,18 @@ use Rattle.meaning.specs.Program.{Program}
 use Rattle.encoding.specs.Width.{width}
 use Rattle.encoding.specs.Literal.{clauseTrue}
 use Rattle.encoding.specs.Clauses.{sizes}
-use Rattle.program.specs.declared.TextRefusal.{TextRefusal}
-use Rattle.program.specs.declared.Reading.{Reading}
-use Rattle.program.specs.declared.ReadVerdict.{ReadVerdict}
-use Rattle.program.specs.declared.ReadVerdict.the-variants.{Accepted, Refused as TextRefused}
-use Rattle.program.specs.Verdict.{readOf, textNumber, textSpot}
-use Rattle.reader_laws.specs.Row.{rank, NoLaterBy, FirstRow, Admitted}
-use Rattle.reader_laws.proofs.Unique.{text-unique}
-use Rattle.reader_laws.proofs.Rows.{answers-first, accepted-none, not-both}
+use Rattle.refusals.specs.declared.TextRefusal.{TextRefusal}
+use Rattle.reader.specs.declared.Reading.{Reading}
+use Rattle.reader.specs.declared.ReadVerdict.{ReadVerdict}
+use Rattle.reader.specs.declared.ReadVerdict.the-variants.{Accepted, Refused as TextRefused}
+use Rattle.reader.specs.Verdict.{readOf}
+use Rattle.refusals.specs.Numbers.{textNumber, textSpot}
+use Rattle.reader_laws.specs.Row.{rank, NoLaterBy, FirstRow}
+use Rattle.text.specs.Limits.{Admitted}
+use Rattle.call_laws.proofs.Texts.{one-admitted, refused-row, refused-admits-none}
+use Rattle.reader_laws.proofs.Rows.{accepted-none}
 use Rattle.reader_laws.proofs.Contents.{accepted-admitted, admitted-answer}
-use Rattle.reader_laws.proofs.Decode.{decoded-kept}
+use Rattle.program.proofs.Decode.{decoded-kept}
 use Rattle.answer_form.specs.Answer.{Status, OfStatus, Malformed}
 use Rattle.answer_form.specs.Reading.{Spotted, statusEnd}
 use Rattle.answer_reader.specs.declared.Formed.{Formed}
@@ -46,11 +48,12 @@ use Rattle.answer_offers.specs.Offered.{valueBytes, valuesOf}
 use Rattle.answer_offers.proofs.Values.{values-alone}
 use Rattle.truth_clauses.specs.Truth.{firstFalse}
 use Rattle.call_results.specs.Results.{Result, varTotal, programOf}
-use Rattle.call_check.specs.declared.CheckRefusal.{CheckRefusal}
-use Rattle.call_check.specs.declared.CheckRefusal.the-variants.{Text, ShortBuffer, OverlongAnswer, MalformedAnswer, NoModelOffered, StrayVariable, RepeatedVariable, FalseClause}
+use Rattle.refusals.specs.declared.CheckRefusal.{CheckRefusal}
+use Rattle.refusals.specs.declared.CheckRefusal.the-variants.{Text, ShortBuffer, OverlongAnswer, MalformedAnswer, NoModelOffered, StrayVariable, RepeatedVariable, FalseClause}
 use Rattle.call_check.specs.declared.CheckVerdict.{CheckVerdict}
 use Rattle.call_check.specs.declared.CheckVerdict.the-variants.{Model, Refused}
-use Rattle.call_check.specs.Check.{checkNumber, checkSpot, refuse, judged, completedResult, noValues, afterAssigning, assignedResult, formResult, checkResult, afterReading, verdictOf, checkOf, checkAnswer}
+use Rattle.refusals.specs.Numbers.{checkNumber, checkSpot}
+use Rattle.call_check.specs.Check.{refuse, judged, completedResult, noValues, afterAssigning, assignedResult, formResult, checkResult, afterReading, verdictOf, checkOf, checkAnswer}
 use Rattle.call_results.specs.Order.{NotAfter, earlier, nearer, smaller}
 use Rattle.call_results.proofs.Order.{first-one}
 use Rattle.call_check.specs.Rows.{Offers, valuesIn, assumedNumber, levelsOf, trueNumber, clauseOf, clauseNumber, CheckRow, of-text, short-assignment, short-levels, overlong-answer, malformed-answer, no-model-offered, stray-variable, repeated-variable, false-clause, FirstCheckRow, CheckAnswers, Accepts, EachTrue, Shows}
@@ -139,7 +142,7 @@ module _ (t u : List ℕ) (a l : ℕ) where
     verdict = ap (λ (r : Reading). r .verdict) (admitted-answer t P A)
 
     same : (Q : Program) → Admitted t Q → Q ≡ P
-    same Q B = text-unique Q P (sym (B .its-text) ∙ A .its-text)
+    same Q B = one-admitted A B
 
     pub program-is : programOf (readOf t) ≡ P
     program-is = ap (λ (r : Reading). programOf r) (admitted-answer t P A) ∙ decoded-kept P
@@ -445,10 +448,7 @@ module _ (t u : List ℕ) (a l : ℕ) where
 
   module _ (x : TextRefusal) (v : readOf t .verdict ≡ TextRefused x) where
     text-row : FirstRow t (textNumber x) (textSpot x)
-    text-row = answers-first t (textNumber x) (textSpot x) (record { refusal = x; verdict-is = v; row-is = refl; spot-is = refl })
-
-    not-admitted : (P : Program) → Admitted t P → ⊥
-    not-admitted P A = not-both (verdict P A) v
+    text-row = refused-row t x v
 
     abbrev Z : ℕ → ℕ → ℕ → Type 0
     Z = NotAfter (rank (textNumber x)) (textNumber x) (textSpot x)
@@ -463,14 +463,14 @@ module _ (t u : List ℕ) (a l : ℕ) where
 
     text-first : (p r s : ℕ) → CheckRow t u a l p r s → Z p r s
     text-first p r s (of-text ρ) = text-order r s (text-row .first r s ρ)
-    text-first p r s (short-assignment P A h) = absurd (not-admitted P A)
-    text-first p r s (short-levels P A h) = absurd (not-admitted P A)
+    text-first p r s (short-assignment P A h) = absurd (refused-admits-none t x v P A)
+    text-first p r s (short-levels P A h) = absurd (refused-admits-none t x v P A)
     text-first p r s (overlong-answer h) = earlier (omega (arith, low))
     text-first p r s (malformed-answer m) = earlier (omega (arith, low))
     text-first p r s (no-model-offered o) = earlier (omega (arith, low))
-    text-first p r s (stray-variable P A xs o i h g) = absurd (not-admitted P A)
-    text-first p r s (repeated-variable P A xs o i j h g e) = absurd (not-admitted P A)
-    text-first p r s (false-clause P A xs o j h g e) = absurd (not-admitted P A)
+    text-first p r s (stray-variable P A xs o i h g) = absurd (refused-admits-none t x v P A)
+    text-first p r s (repeated-variable P A xs o i j h g e) = absurd (refused-admits-none t x v P A)
+    text-first p r s (false-clause P A xs o j h g e) = absurd (refused-admits-none t x v P A)
 
     told-text : CheckTold t u a l
     unfolding checkOf

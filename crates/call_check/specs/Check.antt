@@ -1,6 +1,5 @@
 -- The check of a solver answer against a program (document 01, "Check and filling out" and "Verdicts"; document 02, Q-3): what it answers, and what each
 -- lent buffer holds afterwards. V is the number of variables of the program P, n that of its atoms; t is the answer, of k bytes.
---   checkNumber, checkSpot   the document's number and spot of a refusal
 --   zeroes r                 refusals 13, 14 and 16 zero the assignment
 --   judged P c bs            row 16, for the values bs, c of which are assumed
 --   completedResult P bs     the same, for the values bs, completed: a variable that has none has 2
@@ -23,10 +22,10 @@ use Rattle.lists.specs.Lists.{highest}
 use Rattle.meaning.specs.Program.{Program}
 use Rattle.encoding.specs.Width.{width}
 use Rattle.encoding.specs.Clauses.{sizes}
-use Rattle.program.specs.declared.Reading.{Reading}
-use Rattle.program.specs.declared.ReadVerdict.{ReadVerdict}
-use Rattle.program.specs.declared.ReadVerdict.the-variants.{Accepted, Refused as TextRefused}
-use Rattle.program.specs.Verdict.{readOf, textNumber, textSpot}
+use Rattle.reader.specs.declared.Reading.{Reading}
+use Rattle.reader.specs.declared.ReadVerdict.{ReadVerdict}
+use Rattle.reader.specs.declared.ReadVerdict.the-variants.{Accepted, Refused as TextRefused}
+use Rattle.reader.specs.Verdict.{readOf}
 use Rattle.answer_reader.specs.declared.Formed.{Formed}
 use Rattle.answer_reader.specs.declared.Formed.the-variants.{Model as FormModel, NoModel, Malformed}
 use Rattle.answer_reader.specs.Results.{formOf}
@@ -35,32 +34,12 @@ use Rattle.answer_values.specs.declared.Assigned.the-variants.{Done, Stray, Rep
 use Rattle.answer_values.specs.Assign.{Outcome, literalsFrom, assignedOf, assignedBytes, unsetCount, completed}
 use Rattle.truth_clauses.specs.Truth.{firstFalse}
 use Rattle.call_results.specs.Results.{Result, trueCount, levelIn, counters, assignmentAfter, levelsAfter, varTotal, programOf}
-use Rattle.call_check.specs.declared.CheckRefusal.{CheckRefusal}
-use Rattle.call_check.specs.declared.CheckRefusal.the-variants.{Text, ShortBuffer, OverlongAnswer, MalformedAnswer, NoModelOffered, StrayVariable, RepeatedVariable, FalseClause}
+use Rattle.refusals.specs.declared.CheckRefusal.{CheckRefusal}
+use Rattle.refusals.specs.declared.CheckRefusal.the-variants.{Text, ShortBuffer, OverlongAnswer, MalformedAnswer, NoModelOffered, StrayVariable, RepeatedVariable, FalseClause}
 use Rattle.call_check.specs.declared.CheckVerdict.{CheckVerdict}
 use Rattle.call_check.specs.declared.CheckVerdict.the-variants.{Model, Refused}
 
 -- ---- refusals
-
-abbrev pub checkNumber : CheckRefusal → ℕ
-checkNumber (Text r) = textNumber r
-checkNumber (ShortBuffer s) = 8
-checkNumber (OverlongAnswer s) = 10
-checkNumber (MalformedAnswer s) = 11
-checkNumber NoModelOffered = 12
-checkNumber (StrayVariable s) = 13
-checkNumber (RepeatedVariable s) = 14
-checkNumber (FalseClause j) = 16
-
-abbrev pub checkSpot : CheckRefusal → ℕ
-checkSpot (Text r) = textSpot r
-checkSpot (ShortBuffer s) = s
-checkSpot (OverlongAnswer s) = s
-checkSpot (MalformedAnswer s) = s
-checkSpot NoModelOffered = 0
-checkSpot (StrayVariable s) = s
-checkSpot (RepeatedVariable s) = s
-checkSpot (FalseClause j) = j
 
 abbrev pub zeroes : CheckRefusal → Bool
 zeroes (Text r) = false

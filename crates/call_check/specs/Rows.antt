@@ -27,7 +27,8 @@ use Rattle.encoding.specs.Width.{width}
 use Rattle.encoding.specs.Literal.{Literal, Clause, Assignment, valueOf, clauseTrue}
 use Rattle.encoding.specs.Fill.{counter}
 use Rattle.encoding.specs.Clauses.{sizes, clauses}
-use Rattle.reader_laws.specs.Row.{Row, rank, Admitted}
+use Rattle.reader_laws.specs.Row.{Row, rank}
+use Rattle.text.specs.Limits.{Admitted}
 use Rattle.answer_form.specs.Answer.{Comment, Line, Status, Answer, proper, answerText, OfStatus, Malformed}
 use Rattle.answer_form.specs.Reading.{Spotted, spotsOf}
 use Rattle.answer_values.specs.Assign.{variableAt, spotAt, unnamedCount}
@@ -35,9 +36,10 @@ use Rattle.answer_values.specs.Rows.{AllFit}
 use Rattle.answer_offers.specs.Offered.{valueBytes, valuesOf}
 use Rattle.call_results.specs.Results.{varTotal}
 use Rattle.call_results.specs.Order.{First}
-use Rattle.call_check.specs.declared.CheckRefusal.{CheckRefusal}
+use Rattle.refusals.specs.declared.CheckRefusal.{CheckRefusal}
 use Rattle.call_check.specs.declared.CheckVerdict.the-variants.{Model, Refused}
-use Rattle.call_check.specs.Check.{checkNumber, checkSpot, checkAnswer, checkAssignment, checkLevels}
+use Rattle.refusals.specs.Numbers.{checkNumber, checkSpot}
+use Rattle.call_check.specs.Check.{checkAnswer, checkAssignment, checkLevels}
 
 pub record Offers (u : List ℕ) (xs : List Spotted) : Type 0 where
   pub before : List Comment

@@ -12,35 +12,21 @@ use clause_tables::Totals;
 use clause_tabling::pairs_of;
 use clause_tabling::totals_of;
 use program::Program;
-use program::ReadVerdict;
-use program::Reading;
-use program::TextRefusal;
-use program::number_of;
-use program::read;
-use program::spot_of;
+use reader::ReadVerdict;
+use reader::Reading;
+use reader::read;
+use refusals::CheckRefusal;
 use truth_clauses::first_false;
 ghost use Prim.Native.Nat.{_≤_};
 ghost use mathlib.Core.Path.{_≡_};
 ghost use lib.ListN.{length, take};
-ghost use Rattle.reader_laws.specs.Decoded.{decoded};
-ghost use Rattle.program.specs.declared.ReadVerdict.the-variants.{Accepted};
+ghost use Rattle.program.specs.Arrays.{decoded};
+ghost use Rattle.reader.specs.declared.ReadVerdict.the-variants.{Accepted};
 ghost use Rattle.clause_tables.specs.Tables.{Stored, programIn, Ready};
 ghost use Rattle.answer_values.specs.Assign.{completed, filledWith};
 ghost use Rattle.call_check.specs.declared.CheckVerdict.the-variants.{Refused};
 ghost use Rattle.call_results.specs.Results.{programOf};
-ghost use Rattle.call_check.specs.Check.{checkNumber, checkSpot, Gives, judged, outcomeOf, afterAssigning, checkResult, readResult, checkAnswer, checkAssignment, checkLevels};
-
-// Why no model is shown, each with its spot.
-pub enum CheckRefusal {
-    Text(TextRefusal),
-    ShortBuffer(usize),
-    OverlongAnswer(usize),
-    MalformedAnswer(usize),
-    NoModelOffered,
-    StrayVariable(usize),
-    RepeatedVariable(usize),
-    FalseClause(usize),
-}
+ghost use Rattle.call_check.specs.Check.{Gives, judged, outcomeOf, afterAssigning, checkResult, readResult, checkAnswer, checkAssignment, checkLevels};
 
 // How many atoms are true, the highest level, and how many variables the answer left out, which are read as false; or a refusal.
 pub enum CheckVerdict {
@@ -241,36 +227,4 @@ pub fn check(text: &[u8], answer: &[u8], assignment: &mut [u8], levels: &mut [u8
 {
     let x = read(text);
     check_read(x, answer, answer.len(), &mut *assignment, &mut *levels)
-}
-
-// The document's number of a refusal.
-pub fn check_number_of(r: CheckRefusal) -> u8
-    ensures { λ n. ⌜ n ≡ checkNumber r ⌝ }
-{
-    match r {
-        CheckRefusal::Text(x) => number_of(x),
-        CheckRefusal::ShortBuffer(s) => 8,
-        CheckRefusal::OverlongAnswer(s) => 10,
-        CheckRefusal::MalformedAnswer(s) => 11,
-        CheckRefusal::NoModelOffered => 12,
-        CheckRefusal::StrayVariable(s) => 13,
-        CheckRefusal::RepeatedVariable(s) => 14,
-        CheckRefusal::FalseClause(j) => 16,
-    }
-}
-
-// Its spot.
-pub fn check_spot_of(r: CheckRefusal) -> usize
-    ensures { λ n. ⌜ n ≡ checkSpot r ⌝ }
-{
-    match r {
-        CheckRefusal::Text(x) => spot_of(x),
-        CheckRefusal::ShortBuffer(s) => s,
-        CheckRefusal::OverlongAnswer(s) => s,
-        CheckRefusal::MalformedAnswer(s) => s,
-        CheckRefusal::NoModelOffered => 0,
-        CheckRefusal::StrayVariable(s) => s,
-        CheckRefusal::RepeatedVariable(s) => s,
-        CheckRefusal::FalseClause(j) => j,
-    }
 }

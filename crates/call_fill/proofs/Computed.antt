@@ -10,8 +10,9 @@ use Rattle.lists.specs.Ascii.{ascii}
 use Rattle.reader_form.specs.Automaton.{formAt, digitTest, literalOf, leaveOf, digitOf, itemOf, actAt, stepOf}
 use Rattle.reader_work.specs.Work as Work
 use Rattle.reader_work.specs.Reading.{ended, readFrom}
-use Rattle.program.specs.Verdict.{refusalOf, refuseOf, finished, readOf, emptyProgram}
-use Rattle.reader_laws.specs.Decoded.{decoded}
+use Rattle.reader.specs.Verdict.{refusalOf, refuseOf, finished, readOf}
+use Rattle.program.specs.Arrays.{emptyProgram}
+use Rattle.program.specs.Arrays.{decoded}
 use Rattle.meaning.specs.Stage.{reduct, stage, levelIn, differ}
 use Rattle.encoding.specs.Width.{bitsFor}
 use Rattle.encoding.specs.Clauses.{pairs, variables}
@@ -19,7 +20,8 @@ use Rattle.encoding.specs.Fill.{fill, fillWith}
 use Rattle.call_results.specs.Results.{trueCount}
 use Rattle.call_fill.specs.declared.FillVerdict.{FillVerdict}
 use Rattle.call_fill.specs.declared.FillVerdict.the-variants.{Filled, Refused}
-use Rattle.call_fill.specs.FillOut.{fillNumber, fillSpot, firstBad, foundedResult, fillOf, fillAnswer, fillAssignment, fillLevels}
+use Rattle.refusals.specs.Numbers.{fillNumber, fillSpot}
+use Rattle.call_fill.specs.FillOut.{firstBad, foundedResult, fillOf, fillAnswer, fillAssignment, fillLevels}
 
 -- true atoms and highest level; number and spot of a refusal
 pub data Said : Type 0 where

@@ -24,16 +24,15 @@ use Rattle.encoding.specs.Width.{width}
 use Rattle.encoding.specs.Fill.{fill}
 use Rattle.theory.proofs.Atoms.{atom-pos, is-atom}
 use Rattle.theory.proofs.Decided.{decided, stable-least, differ-at, differ-before, differ-le}
-use Rattle.program.specs.declared.Reading.{Reading}
-use Rattle.program.specs.declared.TextRefusal.{TextRefusal}
-use Rattle.program.specs.declared.ReadVerdict.{ReadVerdict}
-use Rattle.program.specs.declared.ReadVerdict.the-variants.{Accepted, Refused as TextRefused}
-use Rattle.program.specs.Verdict.{readOf, textNumber, textSpot}
-use Rattle.reader_laws.specs.Row.{rank, NoLater, ranked, nearer, smaller, FirstRow, Admitted}
-use Rattle.reader_laws.proofs.Unique.{text-unique}
-use Rattle.reader_laws.proofs.Rows.{answers-first, accepted-none, not-both}
-use Rattle.reader_laws.proofs.Contents.{admitted-answer}
-use Rattle.call_lines.proofs.Rows.{admitted-program}
+use Rattle.refusals.specs.declared.TextRefusal.{TextRefusal}
+use Rattle.reader.specs.declared.ReadVerdict.{ReadVerdict}
+use Rattle.reader.specs.declared.ReadVerdict.the-variants.{Accepted, Refused as TextRefused}
+use Rattle.reader.specs.Verdict.{readOf}
+use Rattle.refusals.specs.Numbers.{textNumber, textSpot}
+use Rattle.reader_laws.specs.Row.{rank, NoLater, ranked, nearer, smaller, FirstRow}
+use Rattle.text.specs.Limits.{Admitted}
+use Rattle.reader_laws.proofs.Rows.{answers-first, accepted-none}
+use Rattle.call_laws.proofs.Texts.{admitted-program, one-admitted, refused-row, refused-admits-none}
 use Rattle.answer_offers.specs.Offered.{valueBytes}
 use Rattle.truth_clauses.specs.Truth.{valueIn}
 use Rattle.level_stages.specs.Levels.{setIn}
@@ -41,11 +40,12 @@ use Rattle.call_results.specs.Results.{Result, varTotal, programOf}
 use Rattle.call_results.specs.Order.{NotAfter}
 use Rattle.call_results.proofs.Order.{Told, at-row, met-none}
 use Rattle.call_results.proofs.Order as Order
-use Rattle.call_fill.specs.declared.FillRefusal.{FillRefusal}
-use Rattle.call_fill.specs.declared.FillRefusal.the-variants.{Text, ShortBuffer, BadSet, Unfounded}
+use Rattle.refusals.specs.declared.FillRefusal.{FillRefusal}
+use Rattle.refusals.specs.declared.FillRefusal.the-variants.{Text, ShortBuffer, BadSet, Unfounded}
 use Rattle.call_fill.specs.declared.FillVerdict.{FillVerdict}
 use Rattle.call_fill.specs.declared.FillVerdict.the-variants.{Filled, Refused}
-use Rattle.call_fill.specs.FillOut.{fillNumber, fillSpot, refuse, firstBad, foundedResult, fillResult, afterReading, verdictOf, fillOf, fillAnswer}
+use Rattle.refusals.specs.Numbers.{fillNumber, fillSpot}
+use Rattle.call_fill.specs.FillOut.{refuse, firstBad, foundedResult, fillResult, afterReading, verdictOf, fillOf, fillAnswer}
 use Rattle.call_fill.specs.Rows.{FillRow, of-text, short-assignment, short-levels, wrong-length, bad-byte, unfounded, FirstFillRow, FillAnswers, FillAccepts}
 
 -- of one row, the smaller spot is first
@@ -66,10 +66,7 @@ module _ (t s : List ℕ) (a l : ℕ) where
 
   module _ (x : TextRefusal) (v : readOf t .verdict ≡ TextRefused x) where
     F : FirstRow t (textNumber x) (textSpot x)
-    F = answers-first t (textNumber x) (textSpot x) (record { refusal = x; verdict-is = v; row-is = refl; spot-is = refl })
-
-    not-admitted : (P : Program) → Admitted t P → ⊥
-    not-admitted P b = not-both (ap (λ (r : Reading). r .verdict) (admitted-answer t P b)) v
+    F = refused-row t x v
 
     text-first : (k r u : ℕ) → FillRow t s a l k r u → NotAfter (rank (textNumber x)) (textNumber x) (textSpot x) k r u
     text-first k r u (of-text ρ) = go (F .first r u ρ)
@@ -78,11 +75,11 @@ module _ (t s : List ℕ) (a l : ℕ) where
         go (ranked h) = NotAfter.earlier h
         go (nearer e h) = NotAfter.nearer e h
         go (smaller e f h) = NotAfter.smaller e f h
-    text-first k r u (short-assignment P b h) = absurd (not-admitted P b)
-    text-first k r u (short-levels P b h) = absurd (not-admitted P b)
-    text-first k r u (wrong-length P b h) = absurd (not-admitted P b)
-    text-first k r u (bad-byte P b e i h g) = absurd (not-admitted P b)
-    text-first k r u (unfounded P b i h g) = absurd (not-admitted P b)
+    text-first k r u (short-assignment P b h) = absurd (refused-admits-none t x v P b)
+    text-first k r u (short-levels P b h) = absurd (refused-admits-none t x v P b)
+    text-first k r u (wrong-length P b h) = absurd (refused-admits-none t x v P b)
+    text-first k r u (bad-byte P b e i h g) = absurd (refused-admits-none t x v P b)
+    text-first k r u (unfounded P b i h g) = absurd (refused-admits-none t x v P b)
 
     text-told : Case
     unfolding fillAnswer fillOf
@@ -105,7 +102,7 @@ module _ (t s : List ℕ) (a l : ℕ) where
     A = admitted-program t v
 
     same : (Q : Program) → Admitted t Q → Q ≡ P
-    same Q b = text-unique Q P (sym (b .its-text) ∙ A .its-text)
+    same Q b = one-admitted A b
 
     result : fillOf t s a l ≡ fillResult P s a l
     unfolding fillOf

@@ -27,11 +27,11 @@ use Rattle.encoding.specs.Fill.{fill}
 use Rattle.theory.proofs.Base.{fill-length}
 use Rattle.theory.proofs.Widths.{width-enough}
 use Rattle.clause_literals.specs.declared.Sizes.{Sizes}
-use Rattle.program.specs.declared.Reading.{Reading}
-use Rattle.program.specs.declared.ReadVerdict.{ReadVerdict}
-use Rattle.program.specs.declared.ReadVerdict.the-variants.{Accepted, Refused as TextRefused}
-use Rattle.program.specs.declared.TextRefusal.{TextRefusal}
-use Rattle.program.specs.Verdict.{readOf}
+use Rattle.reader.specs.declared.Reading.{Reading}
+use Rattle.reader.specs.declared.ReadVerdict.{ReadVerdict}
+use Rattle.reader.specs.declared.ReadVerdict.the-variants.{Accepted, Refused as TextRefused}
+use Rattle.refusals.specs.declared.TextRefusal.{TextRefusal}
+use Rattle.reader.specs.Verdict.{readOf}
 use Rattle.answer_offers.specs.Offered.{valueBytes}
 use Rattle.clause_tables.specs.declared.Totals.{Totals}
 use Rattle.clause_tables.specs.Tables.{countersOf, totalsOf, Tabled}
@@ -40,8 +40,8 @@ use Rattle.level_stages.specs.Levels.{setIn, firstUnlike}
 use Rattle.level_stages.proofs.Levels.{unlike-differ}
 use Rattle.call_results.specs.Results.{Result, trueCount, levelIn, varTotal, programOf}
 use Rattle.call_results.proofs.ValueBytes.{atoms-within, value-here}
-use Rattle.call_fill.specs.declared.FillRefusal.{FillRefusal}
-use Rattle.call_fill.specs.declared.FillRefusal.the-variants.{Text, ShortBuffer, BadSet, Unfounded}
+use Rattle.refusals.specs.declared.FillRefusal.{FillRefusal}
+use Rattle.refusals.specs.declared.FillRefusal.the-variants.{Text, ShortBuffer, BadSet, Unfounded}
 use Rattle.call_fill.specs.declared.FillVerdict.{FillVerdict}
 use Rattle.call_fill.specs.declared.FillVerdict.the-variants.{Filled, Refused}
 use Rattle.call_fill.specs.FillOut.{refuse, firstBad, foundedResult, fillResult, afterReading, Gives, fillOf, fillAnswer, fillAssignment, fillLevels}

@@ -26,23 +26,23 @@ use Rattle.theory.proofs.Atoms.{is-atom}
 use Rattle.theory.proofs.Decided.{decided, differ-at, differ-le}
 use Rattle.theory.proofs.Base.{fill-has}
 use Rattle.theory.proofs.Widths.{width-enough}
-use Rattle.program.specs.declared.Reading.{Reading}
-use Rattle.program.specs.declared.TextRefusal.{TextRefusal}
-use Rattle.program.specs.declared.ReadVerdict.{ReadVerdict}
-use Rattle.program.specs.declared.ReadVerdict.the-variants.{Accepted, Refused as TextRefused}
-use Rattle.program.specs.Verdict.{readOf}
-use Rattle.reader_laws.specs.Decoded.{decoded}
-use Rattle.reader_laws.specs.Row.{Admitted}
+use Rattle.reader.specs.declared.Reading.{Reading}
+use Rattle.refusals.specs.declared.TextRefusal.{TextRefusal}
+use Rattle.reader.specs.declared.ReadVerdict.{ReadVerdict}
+use Rattle.reader.specs.declared.ReadVerdict.the-variants.{Accepted, Refused as TextRefused}
+use Rattle.reader.specs.Verdict.{readOf}
+use Rattle.program.specs.Arrays.{decoded}
+use Rattle.text.specs.Limits.{Admitted}
 use Rattle.reader_laws.proofs.Contents.{admitted-answer}
-use Rattle.reader_laws.proofs.Decode.{decoded-kept}
-use Rattle.call_lines.proofs.Rows.{admitted-program}
+use Rattle.program.proofs.Decode.{decoded-kept}
+use Rattle.call_laws.proofs.Texts.{admitted-program}
 use Rattle.answer_offers.specs.Offered.{valueBytes}
 use Rattle.truth_clauses.specs.Truth.{valueIn}
 use Rattle.level_stages.specs.Levels.{setIn}
 use Rattle.call_results.specs.Results.{Result, trueCount, assignmentAfter, levelsAfter, varTotal, programOf}
 use Rattle.call_results.proofs.ValueBytes.{value-same, levels-same}
-use Rattle.call_fill.specs.declared.FillRefusal.{FillRefusal}
-use Rattle.call_fill.specs.declared.FillRefusal.the-variants.{Text}
+use Rattle.refusals.specs.declared.FillRefusal.{FillRefusal}
+use Rattle.refusals.specs.declared.FillRefusal.the-variants.{Text}
 use Rattle.call_fill.specs.declared.FillVerdict.{FillVerdict}
 use Rattle.call_fill.specs.declared.FillVerdict.the-variants.{Filled, Refused}
 use Rattle.call_fill.specs.FillOut.{fillResult, afterReading, verdictOf, leaves, fillOf, fillAnswer, fillAssignment, fillLevels}

@@ -1,6 +1,5 @@
 -- Filling out a set of atoms (document 01, "Check and filling out" and "Verdicts"): what the call answers, and what each lent buffer holds afterwards.
 -- s is the set, one byte for each atom.
---   fillNumber, fillSpot    the document's number and spot of a refusal
 --   firstBad s              the first byte of s above 1, counted from 1; 0 if there is none
 --   foundedResult P M       row 18, for the set M of atoms, and what an accepted set gives; no variable is left out
 --   setResult P s           row 17, then these
@@ -19,30 +18,16 @@ use Rattle.meaning.specs.Program.{Program, Atoms}
 use Rattle.meaning.specs.Stage.{level, differ}
 use Rattle.encoding.specs.Width.{width}
 use Rattle.encoding.specs.Fill.{fill}
-use Rattle.program.specs.declared.ReadVerdict.{ReadVerdict}
-use Rattle.program.specs.declared.ReadVerdict.the-variants.{Accepted, Refused as TextRefused}
-use Rattle.program.specs.Verdict.{readOf, textNumber, textSpot}
+use Rattle.reader.specs.declared.ReadVerdict.{ReadVerdict}
+use Rattle.reader.specs.declared.ReadVerdict.the-variants.{Accepted, Refused as TextRefused}
+use Rattle.reader.specs.Verdict.{readOf}
 use Rattle.answer_offers.specs.Offered.{valueBytes}
 use Rattle.level_stages.specs.Levels.{setIn}
 use Rattle.call_results.specs.Results.{Result, trueCount, levelIn, assignmentAfter, levelsAfter, varTotal, programOf}
-use Rattle.call_fill.specs.declared.FillRefusal.{FillRefusal}
-use Rattle.call_fill.specs.declared.FillRefusal.the-variants.{Text, ShortBuffer, BadSet, Unfounded}
+use Rattle.refusals.specs.declared.FillRefusal.{FillRefusal}
+use Rattle.refusals.specs.declared.FillRefusal.the-variants.{Text, ShortBuffer, BadSet, Unfounded}
 use Rattle.call_fill.specs.declared.FillVerdict.{FillVerdict}
 use Rattle.call_fill.specs.declared.FillVerdict.the-variants.{Filled, Refused}
-
--- ---- refusals
-
-abbrev pub fillNumber : FillRefusal → ℕ
-fillNumber (Text r) = textNumber r
-fillNumber (ShortBuffer s) = 8
-fillNumber (BadSet s) = 17
-fillNumber (Unfounded a) = 18
-
-abbrev pub fillSpot : FillRefusal → ℕ
-fillSpot (Text r) = textSpot r
-fillSpot (ShortBuffer s) = s
-fillSpot (BadSet s) = s
-fillSpot (Unfounded a) = a
 
 -- ---- the rows, last to first
 

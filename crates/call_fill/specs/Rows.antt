@@ -15,14 +15,16 @@ use Rattle.meaning.specs.Program.{Program, isAtom}
 use Rattle.meaning.specs.Stage.{Stable, leastModel, level}
 use Rattle.encoding.specs.Width.{width}
 use Rattle.encoding.specs.Fill.{fill}
-use Rattle.reader_laws.specs.Row.{Row, rank, Admitted}
+use Rattle.reader_laws.specs.Row.{Row, rank}
+use Rattle.text.specs.Limits.{Admitted}
 use Rattle.answer_offers.specs.Offered.{valueBytes}
 use Rattle.level_stages.specs.Levels.{setIn}
 use Rattle.call_results.specs.Results.{varTotal}
 use Rattle.call_results.specs.Order.{First}
-use Rattle.call_fill.specs.declared.FillRefusal.{FillRefusal}
+use Rattle.refusals.specs.declared.FillRefusal.{FillRefusal}
 use Rattle.call_fill.specs.declared.FillVerdict.the-variants.{Filled, Refused}
-use Rattle.call_fill.specs.FillOut.{fillNumber, fillSpot, fillAnswer, fillAssignment, fillLevels}
+use Rattle.refusals.specs.Numbers.{fillNumber, fillSpot}
+use Rattle.call_fill.specs.FillOut.{fillAnswer, fillAssignment, fillLevels}
 
 pub data FillRow (t s : List ℕ) (a l : ℕ) : ℕ → ℕ → ℕ → Type 0 where
   of-text : {r u : ℕ} → Row t r u → FillRow t s a l (rank r) r u

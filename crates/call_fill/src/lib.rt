@@ -9,29 +9,19 @@ use level_fill::put_filled;
 use level_stages::first_difference;
 use level_stages::stage_levels;
 use program::Program;
-use program::ReadVerdict;
-use program::TextRefusal;
-use program::number_of;
-use program::read;
-use program::spot_of;
+use reader::ReadVerdict;
+use reader::read;
+use refusals::FillRefusal;
 ghost use Prim.Native.Nat.{_≤_};
 ghost use mathlib.Core.Path.{_≡_};
 ghost use mathlib.Core.List.{_++_};
 ghost use lib.ListN.{length, drop};
 ghost use Rattle.lists.specs.Lists.{tab};
 ghost use Rattle.meaning.specs.Stage.{level};
-ghost use Rattle.reader_laws.specs.Decoded.{decoded};
+ghost use Rattle.program.specs.Arrays.{decoded};
 ghost use Rattle.clause_tables.specs.Tables.{Stored, programIn, Ready};
 ghost use Rattle.level_stages.specs.Levels.{setIn};
-ghost use Rattle.call_fill.specs.FillOut.{fillNumber, fillSpot, firstBad, Gives, foundedResult, fillResult, fillAnswer, fillAssignment, fillLevels};
-
-// Why the set is not filled out, each with its spot.
-pub enum FillRefusal {
-    Text(TextRefusal),
-    ShortBuffer(usize),
-    BadSet(usize),
-    Unfounded(usize),
-}
+ghost use Rattle.call_fill.specs.FillOut.{firstBad, Gives, foundedResult, fillResult, fillAnswer, fillAssignment, fillLevels};
 
 // How many atoms are true, and the highest level; or a refusal.
 pub enum FillVerdict {
@@ -209,29 +199,5 @@ pub fn fill_out(text: &[u8], set: &[u8], assignment: &mut [u8], levels: &mut [u8
     match v {
         ReadVerdict::Accepted => fill_program(x.program, set, &mut *assignment, &mut *levels),
         ReadVerdict::Refused(r) => FillVerdict::Refused(FillRefusal::Text(r)),
-    }
-}
-
-// The document's number of a refusal.
-pub fn fill_number_of(r: FillRefusal) -> u8
-    ensures { λ n. ⌜ n ≡ fillNumber r ⌝ }
-{
-    match r {
-        FillRefusal::Text(x) => number_of(x),
-        FillRefusal::ShortBuffer(s) => 8,
-        FillRefusal::BadSet(s) => 17,
-        FillRefusal::Unfounded(a) => 18,
-    }
-}
-
-// Its spot.
-pub fn fill_spot_of(r: FillRefusal) -> usize
-    ensures { λ n. ⌜ n ≡ fillSpot r ⌝ }
-{
-    match r {
-        FillRefusal::Text(x) => spot_of(x),
-        FillRefusal::ShortBuffer(s) => s,
-        FillRefusal::BadSet(s) => s,
-        FillRefusal::Unfounded(a) => a,
     }
 }

@@ -19,7 +19,7 @@ use Rattle.clause_tables.specs.declared.Totals.{Totals}
 use Rattle.clause_tables.specs.Tables.{Tabled}
 use Rattle.clause_places.specs.declared.Place.{Place}
 use Rattle.clause_places.specs.Places.{placeAt}
-use Rattle.call_lines.specs.declared.LineRefusal.the-variants.{NoSuchClause, ShortBuffer}
+use Rattle.refusals.specs.declared.LineRefusal.the-variants.{NoSuchClause, ShortBuffer}
 use Rattle.call_lines.specs.declared.LineVerdict.the-variants.{Written, Refused}
 use Rattle.call_lines.specs.declared.RunVerdict.the-variants.{WrittenRun, RefusedRun}
 use Rattle.clause_runs.specs.declared.Part.{Part}

@@ -19,17 +19,17 @@ use borrow.Author.Tests.{le-leb, lt-leb, ltb-true, ltb-false}
 use Rattle.lists.specs.Lists.{tab, joined}
 use Rattle.lists.proofs.Tests.{le-or-lt}
 use Rattle.meaning.specs.Program.{Program}
-use Rattle.program.specs.declared.Reading.{Reading}
-use Rattle.program.specs.declared.ReadVerdict.{ReadVerdict}
-use Rattle.program.specs.declared.ReadVerdict.the-variants.{Accepted, Refused as TextRefused}
-use Rattle.program.specs.Verdict.{readOf}
-use Rattle.reader_laws.specs.Decoded.{decoded}
-use Rattle.reader_laws.specs.Row.{Admitted}
-use Rattle.reader_laws.proofs.Decode.{decoded-kept}
+use Rattle.reader.specs.declared.Reading.{Reading}
+use Rattle.reader.specs.declared.ReadVerdict.{ReadVerdict}
+use Rattle.reader.specs.declared.ReadVerdict.the-variants.{Accepted, Refused as TextRefused}
+use Rattle.reader.specs.Verdict.{readOf}
+use Rattle.program.specs.Arrays.{decoded}
+use Rattle.text.specs.Limits.{Admitted}
+use Rattle.program.proofs.Decode.{decoded-kept}
 use Rattle.reader_laws.proofs.Contents.{admitted-answer}
 use Rattle.clause_tables.specs.Tables.{Tabled, pairTable, totalsOf}
-use Rattle.clause_table_laws.proofs.Elements.{stored}
-use Rattle.call_lines.specs.declared.LineRefusal.{LineRefusal}
+use Rattle.call_laws.proofs.Tabled.{stored}
+use Rattle.refusals.specs.declared.LineRefusal.{LineRefusal}
 use Rattle.call_lines.specs.declared.LineVerdict.{LineVerdict}
 use Rattle.call_lines.specs.declared.LineVerdict.the-variants.{Written, Refused}
 use Rattle.call_lines.specs.declared.RunVerdict.{RunVerdict}
@@ -39,7 +39,7 @@ use Rattle.call_lines.specs.Lines.{afterText, keptBytes, answerIn, bytes
 use Rattle.call_lines.specs.Rows.{RunWritten}
 use Rattle.clause_runs.proofs.Placed.{total-is, lines-count}
 use Rattle.clause_runs.proofs.Runs.{fitting-few, fitting-room}
-use Rattle.call_lines.proofs.Open.{tabled}
+use Rattle.call_laws.proofs.Tabled.{tabled}
 
 -- ---- the verdicts
 

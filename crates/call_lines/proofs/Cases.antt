@@ -9,7 +9,7 @@ use lib.ListN.{length, take, drop}
 use borrow.Author.Tests.{lt-ltb, le-ltb}
 use Rattle.lists.specs.Lists.{joined}
 use Rattle.meaning.specs.Program.{Program}
-use Rattle.call_lines.specs.declared.LineRefusal.the-variants.{NoSuchClause, ShortBuffer}
+use Rattle.refusals.specs.declared.LineRefusal.the-variants.{NoSuchClause, ShortBuffer}
 use Rattle.call_lines.specs.declared.LineVerdict.the-variants.{Written, Refused}
 use Rattle.call_lines.specs.declared.RunVerdict.{RunVerdict}
 use Rattle.call_lines.specs.declared.RunVerdict.the-variants.{WrittenRun, RefusedRun}

@@ -14,16 +14,16 @@ use Rattle.encoding.specs.Clauses.{clauses, variables}
 use Rattle.theory.proofs.Widths.{width-some, width-enough}
 use Rattle.theory.proofs.Counts.{count-whole}
 use Rattle.digits.specs.Bytes.{lineText}
-use Rattle.reader_laws.specs.Breach.{kept}
-use Rattle.reader_laws.specs.Row.{Limits}
-use Rattle.reader_laws.proofs.Decode.{decoded-kept}
+use Rattle.program.specs.Arrays.{kept}
+use Rattle.text.specs.Limits.{Limits}
+use Rattle.program.proofs.Decode.{decoded-kept}
 use Rattle.clause_tables.specs.Tables.{Stored, Tabled, pairTable, totalsOf}
 use Rattle.clause_text.specs.Lines.{headerText}
 use Rattle.clause_places.specs.Places.{placeAt, clauseIn}
 use Rattle.clause_places.proofs.Numbers.{clause-at, spot-count}
 use Rattle.clause_runs.specs.Lines.{clauseTotal, linesOf, lineOf}
 use Rattle.clause_runs.proofs.Placed.{total-is, line-short, line-of-clause}
-use Rattle.call_lines.proofs.Open.{tabled}
+use Rattle.call_laws.proofs.Tabled.{tabled}
 
 module _ (P : Program) where
   pub header-line : lineOf P 0 ≡ headerText (variables P (width (P .atoms))) (clauseTotal P)

@@ -1,50 +1,23 @@
--- The two calls on a text, from the tables of its program.
+-- The calls for lines, by the tests that they make on what the reader answers.
 -- Assumes nothing.
 use Prim.Native.Nat.{ℕ, _-_}
 use mathlib.Core.Path.{_≡_, sym, _∙_, ap, subst}
 use mathlib.Core.List.{List}
 use lib.ListN.{length}
 use Rattle.meaning.specs.Program.{Program}
-use Rattle.encoding.specs.Clauses.{pairCount, emptyBodies}
-use Rattle.program.specs.declared.Program.{Program as Arrays}
-use Rattle.program.specs.declared.Reading.{Reading}
-use Rattle.program.specs.declared.TextRefusal.{TextRefusal}
-use Rattle.program.specs.declared.ReadVerdict.{ReadVerdict}
-use Rattle.program.specs.declared.ReadVerdict.the-variants.{Accepted, Refused as TextRefused}
-use Rattle.program.specs.Verdict.{readOf}
-use Rattle.reader_laws.specs.Decoded.{decoded}
-use Rattle.clause_tables.specs.declared.Pairs.{Pairs}
-use Rattle.clause_tables.specs.declared.Totals.{Totals}
-use Rattle.clause_tables.specs.Tables.{Stored, Tabled, pairTable, totalsOf, programIn, Ready}
-use Rattle.clause_table_laws.proofs.Elements.{programIn-is, ready, stored}
-use Rattle.call_lines.specs.declared.LineRefusal.the-variants.{Text}
+use Rattle.reader.specs.declared.Reading.{Reading}
+use Rattle.refusals.specs.declared.TextRefusal.{TextRefusal}
+use Rattle.reader.specs.declared.ReadVerdict.{ReadVerdict}
+use Rattle.reader.specs.declared.ReadVerdict.the-variants.{Accepted, Refused as TextRefused}
+use Rattle.reader.specs.Verdict.{readOf}
+use Rattle.program.specs.Arrays.{decoded}
+use Rattle.refusals.specs.declared.LineRefusal.the-variants.{Text}
 use Rattle.call_lines.specs.declared.LineVerdict.{LineVerdict}
 use Rattle.call_lines.specs.declared.LineVerdict.the-variants.{Refused}
 use Rattle.call_lines.specs.declared.RunVerdict.{RunVerdict}
 use Rattle.call_lines.specs.declared.RunVerdict.the-variants.{RefusedRun}
 use Rattle.clause_runs.specs.Lines.{runBytesIn}
 use Rattle.call_lines.specs.Lines.{answerIn, bytesIn, afterText, keptBytes, lineAnswer, lineBytes, runAnswerIn, afterTextRun, runAnswer, runBytes}
-
--- ---- from the arrays of a program
-
-module _ {A : Arrays} (S : Stored A) where
-  module _ {k : Pairs} (e : k ≡ pairTable (decoded A)) where
-    pub totals-asks : Stored A × (k .count ≡ pairCount (decoded A)) × (k .empty ≡ emptyBodies (decoded A))
-    unfolding pairTable
-    totals-asks = (S, ap (λ (x : Pairs). x .count) e, ap (λ (x : Pairs). x .empty) e)
-
-    pub ready-of : {t : Totals} → t ≡ totalsOf (decoded A) → Ready t (A .heads) (A .starts) (A .bodies) (k .before) (k .bodies) (k .heads)
-    ready-of {t} f =
-        subst (λ (x : Pairs). Ready t (A .heads) (A .starts) (A .bodies) (x .before) (x .bodies) (x .heads)) (sym e)
-        (subst (λ (x : Totals). Ready x (A .heads) (A .starts) (A .bodies) (pairTable (decoded A) .before) (pairTable (decoded A) .bodies) (pairTable (decoded A) .heads)) (sym f) (ready A S))
-
-pub program-is : (A : Arrays) {t : Totals} → t ≡ totalsOf (decoded A) → programIn (t .sizes) (A .heads) (A .starts) (A .bodies) ≡ decoded A
-program-is A {t} f = programIn-is A t f
-
-pub tabled : {A : Arrays} → Stored A → {k : Pairs} → k ≡ pairTable (decoded A) → {t : Totals} → t ≡ totalsOf (decoded A)
-    → Tabled (decoded A) t (A .heads) (A .starts) (A .bodies) (k .before) (k .bodies) (k .heads)
-tabled {A} S {k} e {t} f =
-    subst (λ (P : Program). Tabled P t (A .heads) (A .starts) (A .bodies) (k .before) (k .bodies) (k .heads)) (program-is A f) (ready-of S e f)
 
 module _ {P Q : Program} (e : P ≡ Q) (j k : ℕ) (b : List ℕ) where
   pub same-line : {x : LineVerdict} {c : List ℕ} → (x ≡ answerIn P j (length b - k)) × (c ≡ bytesIn P j k b) → (x ≡ answerIn Q j (length b - k)) × (c ≡ bytesIn Q j k b)
@@ -54,17 +27,12 @@ module _ {P Q : Program} (e : P ≡ Q) (j : ℕ) (b : List ℕ) where
   pub same-run : {x : RunVerdict} {c : List ℕ} → (x ≡ runAnswerIn P j (length b)) × (c ≡ runBytesIn P j b) → (x ≡ runAnswerIn Q j (length b)) × (c ≡ runBytesIn Q j b)
   same-run {x} {c} u = subst (λ (X : Program). (x ≡ runAnswerIn X j (length b)) × (c ≡ runBytesIn X j b)) e u
 
--- ---- from the text
-
 module _ (t : List ℕ) {r : Reading} (e : r ≡ readOf t) where
   verdict-is : readOf t .verdict ≡ r .verdict
   verdict-is = ap (λ (x : Reading). x .verdict) (sym e)
 
   program-same : decoded (r .program) ≡ decoded (readOf t .program)
   program-same = ap (λ (x : Reading). decoded (x .program)) e
-
-  pub accepted-stored : r .verdict ≡ Accepted → Stored (r .program)
-  accepted-stored v = subst (λ (x : Reading). Stored (x .program)) (sym e) (stored t (verdict-is ∙ v))
 
   module _ (j k : ℕ) (b : List ℕ) where
     pub line-accepted : r .verdict ≡ Accepted → {x : LineVerdict} {c : List ℕ}

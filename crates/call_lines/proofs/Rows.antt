@@ -15,23 +15,23 @@ use lib.ListN.{length}
 use borrow.Author.Tests.{ne-eqb}
 use Rattle.lists.proofs.Tests.{le-or-lt}
 use Rattle.meaning.specs.Program.{Program}
-use Rattle.program.specs.declared.TextRefusal.{TextRefusal}
-use Rattle.program.specs.declared.ReadVerdict.{ReadVerdict}
-use Rattle.program.specs.declared.ReadVerdict.the-variants.{Accepted, Refused as TextRefused}
-use Rattle.program.specs.Verdict.{readOf, textNumber, textSpot}
-use Rattle.reader_laws.specs.Decoded.{decoded}
-use Rattle.reader_laws.specs.Row.{Row, rank, NoLaterBy, ranked, nearer, smaller, FirstRow, Answers, Admitted}
-use Rattle.reader_laws.proofs.Unique.{text-unique}
-use Rattle.reader_laws.proofs.Rows.{no-later-both, row-few, answers-first, accepted-none, not-both}
-use Rattle.reader_laws.proofs.Contents.{accepted-admitted, admitted-answer}
-use Rattle.reader_laws.proofs.Decode.{decoded-kept}
-use Rattle.program.specs.declared.Reading.{Reading}
-use Rattle.call_lines.specs.declared.LineRefusal.{LineRefusal}
-use Rattle.call_lines.specs.declared.LineRefusal.the-variants.{Text, NoSuchClause, ShortBuffer}
+use Rattle.refusals.specs.declared.TextRefusal.{TextRefusal}
+use Rattle.reader.specs.declared.ReadVerdict.{ReadVerdict}
+use Rattle.reader.specs.declared.ReadVerdict.the-variants.{Accepted, Refused as TextRefused}
+use Rattle.reader.specs.Verdict.{readOf}
+use Rattle.refusals.specs.Numbers.{textNumber, textSpot}
+use Rattle.program.specs.Arrays.{decoded}
+use Rattle.reader_laws.specs.Row.{Row, rank, NoLaterBy, ranked, nearer, smaller, FirstRow}
+use Rattle.text.specs.Limits.{Admitted}
+use Rattle.reader_laws.proofs.Rows.{no-later-both, row-few, accepted-none}
+use Rattle.refusals.specs.declared.LineRefusal.{LineRefusal}
+use Rattle.refusals.specs.declared.LineRefusal.the-variants.{Text, NoSuchClause, ShortBuffer}
 use Rattle.call_lines.specs.declared.LineVerdict.{LineVerdict}
 use Rattle.call_lines.specs.declared.LineVerdict.the-variants.{Written, Refused}
+use Rattle.call_laws.proofs.Texts.{admitted-program, one-admitted, refused-row, refused-admits-none}
 use Rattle.clause_runs.specs.Lines.{clauseTotal, lineOf}
-use Rattle.call_lines.specs.Lines.{lineNumber, lineSpot, answerIn, afterText, lineAnswer}
+use Rattle.refusals.specs.Numbers.{lineNumber, lineSpot}
+use Rattle.call_lines.specs.Lines.{answerIn, afterText, lineAnswer}
 use Rattle.call_lines.proofs.Cases.{answer-none, answer-short, answer-fits}
 use Rattle.call_lines.specs.Rows.{LineRow, of-text, short-buffer, no-such-clause, lineRank, FirstLineRow, LineAnswers, roomFrom}
 
@@ -40,12 +40,6 @@ pub data LineTold (t : List ℕ) (j k n : ℕ) : Type 0 where
   written : (x : ℕ) → lineAnswer t j k n ≡ Written x → ((r s : ℕ) → LineRow t j k n r s → ⊥) → LineTold t j k n
 
 -- the program of an accepted text
-pub admitted-program : (t : List ℕ) → readOf t .verdict ≡ Accepted → Admitted t (decoded (readOf t .program))
-admitted-program t e = go (accepted-admitted t e)
-  where
-    go : ((P : Program) × Admitted t P) → Admitted t (decoded (readOf t .program))
-    go (P, a) = subst (Admitted t) (sym (ap (λ (r : Reading). decoded (r .program)) (admitted-answer t P a) ∙ decoded-kept P)) a
-
 -- among the reader's rows the order is the reader's
 text-rank : (t : List ℕ) (r s : ℕ) → Row t r s → lineRank r ≡ rank r
 text-rank t r s ρ =
@@ -62,14 +56,8 @@ module _ (t : List ℕ) (j k n : ℕ) where
   -- ---- a refused text
 
   module _ (x : TextRefusal) (v : readOf t .verdict ≡ TextRefused x) where
-    as-answer : Answers t (textNumber x) (textSpot x)
-    as-answer = record { refusal = x; verdict-is = v; row-is = refl; spot-is = refl }
-
     F : FirstRow t (textNumber x) (textSpot x)
-    F = answers-first t (textNumber x) (textSpot x) as-answer
-
-    not-admitted : (P : Program) → Admitted t P → ⊥
-    not-admitted P a = not-both (ap (λ (r : Reading). r .verdict) (admitted-answer t P a)) v
+    F = refused-row t x v
 
     keeps : (l u : ℕ) → Row t l u → NoLaterBy rank (textNumber x) (textSpot x) l u → NoLaterBy lineRank (textNumber x) (textSpot x) l u
     keeps l u ρ = go (text-rank t (textNumber x) (textSpot x) (F .met)) (text-rank t l u ρ)
@@ -82,8 +70,8 @@ module _ (t : List ℕ) (j k n : ℕ) where
 
     text-first : (l u : ℕ) → LineRow t j k n l u → NoLaterBy lineRank (textNumber x) (textSpot x) l u
     text-first l u (of-text ρ) = keeps l u ρ (F .first l u ρ)
-    text-first l u (short-buffer P a h) = absurd (not-admitted P a)
-    text-first l u (no-such-clause P a h) = absurd (not-admitted P a)
+    text-first l u (short-buffer P a h) = absurd (refused-admits-none t x v P a)
+    text-first l u (no-such-clause P a h) = absurd (refused-admits-none t x v P a)
 
     text-told : LineTold t j k n
     unfolding lineAnswer
@@ -106,7 +94,7 @@ module _ (t : List ℕ) (j k n : ℕ) where
     A = admitted-program t v
 
     same : (Q : Program) → Admitted t Q → Q ≡ P
-    same Q a = text-unique Q P (sym (a .its-text) ∙ A .its-text)
+    same Q a = one-admitted A a
 
     answer : lineAnswer t j k n ≡ answerIn P j (n - k)
     unfolding lineAnswer

@@ -1,5 +1,4 @@
 -- The call that gives a line of a text's clause file, and the call for a run of them (document 01, "Clauses, in order").
---   lineNumber, lineSpot the document's number and spot of a refusal
 --   lineAnswer t j k n   the answer for line j of text t, into n bytes from place k on
 --   lineBytes t j k b    the buffer b afterwards
 --   runAnswer t j n      the answer for the lines of text t from line j on, into n bytes: how many lines, and their bytes
@@ -12,29 +11,16 @@ use lib.Dec.{ltb}
 use lib.ListN.{length, take, drop}
 use Rattle.lists.specs.Lists.{joined}
 use Rattle.meaning.specs.Program.{Program}
-use Rattle.program.specs.declared.ReadVerdict.{ReadVerdict}
-use Rattle.program.specs.declared.ReadVerdict.the-variants.{Accepted, Refused as TextRefused}
-use Rattle.program.specs.Verdict.{readOf, textNumber, textSpot}
-use Rattle.reader_laws.specs.Decoded.{decoded}
+use Rattle.reader.specs.declared.ReadVerdict.{ReadVerdict}
+use Rattle.reader.specs.declared.ReadVerdict.the-variants.{Accepted, Refused as TextRefused}
+use Rattle.reader.specs.Verdict.{readOf}
+use Rattle.program.specs.Arrays.{decoded}
 use Rattle.clause_runs.specs.Lines.{clauseTotal, linesOf, lineOf, fitting, runIn, runBytesIn}
-use Rattle.call_lines.specs.declared.LineRefusal.{LineRefusal}
-use Rattle.call_lines.specs.declared.LineRefusal.the-variants.{Text, NoSuchClause, ShortBuffer}
+use Rattle.refusals.specs.declared.LineRefusal.the-variants.{Text, NoSuchClause, ShortBuffer}
 use Rattle.call_lines.specs.declared.LineVerdict.{LineVerdict}
 use Rattle.call_lines.specs.declared.LineVerdict.the-variants.{Written, Refused}
 use Rattle.call_lines.specs.declared.RunVerdict.{RunVerdict}
 use Rattle.call_lines.specs.declared.RunVerdict.the-variants.{WrittenRun, RefusedRun}
-
--- ---- refusals
-
-abbrev pub lineNumber : LineRefusal → ℕ
-lineNumber (Text r) = textNumber r
-lineNumber (ShortBuffer s) = 8
-lineNumber (NoSuchClause s) = 9
-
-abbrev pub lineSpot : LineRefusal → ℕ
-lineSpot (Text r) = textSpot r
-lineSpot (ShortBuffer s) = s
-lineSpot (NoSuchClause s) = s
 
 -- ---- one line
 

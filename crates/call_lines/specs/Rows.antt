@@ -12,11 +12,13 @@ use lib.Dec.{eqb}
 use lib.ListN.{length, drop}
 use Rattle.lists.specs.Lists.{tab, joined}
 use Rattle.meaning.specs.Program.{Program}
-use Rattle.reader_laws.specs.Row.{Row, rank, NoLaterBy, Admitted}
-use Rattle.call_lines.specs.declared.LineRefusal.{LineRefusal}
+use Rattle.reader_laws.specs.Row.{Row, rank, NoLaterBy}
+use Rattle.text.specs.Limits.{Admitted}
+use Rattle.refusals.specs.declared.LineRefusal.{LineRefusal}
 use Rattle.call_lines.specs.declared.LineVerdict.the-variants.{Refused}
 use Rattle.clause_runs.specs.Lines.{clauseTotal, lineOf}
-use Rattle.call_lines.specs.Lines.{lineNumber, lineSpot, lineAnswer}
+use Rattle.refusals.specs.Numbers.{lineNumber, lineSpot}
+use Rattle.call_lines.specs.Lines.{lineAnswer}
 
 -- the bytes of the buffer from place k on: none if that is past the end
 abbrev pub roomFrom : ℕ → ℕ → ℕ

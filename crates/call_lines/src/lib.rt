@@ -7,25 +7,16 @@ use clause_tables::Totals;
 use clause_tabling::pairs_of;
 use clause_tabling::totals_of;
 use program::Program;
-use program::ReadVerdict;
-use program::TextRefusal;
-use program::number_of;
-use program::read;
-use program::spot_of;
+use reader::ReadVerdict;
+use reader::read;
+use refusals::LineRefusal;
 ghost use Prim.Native.Nat.{_-_};
 ghost use mathlib.Core.Path.{_≡_};
 ghost use lib.ListN.{length};
-ghost use Rattle.reader_laws.specs.Decoded.{decoded};
+ghost use Rattle.program.specs.Arrays.{decoded};
 ghost use Rattle.clause_tables.specs.Tables.{Stored, programIn, Ready};
-ghost use Rattle.clause_runs.specs.Lines.{lineOf, partIn, runBytesIn};
-ghost use Rattle.call_lines.specs.Lines.{lineNumber, lineSpot, answerIn, bytesIn, lineAnswer, lineBytes, runAnswerIn, runAnswer, runBytes};
-
-// Why no line is written: the text is refused, the buffer is short, or there is no such clause, each with its spot.
-pub enum LineRefusal {
-    Text(TextRefusal),
-    ShortBuffer(usize),
-    NoSuchClause(usize),
-}
+ghost use Rattle.clause_runs.specs.Lines.{runBytesIn};
+ghost use Rattle.call_lines.specs.Lines.{answerIn, bytesIn, lineAnswer, lineBytes, runAnswerIn, runAnswer, runBytes};
 
 // The length of the line written, or a refusal.
 pub enum LineVerdict {
@@ -180,27 +171,5 @@ pub fn run(text: &[u8], j: usize, buf: &mut [u8]) -> RunVerdict
     match v {
         ReadVerdict::Accepted => run_of(r.program, j, &mut *buf),
         ReadVerdict::Refused(x) => RunVerdict::RefusedRun(LineRefusal::Text(x)),
-    }
-}
-
-// The document's number of a refusal.
-pub fn line_number_of(r: LineRefusal) -> u8
-    ensures { λ n. ⌜ n ≡ lineNumber r ⌝ }
-{
-    match r {
-        LineRefusal::Text(x) => number_of(x),
-        LineRefusal::ShortBuffer(s) => 8,
-        LineRefusal::NoSuchClause(s) => 9,
-    }
-}
-
-// Its spot.
-pub fn line_spot_of(r: LineRefusal) -> usize
-    ensures { λ n. ⌜ n ≡ lineSpot r ⌝ }
-{
-    match r {
-        LineRefusal::Text(x) => spot_of(x),
-        LineRefusal::ShortBuffer(s) => s,
-        LineRefusal::NoSuchClause(s) => s,
     }
 }

@@ -3,10 +3,10 @@
 --   Told            a call refuses with the first row, or accepts where none is met
 --   answers-first, first-answers, accepts-none, none-accepts   so it is exactly
 -- Assumes nothing.
-use Prim.Native.Nat.{ℕ, _≤_, _<_}
+use Prim.Native.Nat.{ℕ}
 use native.Mathlib.Nat.{le-antisymm}
 use native.Mathlib.Omega.{arith}
-use mathlib.Core.Path.{_≡_, sym, _∙_, subst}
+use mathlib.Core.Path.{_≡_, subst}
 use Rattle.call_results.specs.Order.{NotAfter, First}
 
 not-after-both : (k r s l q u : ℕ) → NotAfter k r s l q u → NotAfter l q u k r s → (r ≡ q) × (s ≡ u)

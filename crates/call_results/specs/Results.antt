@@ -19,8 +19,8 @@ use Rattle.encoding.specs.Width.{width}
 use Rattle.encoding.specs.Variables.{Sizes}
 use Rattle.encoding.specs.Clauses.{variables}
 use Rattle.encoding.specs.Fill.{counter}
-use Rattle.program.specs.declared.Reading.{Reading}
-use Rattle.reader_laws.specs.Decoded.{decoded}
+use Rattle.reader.specs.declared.Reading.{Reading}
+use Rattle.program.specs.Arrays.{decoded}
 use Rattle.answer_values.specs.Assign.{filledWith}
 use Rattle.truth_clauses.specs.Truth.{valueIn}
 

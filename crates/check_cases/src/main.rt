@@ -6,8 +6,6 @@
 // 70,000 bytes, an assignment of more than 65,536 or levels of more than 4,096.
 use call_check::CheckVerdict;
 use call_check::check;
-use call_check::check_number_of;
-use call_check::check_spot_of;
 use cases::decode_four;
 use cases::line_end;
 use cases::print_accepted;
@@ -16,6 +14,8 @@ use cases::print_buffers;
 use cases::print_further;
 use cases::print_refused;
 use cases::read_argument;
+use refusals::check_number;
+use refusals::check_spot;
 
 // Prints what the check answers.
 fn say_verdict(v: CheckVerdict) {
@@ -24,7 +24,7 @@ fn say_verdict(v: CheckVerdict) {
             print_accepted(count, highest);
             print_further(assumed);
         }
-        CheckVerdict::Refused(r) => print_refused(check_number_of(r), check_spot_of(r)),
+        CheckVerdict::Refused(r) => print_refused(check_number(r), check_spot(r)),
     }
 }
 

@@ -15,15 +15,15 @@ use Rattle.meaning.specs.Stage.{Stable, level}
 use Rattle.encoding.specs.Literal.{valueOf}
 use Rattle.encoding.specs.Fill.{trueAtoms}
 use Rattle.theory.proofs.Atoms.{is-atom}
-use Rattle.program.specs.Verdict.{readOf}
-use Rattle.reader_laws.specs.Row.{Admitted}
+use Rattle.reader.specs.Verdict.{readOf}
+use Rattle.text.specs.Limits.{Admitted}
 use Rattle.answer_form.specs.Reading.{Spotted}
 use Rattle.answer_offers.specs.Offered.{valueBytes, valuesOf}
 use Rattle.clause_walk.proofs.Tabs.{map-select}
 use Rattle.clause_text.specs.Lines.{refusedText}
 use Rattle.truth_clauses.specs.Truth.{valueIn}
 use Rattle.call_results.specs.Results.{Result, levelIn, assignmentAfter, levelsAfter, varTotal, programOf}
-use Rattle.call_check.specs.declared.CheckRefusal.{CheckRefusal}
+use Rattle.refusals.specs.declared.CheckRefusal.{CheckRefusal}
 use Rattle.call_check.specs.declared.CheckVerdict.{CheckVerdict}
 use Rattle.call_check.specs.declared.CheckVerdict.the-variants.{Model}
 use Rattle.call_check.specs.Check.{zeroes, verdictOf, checkOf, checkAnswer, checkAssignment, checkLevels}

@@ -19,16 +19,16 @@ use types.Run.{OneOf, miss}
 use denote.Enum.Declared.{tagOf}
 use borrow.Author.Tests.{lt-ltb}
 use Rattle.lists.proofs.Tests.{le-or-lt}
-use Rattle.program.specs.declared.Reading.{Reading}
-use Rattle.program.specs.Verdict.{readOf}
-use Rattle.program.specs.declared.ReadVerdict.{ReadVerdict}
-use Rattle.program.specs.declared.ReadVerdict.the-variants.{Accepted, Refused as TextRefused}
-use Rattle.reader_laws.specs.Decoded.{decoded}
+use Rattle.reader.specs.declared.Reading.{Reading}
+use Rattle.reader.specs.Verdict.{readOf}
+use Rattle.reader.specs.declared.ReadVerdict.{ReadVerdict}
+use Rattle.reader.specs.declared.ReadVerdict.the-variants.{Accepted, Refused as TextRefused}
+use Rattle.program.specs.Arrays.{decoded}
 use Rattle.clause_tables.specs.Tables.{Stored}
 use Rattle.digits.specs.Bytes.{Wrote}
-use Rattle.reader_counted.proofs.Counted.{counted-whole}
+use Rattle.reader.proofs.Counted.{counted-whole}
 use Rattle.call_results.specs.Results.{Result, programOf}
-use Rattle.call_check.specs.declared.CheckRefusal.{CheckRefusal}
+use Rattle.refusals.specs.declared.CheckRefusal.{CheckRefusal}
 use Rattle.call_check.specs.declared.CheckVerdict.{CheckVerdict}
 use Rattle.call_check.specs.declared.CheckVerdict.the-variants.{Model, Refused}
 use Rattle.call_check.proofs.CheckVerdict.{the-type}

@@ -16,16 +16,17 @@ use lib.ListN.{length, replicate}
 use Rattle.lists.specs.Lists.{select}
 use Rattle.meaning.specs.Program.{Program, Atoms}
 use Rattle.meaning.specs.Stage.{Stable, level}
-use Rattle.program.specs.declared.Reading.{Reading}
-use Rattle.program.specs.Verdict.{readOf}
-use Rattle.reader_laws.specs.Row.{Admitted}
+use Rattle.reader.specs.declared.Reading.{Reading}
+use Rattle.reader.specs.Verdict.{readOf}
+use Rattle.text.specs.Limits.{Admitted}
 use Rattle.clause_text.specs.Lines.{refusedText}
-use Rattle.reader_counted.specs.Counted.{countedOf}
+use Rattle.reader.specs.Counted.{countedOf}
 use Rattle.call_results.specs.Results.{Result, assignmentAfter, levelsAfter, varTotal, programOf}
-use Rattle.call_check.specs.declared.CheckRefusal.{CheckRefusal}
+use Rattle.refusals.specs.declared.CheckRefusal.{CheckRefusal}
 use Rattle.call_check.specs.declared.CheckVerdict.{CheckVerdict}
 use Rattle.call_check.specs.declared.CheckVerdict.the-variants.{Model, Refused}
-use Rattle.call_check.specs.Check.{checkNumber, checkSpot, zeroes, verdictOf, readResult}
+use Rattle.refusals.specs.Numbers.{checkNumber, checkSpot}
+use Rattle.call_check.specs.Check.{zeroes, verdictOf, readResult}
 use Rattle.checker_model.specs.Model.{modelLine, modelText, assumedText}
 
 abbrev pub refusedLine : CheckVerdict → List ℕ

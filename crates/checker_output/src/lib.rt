@@ -1,19 +1,19 @@
 // The checker: reads program.lp and answer.txt in the current folder and prints the model that the answer shows, or why none is shown (document 01,
 // "Programs"; document 02, Q-3).
 use call_check::CheckVerdict;
-use call_check::check_number_of;
 use call_check::check_read;
-use call_check::check_spot_of;
 use checker_model::put_shown_model;
 use clause_text::put_refusal;
 use files::read_front;
-use program::Reading;
-use reader_counted::read_counted;
+use reader::Reading;
+use reader::read_counted;
+use refusals::check_number;
+use refusals::check_spot;
 ghost use Prim.Native.Nat.{_≤_};
 ghost use mathlib.Core.Path.{_≡_};
 ghost use lib.ListN.{length};
 ghost use Rattle.digits.specs.Bytes.{Wrote};
-ghost use Rattle.program.specs.declared.ReadVerdict.the-variants.{Accepted};
+ghost use Rattle.reader.specs.declared.ReadVerdict.the-variants.{Accepted};
 ghost use Rattle.clause_tables.specs.Tables.{Stored};
 ghost use Rattle.checker_output.specs.Output.{refusedLine, outputOf, outputText};
 
@@ -24,7 +24,7 @@ fn put_refused(v: CheckVerdict, out: &mut [u8]) -> usize
 {
     match v {
         CheckVerdict::Model(k, h, c) => 0,
-        CheckVerdict::Refused(q) => put_refusal(check_number_of(q), check_spot_of(q), &mut *out),
+        CheckVerdict::Refused(q) => put_refusal(check_number(q), check_spot(q), &mut *out),
     }
 }
 

@@ -6,7 +6,7 @@
 --   turn-fits, turn-next           one text more of several, in a buffer that has room for all
 --   number-fits                    a number that is such a variable
 -- Assumes nothing.
-use Prim.Native.Nat.{ℕ, zero, suc, pred, _+_, _-_, _*_, _/_, _%_, _≤_, _<_}
+use Prim.Native.Nat.{ℕ, zero, suc, pred, _+_, _-_, _*_, _%_, _≤_, _<_}
 use native.Mathlib.Omega.{arith}
 use native.Mathlib.Nat.{mul-le-mul}
 use mathlib.Core.Path.{_≡_, refl, sym, _∙_, ap, ap₂, subst}
@@ -30,7 +30,7 @@ use Rattle.digits.proofs.Begins.{Begins, begins-same}
 use Rattle.clause_walk.specs.Walk.{signed, three, bitOf, isFirst, isSecond, slots4, slot4}
 use Rattle.clause_text.specs.Lines.{shown}
 use Rattle.clause_text.proofs.SlotLine.{row-fits, row-next}
-use Rattle.clause_blocks.specs.Texts.{signText, twoText, threeText, Short, lowerText, pairText, pairsText, longText, nextRowText}
+use Rattle.clause_blocks.specs.Texts.{Short, lowerText, pairText, pairsText, longText, nextRowText}
 use Rattle.clause_blocks.proofs.Bits.{sign-text, line-two, line-three}
 
 -- ---- the variables

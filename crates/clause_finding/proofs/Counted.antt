@@ -22,7 +22,7 @@ use Rattle.lists.proofs.Growing.{one}
 use Rattle.lists.proofs.Tables.{sum-ext, sum-add, sum-const, sum-zero, length-tab, length-each}
 use Rattle.meaning.specs.Program.{Program}
 use Rattle.clause_walk.specs.Walk.{itemCount, rowCount, size, size2, headOf, bodyCount, chainSize, chainBit}
-use Rattle.reader_laws.specs.Breach.{kept}
+use Rattle.program.specs.Arrays.{kept}
 use Rattle.clause_tables.specs.declared.Totals.{Totals}
 use Rattle.clause_tables.specs.Tables.{Tabled}
 use Rattle.clause_table_laws.proofs.Elements.{rules-are, atoms-are, width-pos, head-is, head-atom, start-at}

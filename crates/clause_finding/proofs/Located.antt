@@ -12,7 +12,7 @@ use mathlib.Core.Path.{_≡_, sym, _∙_, ap}
 use Rattle.lists.proofs.Tables.{length-tab, getD-tab}
 use Rattle.meaning.specs.Program.{Program}
 use Rattle.clause_walk.specs.Walk.{itemCount, rowCount, size, At}
-use Rattle.reader_laws.specs.Row.{Limits}
+use Rattle.text.specs.Limits.{Limits}
 use Rattle.clause_table_laws.proofs.Bounds.{size-fits}
 use Rattle.clause_places.specs.declared.Spot.{Spot}
 use Rattle.clause_places.specs.declared.Place.{Place}

@@ -22,7 +22,7 @@ use Rattle.theory.proofs.Widths.{width-some, width-enough}
 use Rattle.theory.proofs.Counts.{count-whole}
 use Rattle.clause_walk.specs.Walk.{itemCount, rowCount, size, row, group, walked, clauseAt, At}
 use Rattle.clause_walk.proofs.Walked.{walked-clauses}
-use Rattle.reader_laws.specs.Row.{Limits}
+use Rattle.text.specs.Limits.{Limits}
 use Rattle.clause_tables.specs.declared.Totals.{Totals}
 use Rattle.clause_tables.specs.Tables.{Tabled}
 use Rattle.clause_table_laws.proofs.Elements.{width-are, clauses-are}

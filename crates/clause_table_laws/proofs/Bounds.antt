@@ -38,8 +38,8 @@ use Rattle.digits.proofs.Lengths.{literal-fits, literals-fit, line-length}
 use Rattle.clause_walk.specs.Walk.{ruleCount, headsOf, headAt, headOf, positives, bodyOf, bodyCount, slots1, slots2, bitOf, slots4, chainSlots, chainBit, slots6, size2, size6, chainSize, impliedSlot, ofHead, slot1, slot2, slot3, slot4, slot5, slot6, itemCount, rowCount, size, slots, slot, clauseAt, row, group, walked, RowAt, At}
 use Rattle.clause_walk.proofs.Walked.{walked-clauses}
 use Rattle.clause_slots.specs.Signed.{held}
-use Rattle.reader_laws.specs.Breach.{bodiesOf}
-use Rattle.reader_laws.specs.Row.{ascends, ruleAscends, Limits}
+use Rattle.text.specs.Limits.{bodiesOf}
+use Rattle.text.specs.Limits.{ascends, ruleAscends, Limits}
 use Rattle.clause_table_laws.proofs.Elements.{width-fits, pairs-fit, body-fits, all-fit}
 
 -- ---- the walk's numbers, from 1

@@ -39,14 +39,11 @@ use Rattle.clause_literals.specs.Sizes.{Bounded}
 use Rattle.clause_walk.specs.Walk.{headsOf, headOf, positives, bodyOf, bodyCount}
 use Rattle.clause_walk.proofs.Tabs.{head-is as its-head}
 use Rattle.program.specs.declared.Program.{Program as Arrays}
-use Rattle.program.specs.declared.Reading.{Reading}
-use Rattle.program.specs.declared.ReadVerdict.the-variants.{Accepted}
-use Rattle.program.specs.Verdict.{readOf}
-use Rattle.reader_laws.specs.Breach.{pad, bodiesOf, endsOf, kept}
-use Rattle.reader_laws.specs.Decoded.{ruleIn, rulesFrom, decoded}
-use Rattle.reader_laws.specs.Row.{Limits}
-use Rattle.reader_laws.proofs.Contents.{accepted-admitted, admitted-answer}
-use Rattle.reader_laws.proofs.Decode.{decoded-kept}
+use Rattle.program.specs.Arrays.{pad, endsOf, kept}
+use Rattle.text.specs.Limits.{bodiesOf}
+use Rattle.program.specs.Arrays.{ruleIn, rulesFrom, decoded}
+use Rattle.text.specs.Limits.{Limits}
+use Rattle.program.proofs.Decode.{decoded-kept}
 use Rattle.clause_tables.specs.declared.Totals.{Totals}
 use Rattle.clause_tables.specs.Tables.{Stored, Tabled, Ready, programIn, pairTable, totalsOf}
 
@@ -487,10 +484,5 @@ ready A s =
       owners-are = refl;
     })
 
-kept-stored : (P : Program) → Limits P → Stored (kept P)
+pub kept-stored : (P : Program) → Limits P → Stored (kept P)
 kept-stored P l = record { limits = subst (λ (X : Program). Limits X) (sym (decoded-kept P)) l; arrays-are = ap kept (sym (decoded-kept P)) }
-
-pub stored : (t : List ℕ) → readOf t .verdict ≡ Accepted → Stored (readOf t .program)
-stored t a =
-    let q = accepted-admitted t a in
-    subst (λ (A : Arrays). Stored A) (sym (ap (λ (x : Reading). x .program) (admitted-answer t (q .0) (q .1)))) (kept-stored (q .0) (q .1 .limits))

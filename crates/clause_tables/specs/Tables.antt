@@ -17,9 +17,9 @@ use Rattle.encoding.specs.Width.{width}
 use Rattle.encoding.specs.Clauses.{pairs, pairCount, pairsBefore, emptyBodies, variables, clauseCount}
 use Rattle.clause_literals.specs.declared.Sizes.{Sizes}
 use Rattle.program.specs.declared.Program.{Program as Arrays}
-use Rattle.reader_laws.specs.Breach.{pad, kept}
-use Rattle.reader_laws.specs.Decoded.{decoded}
-use Rattle.reader_laws.specs.Row.{Limits}
+use Rattle.program.specs.Arrays.{pad, kept}
+use Rattle.program.specs.Arrays.{decoded}
+use Rattle.text.specs.Limits.{Limits}
 use Rattle.clause_tables.specs.declared.Pairs.{Pairs}
 use Rattle.clause_tables.specs.declared.Totals.{Totals}
 

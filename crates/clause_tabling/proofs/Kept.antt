@@ -14,9 +14,10 @@ use lib.ListN.{length, getD, take, drop, replicate, length-append, length-replic
 use lib.Seq.{length-take-le}
 use Rattle.meaning.specs.Program.{Rule, Program, noRule, ruleAt}
 use Rattle.program.specs.declared.Program.{Program as Arrays}
-use Rattle.reader_laws.specs.Breach.{pad, kept, bodiesOf, endsOf}
-use Rattle.reader_laws.specs.Decoded.{startOf, ruleIn, rulesFrom, decoded}
-use Rattle.reader_laws.specs.Row.{Limits}
+use Rattle.program.specs.Arrays.{pad, kept, endsOf}
+use Rattle.text.specs.Limits.{bodiesOf}
+use Rattle.program.specs.Arrays.{startOf, ruleIn, rulesFrom, decoded}
+use Rattle.text.specs.Limits.{Limits}
 use Rattle.clause_tables.specs.Tables.{Stored}
 
 -- ---- the rule

@@ -21,8 +21,8 @@ use Rattle.meaning.specs.Program.{Rule, Program, noRule, ruleAt}
 use Rattle.encoding.specs.Width.{width}
 use Rattle.encoding.specs.Clauses.{pairs, pairCount, pairsWith, emptyBodies, bodyAtoms}
 use Rattle.theory.proofs.Widths.{width-is}
-use Rattle.reader_laws.specs.Breach.{bodiesOf}
-use Rattle.reader_laws.specs.Row.{Limits}
+use Rattle.text.specs.Limits.{bodiesOf}
+use Rattle.text.specs.Limits.{Limits}
 
 abbrev pub sizeOf : Program → ℕ → ℕ
 sizeOf P r = length (ruleAt (P .rules) r .positive)

@@ -11,7 +11,7 @@ use mathlib.Core.Path.{_≡_, refl, sym, _∙_, ap, ap₂, subst}
 use mathlib.Core.List.{List, [], _∷_, _++_, append-nil}
 use lib.ListN.{length, getD, set, take, drop, replicate, length-append}
 use lib.Seq.{sets, drop-cons, set-at, append-snoc}
-use Rattle.reader_laws.specs.Breach.{pad}
+use Rattle.program.specs.Arrays.{pad}
 
 -- ---- one turn of the loop
 

@@ -16,8 +16,8 @@ use Rattle.encoding.specs.Clauses.{pairCount, emptyBodies, bodyAtoms, variables
 use Rattle.theory.proofs.Widths.{width-some}
 use Rattle.clause_literals.specs.Sizes.{sizesOf, Bounded}
 use Rattle.program.specs.declared.Program.{Program as Arrays}
-use Rattle.reader_laws.specs.Breach.{kept}
-use Rattle.reader_laws.specs.Decoded.{decoded}
+use Rattle.program.specs.Arrays.{kept}
+use Rattle.program.specs.Arrays.{decoded}
 use Rattle.clause_tables.specs.declared.Totals.{Totals}
 use Rattle.clause_tables.specs.Tables.{Stored, totalsOf}
 use Rattle.clause_tabling.specs.Formula.{clausesFor}

@@ -17,9 +17,9 @@ use Rattle.lists.proofs.Tables.{sum-ext, length-tab, length-each}
 use Rattle.meaning.specs.Program.{Program, ruleAt}
 use Rattle.encoding.specs.Clauses.{Pair, pairs, pairsWith, pairsBefore, emptyBodies}
 use Rattle.program.specs.declared.Program.{Program as Arrays}
-use Rattle.reader_laws.specs.Breach.{pad}
-use Rattle.reader_laws.specs.Decoded.{startOf, decoded}
-use Rattle.reader_laws.specs.Row.{Limits}
+use Rattle.program.specs.Arrays.{pad}
+use Rattle.program.specs.Arrays.{startOf, decoded}
+use Rattle.text.specs.Limits.{Limits}
 use Rattle.clause_tables.specs.declared.Pairs.{Pairs}
 use Rattle.clause_tables.specs.Tables.{Stored, pairTable}
 use Rattle.clause_tabling.specs.Formula.{whenNone}

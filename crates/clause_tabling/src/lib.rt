@@ -11,7 +11,7 @@ ghost use mathlib.Core.Path.{_≡_};
 ghost use lib.ListN.{length, getD, set, take, drop, replicate};
 ghost use lib.Seq.{sets};
 ghost use Rattle.encoding.specs.Clauses.{pairCount, emptyBodies};
-ghost use Rattle.reader_laws.specs.Decoded.{decoded};
+ghost use Rattle.program.specs.Arrays.{decoded};
 ghost use Rattle.clause_tables.specs.Tables.{Stored, pairTable, totalsOf};
 ghost use Rattle.clause_tabling.specs.Formula.{whenNone, clausesFor};
 

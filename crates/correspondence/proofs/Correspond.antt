@@ -17,7 +17,7 @@ use mathlib.Core.Logic.{_⊎_, inl, inr}
 use mathlib.Core.Bool.{Bool, true, false, _&&_, So, cond}
 use mathlib.Core.List.{List, [], _++_}
 use lib.ListN.{length, getD, drop, length-map, List·getD-map}
-use Rattle.lists.specs.Lists.{all, tab, sum, highest}
+use Rattle.lists.specs.Lists.{tab, sum, highest}
 use Rattle.lists.proofs.Bools.{not-So, So-or-not}
 use Rattle.lists.proofs.Tests.{all-in, all-at}
 use Rattle.lists.proofs.Tables.{sum-ext, tab-ext, length-tab, getD-tab}
@@ -32,7 +32,7 @@ use Rattle.theory.proofs.Atoms.{is-atom, by-place}
 use Rattle.theory.proofs.Decided.{stable-atom}
 use Rattle.theory.proofs.Base as Base
 use Rattle.theory.proofs.Widths.{width-enough}
-use Rattle.reader_laws.specs.Row.{Admitted}
+use Rattle.text.specs.Limits.{Admitted}
 use Rattle.reader_laws.proofs.Unique.{text-unique}
 use Rattle.answer_form.specs.Reading.{Spotted, spotsOf}
 use Rattle.answer_offers.specs.Offered.{valueBytes, valuesOf, literalsFor, offered, offeredText}

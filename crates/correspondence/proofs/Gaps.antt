@@ -21,7 +21,7 @@ use Rattle.encoding.specs.Fill.{fill, trueAtoms}
 use Rattle.theory.proofs.Atoms.{by-place}
 use Rattle.theory.proofs.Base as Base
 use Rattle.theory.proofs.Widths.{width-enough}
-use Rattle.reader_laws.specs.Row.{Admitted}
+use Rattle.text.specs.Limits.{Admitted}
 use Rattle.answer_form.specs.Reading.{Spotted}
 use Rattle.answer_offers.specs.Offered.{valueBytes, valuesOf}
 use Rattle.truth_clauses.specs.Truth.{valueIn}

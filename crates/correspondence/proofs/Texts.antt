@@ -21,11 +21,11 @@ use Rattle.encoding.specs.Clauses.{sizes}
 use Rattle.encoding.specs.Fill.{trueAtoms, counter}
 use Rattle.theory.proofs.Base as Base
 use Rattle.digits.specs.Bytes.{lineText}
-use Rattle.program.specs.declared.Reading.{Reading}
-use Rattle.program.specs.declared.ReadVerdict.the-variants.{Accepted}
-use Rattle.program.specs.Verdict.{readOf}
-use Rattle.reader_laws.specs.Row.{Admitted}
-use Rattle.reader_laws.proofs.Unique.{text-unique}
+use Rattle.reader.specs.declared.Reading.{Reading}
+use Rattle.reader.specs.declared.ReadVerdict.the-variants.{Accepted}
+use Rattle.reader.specs.Verdict.{readOf}
+use Rattle.text.specs.Limits.{Admitted}
+use Rattle.call_laws.proofs.Texts.{one-admitted}
 use Rattle.reader_laws.proofs.Rows.{accepted-none}
 use Rattle.reader_laws.proofs.Contents.{admitted-answer}
 use Rattle.answer_form.specs.Reading.{Spotted}
@@ -70,7 +70,7 @@ module _ (t : List ℕ) (P : Program) (A : Admitted t P) where
   accepted = ap (λ (x : Reading). x .verdict) (admitted-answer t P A)
 
   same : (Q : Program) → Admitted t Q → Q ≡ P
-  same Q B = text-unique Q P (sym (B .its-text) ∙ A .its-text)
+  same Q B = one-admitted A B
 
   module _ (j : ℕ) (p : 0 < j) (h : j ≤ clauseTotal P) (k : ℕ) (b : List ℕ) (room : length (lineText (clauseOf P j)) ≤ length b - k) where
     its-line : lineOf P j ≡ lineText (clauseOf P j)

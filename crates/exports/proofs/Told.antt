@@ -4,10 +4,10 @@ use Prim.Native.Nat.{ℕ}
 use mathlib.Core.Path.{_≡_, sym, _∙_, ap, ap₂}
 use mathlib.Core.List.{List}
 use Rattle.meaning.specs.Program.{Program}
-use Rattle.program.specs.declared.Reading.{Reading}
-use Rattle.program.specs.declared.ReadVerdict.{ReadVerdict}
-use Rattle.program.specs.Verdict.{readOf}
-use Rattle.reader_laws.specs.Decoded.{decoded}
+use Rattle.reader.specs.declared.Reading.{Reading}
+use Rattle.reader.specs.declared.ReadVerdict.{ReadVerdict}
+use Rattle.reader.specs.Verdict.{readOf}
+use Rattle.program.specs.Arrays.{decoded}
 use Rattle.clause_tables.specs.declared.Totals.{Totals}
 use Rattle.clause_tables.specs.Tables.{totalsOf}
 use Rattle.exports.specs.declared.Reply.{Reply}

@@ -5,31 +5,35 @@ use native.Mathlib.Omega.{arith}
 use mathlib.Core.Path.{_≡_, refl, ap}
 use mathlib.Core.Logic.{_↔_}
 use mathlib.Core.List.{List}
-use Rattle.program.specs.declared.TextRefusal.{TextRefusal}
-use Rattle.program.specs.declared.TextRefusal.the-variants.{Overlong, Malformed, TooManyAtoms, UnknownAtom, Unordered, TooManyRules, BodiesFull}
-use Rattle.program.specs.declared.ReadVerdict.{ReadVerdict}
-use Rattle.program.specs.declared.ReadVerdict.the-variants.{Accepted, Refused as TextRefused}
-use Rattle.program.specs.Verdict.{readOf, textNumber}
+use Rattle.refusals.specs.declared.TextRefusal.{TextRefusal}
+use Rattle.refusals.specs.declared.TextRefusal.the-variants.{Overlong, Malformed, TooManyAtoms, UnknownAtom, Unordered, TooManyRules, BodiesFull}
+use Rattle.reader.specs.declared.ReadVerdict.{ReadVerdict}
+use Rattle.reader.specs.declared.ReadVerdict.the-variants.{Accepted, Refused as TextRefused}
+use Rattle.reader.specs.Verdict.{readOf}
+use Rattle.refusals.specs.Numbers.{textNumber}
 use Rattle.meaning.specs.Program.{Program}
-use Rattle.reader_laws.specs.Decoded.{decoded}
-use Rattle.call_lines.specs.declared.LineRefusal.{LineRefusal}
-use Rattle.call_lines.specs.declared.LineRefusal.the-variants.{Text, NoSuchClause, ShortBuffer}
+use Rattle.program.specs.Arrays.{decoded}
+use Rattle.refusals.specs.declared.LineRefusal.{LineRefusal}
+use Rattle.refusals.specs.declared.LineRefusal.the-variants.{Text, NoSuchClause, ShortBuffer}
 use Rattle.call_lines.specs.declared.LineVerdict.{LineVerdict}
 use Rattle.call_lines.specs.declared.LineVerdict.the-variants.{Written, Refused as LineRefused}
 use Rattle.call_lines.specs.declared.RunVerdict.{RunVerdict}
 use Rattle.call_lines.specs.declared.RunVerdict.the-variants.{WrittenRun, RefusedRun}
-use Rattle.call_lines.specs.Lines.{lineNumber, lineAnswer, runAnswer}
-use Rattle.call_check.specs.declared.CheckRefusal.{CheckRefusal}
-use Rattle.call_check.specs.declared.CheckRefusal.the-variants.{Text as CheckText, ShortBuffer as CheckShort, OverlongAnswer, MalformedAnswer, NoModelOffered, StrayVariable, RepeatedVariable, FalseClause}
+use Rattle.refusals.specs.Numbers.{lineNumber}
+use Rattle.call_lines.specs.Lines.{lineAnswer, runAnswer}
+use Rattle.refusals.specs.declared.CheckRefusal.{CheckRefusal}
+use Rattle.refusals.specs.declared.CheckRefusal.the-variants.{Text as CheckText, ShortBuffer as CheckShort, OverlongAnswer, MalformedAnswer, NoModelOffered, StrayVariable, RepeatedVariable, FalseClause}
 use Rattle.call_check.specs.declared.CheckVerdict.{CheckVerdict}
 use Rattle.call_check.specs.declared.CheckVerdict.the-variants.{Model, Refused as CheckRefused}
-use Rattle.call_check.specs.Check.{checkNumber, checkAnswer}
+use Rattle.refusals.specs.Numbers.{checkNumber}
+use Rattle.call_check.specs.Check.{checkAnswer}
 use Rattle.call_check.specs.Rows.{Accepts}
-use Rattle.call_fill.specs.declared.FillRefusal.{FillRefusal}
-use Rattle.call_fill.specs.declared.FillRefusal.the-variants.{Text as FillText, ShortBuffer as FillShort, BadSet, Unfounded}
+use Rattle.refusals.specs.declared.FillRefusal.{FillRefusal}
+use Rattle.refusals.specs.declared.FillRefusal.the-variants.{Text as FillText, ShortBuffer as FillShort, BadSet, Unfounded}
 use Rattle.call_fill.specs.declared.FillVerdict.{FillVerdict}
 use Rattle.call_fill.specs.declared.FillVerdict.the-variants.{Filled, Refused as FillRefused}
-use Rattle.call_fill.specs.FillOut.{fillNumber, fillAnswer}
+use Rattle.refusals.specs.Numbers.{fillNumber}
+use Rattle.call_fill.specs.FillOut.{fillAnswer}
 use Rattle.exports.specs.Replies.{ofReading, ofLine, ofRun, ofCheck, ofFill, readReply, lineReply, runReply, checkReply, fillReply}
 
 -- ---- no row has the number 0

@@ -13,23 +13,27 @@
 use Prim.Native.Nat.{ℕ}
 use mathlib.Core.List.{List}
 use Rattle.meaning.specs.Program.{Program}
-use Rattle.program.specs.declared.ReadVerdict.{ReadVerdict}
-use Rattle.program.specs.declared.ReadVerdict.the-variants.{Accepted, Refused as TextRefused}
-use Rattle.program.specs.Verdict.{readOf, textNumber, textSpot}
-use Rattle.reader_laws.specs.Decoded.{decoded}
+use Rattle.reader.specs.declared.ReadVerdict.{ReadVerdict}
+use Rattle.reader.specs.declared.ReadVerdict.the-variants.{Accepted, Refused as TextRefused}
+use Rattle.reader.specs.Verdict.{readOf}
+use Rattle.refusals.specs.Numbers.{textNumber, textSpot}
+use Rattle.program.specs.Arrays.{decoded}
 use Rattle.call_lines.specs.declared.LineVerdict.{LineVerdict}
 use Rattle.call_lines.specs.declared.LineVerdict.the-variants.{Written, Refused as LineRefused}
 use Rattle.call_lines.specs.declared.RunVerdict.{RunVerdict}
 use Rattle.call_lines.specs.declared.RunVerdict.the-variants.{WrittenRun, RefusedRun}
 use Rattle.clause_runs.specs.Lines.{clauseTotal}
-use Rattle.call_lines.specs.Lines.{lineNumber, lineSpot, lineAnswer, runAnswer}
+use Rattle.refusals.specs.Numbers.{lineNumber, lineSpot}
+use Rattle.call_lines.specs.Lines.{lineAnswer, runAnswer}
 use Rattle.call_results.specs.Results.{varTotal}
 use Rattle.call_check.specs.declared.CheckVerdict.{CheckVerdict}
 use Rattle.call_check.specs.declared.CheckVerdict.the-variants.{Model, Refused as CheckRefused}
-use Rattle.call_check.specs.Check.{checkNumber, checkSpot, checkAnswer}
+use Rattle.refusals.specs.Numbers.{checkNumber, checkSpot}
+use Rattle.call_check.specs.Check.{checkAnswer}
 use Rattle.call_fill.specs.declared.FillVerdict.{FillVerdict}
 use Rattle.call_fill.specs.declared.FillVerdict.the-variants.{Filled, Refused as FillRefused}
-use Rattle.call_fill.specs.FillOut.{fillNumber, fillSpot, fillAnswer}
+use Rattle.refusals.specs.Numbers.{fillNumber, fillSpot}
+use Rattle.call_fill.specs.FillOut.{fillAnswer}
 use Rattle.exports.specs.declared.Reply.{Reply}
 
 abbrev pub acceptedReply : ℕ → ℕ → ℕ → Reply

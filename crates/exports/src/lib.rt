@@ -1,28 +1,28 @@
 // The functions that C, Rust and other languages call (include/quadrensolo.h): thin, over numbers and byte slices.
 use call_check::CheckVerdict;
 use call_check::check;
-use call_check::check_number_of;
-use call_check::check_spot_of;
 use call_fill::FillVerdict;
-use call_fill::fill_number_of;
 use call_fill::fill_out;
-use call_fill::fill_spot_of;
 use call_lines::LineVerdict;
 use call_lines::RunVerdict;
 use call_lines::line;
-use call_lines::line_number_of;
-use call_lines::line_spot_of;
 use call_lines::run;
 use clause_tabling::pairs_of;
 use clause_tabling::totals_of;
 use program::Program;
-use program::ReadVerdict;
-use program::number_of;
-use program::read;
-use program::spot_of;
+use reader::ReadVerdict;
+use reader::read;
+use refusals::check_number;
+use refusals::check_spot;
+use refusals::fill_number;
+use refusals::fill_spot;
+use refusals::line_number;
+use refusals::line_spot;
+use refusals::text_number;
+use refusals::text_spot;
 ghost use mathlib.Core.Path.{_≡_};
 ghost use lib.ListN.{length};
-ghost use Rattle.reader_laws.specs.Decoded.{decoded};
+ghost use Rattle.program.specs.Arrays.{decoded};
 ghost use Rattle.clause_tables.specs.Tables.{Stored};
 ghost use Rattle.call_lines.specs.Lines.{lineBytes, runBytes};
 ghost use Rattle.call_check.specs.Check.{checkAssignment, checkLevels};
@@ -81,7 +81,7 @@ fn of_line(v: LineVerdict) -> Reply
 {
     match v {
         LineVerdict::Written(n) => accepted(n, 0, 0),
-        LineVerdict::Refused(x) => refused(line_number_of(x), line_spot_of(x)),
+        LineVerdict::Refused(x) => refused(line_number(x), line_spot(x)),
     }
 }
 
@@ -90,7 +90,7 @@ fn of_run(v: RunVerdict) -> Reply
 {
     match v {
         RunVerdict::WrittenRun(m, n) => accepted(m, n, 0),
-        RunVerdict::RefusedRun(x) => refused(line_number_of(x), line_spot_of(x)),
+        RunVerdict::RefusedRun(x) => refused(line_number(x), line_spot(x)),
     }
 }
 
@@ -99,7 +99,7 @@ fn of_check(v: CheckVerdict) -> Reply
 {
     match v {
         CheckVerdict::Model(k, h, c) => accepted(k, h, c),
-        CheckVerdict::Refused(x) => refused(check_number_of(x), check_spot_of(x)),
+        CheckVerdict::Refused(x) => refused(check_number(x), check_spot(x)),
     }
 }
 
@@ -108,7 +108,7 @@ fn of_fill(v: FillVerdict) -> Reply
 {
     match v {
         FillVerdict::Filled(k, h) => accepted(k, h, 0),
-        FillVerdict::Refused(x) => refused(fill_number_of(x), fill_spot_of(x)),
+        FillVerdict::Refused(x) => refused(fill_number(x), fill_spot(x)),
     }
 }
 
@@ -121,7 +121,7 @@ pub extern "C" fn qs_read(text: &[u8]) -> Reply
     let v = x.verdict;
     match v {
         ReadVerdict::Accepted => of_program(x.program),
-        ReadVerdict::Refused(r) => refused(number_of(r), spot_of(r)),
+        ReadVerdict::Refused(r) => refused(text_number(r), text_spot(r)),
     }
 }
 

@@ -5,9 +5,7 @@
 // The four are fields as crate `cases` decodes them. A line that is not of this form prints `bad case`, and so does a text or a set of more than
 // 70,000 bytes, an assignment of more than 65,536 or levels of more than 4,096.
 use call_fill::FillVerdict;
-use call_fill::fill_number_of;
 use call_fill::fill_out;
-use call_fill::fill_spot_of;
 use cases::decode_four;
 use cases::line_end;
 use cases::print_accepted;
@@ -15,12 +13,14 @@ use cases::print_bad_case;
 use cases::print_buffers;
 use cases::print_refused;
 use cases::read_argument;
+use refusals::fill_number;
+use refusals::fill_spot;
 
 // Prints what filling out answers.
 fn say_verdict(v: FillVerdict) {
     match v {
         FillVerdict::Filled(count, highest) => print_accepted(count, highest),
-        FillVerdict::Refused(r) => print_refused(fill_number_of(r), fill_spot_of(r)),
+        FillVerdict::Refused(r) => print_refused(fill_number(r), fill_spot(r)),
     }
 }
 

@@ -9,12 +9,9 @@
 // below 2^64. A line that is not of this form prints `bad case`, and so does a text of more than 70,000 bytes or a buffer of more than 65,536.
 mod sum;
 
-use call_lines::LineRefusal;
 use call_lines::LineVerdict;
 use call_lines::RunVerdict;
 use call_lines::line;
-use call_lines::line_number_of;
-use call_lines::line_spot_of;
 use call_lines::run;
 use cases::argument_ends;
 use cases::decode_field;
@@ -29,6 +26,9 @@ use cases::print_line_end;
 use cases::print_number;
 use cases::print_refused;
 use cases::read_argument;
+use refusals::LineRefusal;
+use refusals::line_number;
+use refusals::line_spot;
 use std::num::wrapping_add_usize;
 use sum::EMPTY_SUM;
 use sum::with_bytes;
@@ -46,7 +46,7 @@ struct Written {
 
 // Prints a refusal.
 fn say_refused(r: LineRefusal) {
-    print_refused(line_number_of(r), line_spot_of(r));
+    print_refused(line_number(r), line_spot(r));
 }
 
 // Prints a buffer after a verdict.

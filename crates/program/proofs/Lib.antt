@@ -1,4 +1,2 @@
--- Loop: one turn of the reader's loop, and its ends
-pub mod Loop
--- Computed: number and spot of a table of texts
-pub mod Computed
+-- Decode: the arrays kept of a program hold it
+pub mod Decode

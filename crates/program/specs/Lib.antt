@@ -1,1 +1,2 @@
-pub mod Verdict
+-- Arrays: the arrays of a program, and the program that arrays hold
+pub mod Arrays

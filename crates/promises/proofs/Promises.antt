@@ -53,8 +53,8 @@ use Rattle.theory.proofs.Base as Base
 use Rattle.theory.proofs.Widths.{width-some}
 use Rattle.clause_walk.specs.Walk.{walked}
 use Rattle.clause_walk.proofs.Walked.{walked-clauses}
-use Rattle.reader_laws.specs.Decoded.{decoded}
-use Rattle.reader_laws.proofs.Decode.{decoded-kept}
+use Rattle.program.specs.Arrays.{decoded}
+use Rattle.program.proofs.Decode.{decoded-kept}
 use Rattle.clause_literals.proofs.literal.Statement.{statement as literal·statement}
 use Rattle.clause_literals.proofs.literal.Met.{met as literal·met}
 use Rattle.clause_literals.proofs.negated.Statement.{statement as negated·statement}
@@ -167,12 +167,12 @@ use Rattle.call_lines.proofs.line.Statement.{statement as line·statement}
 use Rattle.call_lines.proofs.line.Met.{met as line·met}
 use Rattle.call_lines.proofs.run.Statement.{statement as run·statement}
 use Rattle.call_lines.proofs.run.Met.{met as run·met}
-use Rattle.call_lines.proofs.line_number_of.Statement.{statement as line-number-of·statement}
-use Rattle.call_lines.proofs.line_number_of.Met.{met as line-number-of·met}
-use Rattle.call_lines.proofs.line_spot_of.Statement.{statement as line-spot-of·statement}
-use Rattle.call_lines.proofs.line_spot_of.Met.{met as line-spot-of·met}
-use Rattle.reader_counted.proofs.read_counted.Statement.{statement as read-counted·statement}
-use Rattle.reader_counted.proofs.read_counted.Met.{met as read-counted·met}
+use Rattle.refusals.proofs.line_number.Statement.{statement as line-number-of·statement}
+use Rattle.refusals.proofs.line_number.Met.{met as line-number-of·met}
+use Rattle.refusals.proofs.line_spot.Statement.{statement as line-spot-of·statement}
+use Rattle.refusals.proofs.line_spot.Met.{met as line-spot-of·met}
+use Rattle.reader.proofs.read_counted.Statement.{statement as read-counted·statement}
+use Rattle.reader.proofs.read_counted.Met.{met as read-counted·met}
 use Rattle.clause_text.proofs.number_of.Statement.{statement as literal-number·statement}
 use Rattle.clause_text.proofs.number_of.Met.{met as literal-number·met}
 use Rattle.truth_clauses.proofs.clause_holds.Statement.{statement as clause-holds·statement}
@@ -215,7 +215,7 @@ use Rattle.digits.specs.Bytes.{lineText}
 use Rattle.clause_table_laws.proofs.Bounds.{variables-fit, clauses-fit}
 use Rattle.clause_text.specs.Lines.{headerText, refusedText}
 use Rattle.clause_places.specs.Places.{placeAt, clauseIn}
-use Rattle.call_lines.specs.declared.LineRefusal.{LineRefusal}
+use Rattle.refusals.specs.declared.LineRefusal.{LineRefusal}
 use Rattle.call_lines.specs.declared.LineVerdict.the-variants.{Written, Refused as LineRefused}
 use Rattle.call_lines.specs.declared.RunVerdict.the-variants.{WrittenRun, RefusedRun}
 use Rattle.clause_runs.specs.Lines.{clauseTotal, lineOf}
@@ -224,26 +224,29 @@ use Rattle.call_lines.specs.Rows.{LineRow, FirstLineRow, LineAnswers, RunWritte
 use Rattle.call_lines.proofs.File as File
 use Rattle.call_lines.proofs.Rows.{answers-line-first, first-line-answers, first-line-unique, written-none, none-written}
 use Rattle.call_lines.proofs.Calls.{line-stays, line-writes, run-refused-as, run-stays, run-writes}
-use Rattle.reader_counted.specs.Counted.{countedOf}
-use Rattle.reader_counted.proofs.Counted.{counted-whole}
+use Rattle.reader.specs.Counted.{countedOf}
+use Rattle.reader.proofs.Counted.{counted-whole}
 use Rattle.text.specs.Text.{textOf, HasForm, Viable, Malformed}
-use Rattle.program.specs.declared.TextRefusal.{TextRefusal}
-use Rattle.program.specs.declared.ReadVerdict.the-variants.{Accepted, Refused}
-use Rattle.program.specs.declared.Reading.{Reading}
-use Rattle.program.specs.Verdict.{emptyProgram, readOf}
-use Rattle.program.proofs.Computed.{computed as computedRow, cases, cases-hold}
-use Rattle.reader_laws.specs.Breach.{Breach, kept}
-use Rattle.reader_laws.specs.Row.{Row, FirstRow, Answers, Limits, Admitted}
+use Rattle.refusals.specs.declared.TextRefusal.{TextRefusal}
+use Rattle.reader.specs.declared.ReadVerdict.the-variants.{Accepted, Refused}
+use Rattle.reader.specs.declared.Reading.{Reading}
+use Rattle.program.specs.Arrays.{emptyProgram}
+use Rattle.reader.specs.Verdict.{readOf}
+use Rattle.reader.proofs.Computed.{computed as computedRow, cases, cases-hold}
+use Rattle.reader_laws.specs.Breach.{Breach}
+use Rattle.program.specs.Arrays.{kept}
+use Rattle.reader_laws.specs.Row.{Row, FirstRow, Answers}
+use Rattle.text.specs.Limits.{Limits, Admitted}
 use Rattle.reader_laws.proofs.Spot.{formless-malformed, spot-unique, form-not-malformed}
 use Rattle.reader_laws.proofs.Unique.{text-unique}
 use Rattle.reader_laws.proofs.Rows.{first-unique, answers-first, first-answers, accepted-none, none-accepted, answers-malformed, answers-breach}
 use Rattle.reader_laws.proofs.Contents.{accepted-admitted, admitted-answer, refused-empty}
-use Rattle.program.proofs.read.Statement.{statement as read·statement}
-use Rattle.program.proofs.read.Met.{met as read·met}
-use Rattle.program.proofs.number_of.Statement.{statement as number-of·statement}
-use Rattle.program.proofs.number_of.Met.{met as number-of·met}
-use Rattle.program.proofs.spot_of.Statement.{statement as spot-of·statement}
-use Rattle.program.proofs.spot_of.Met.{met as spot-of·met}
+use Rattle.reader.proofs.read.Statement.{statement as read·statement}
+use Rattle.reader.proofs.read.Met.{met as read·met}
+use Rattle.refusals.proofs.text_number.Statement.{statement as number-of·statement}
+use Rattle.refusals.proofs.text_number.Met.{met as number-of·met}
+use Rattle.refusals.proofs.text_spot.Statement.{statement as spot-of·statement}
+use Rattle.refusals.proofs.text_spot.Met.{met as spot-of·met}
 use Rattle.program.proofs.empty.Statement.{statement as empty·statement}
 use Rattle.program.proofs.empty.Met.{met as empty·met}
 use Rattle.program.proofs.head.Statement.{statement as head·statement}
@@ -296,16 +299,16 @@ use Rattle.call_check.proofs.check.Statement.{statement as check·statement}
 use Rattle.call_check.proofs.check.Met.{met as check·met}
 use Rattle.call_check.proofs.check_read.Statement.{statement as check-read·statement}
 use Rattle.call_check.proofs.check_read.Met.{met as check-read·met}
-use Rattle.call_check.proofs.check_number_of.Statement.{statement as check-number-of·statement}
-use Rattle.call_check.proofs.check_number_of.Met.{met as check-number-of·met}
-use Rattle.call_check.proofs.check_spot_of.Statement.{statement as check-spot-of·statement}
-use Rattle.call_check.proofs.check_spot_of.Met.{met as check-spot-of·met}
+use Rattle.refusals.proofs.check_number.Statement.{statement as check-number-of·statement}
+use Rattle.refusals.proofs.check_number.Met.{met as check-number-of·met}
+use Rattle.refusals.proofs.check_spot.Statement.{statement as check-spot-of·statement}
+use Rattle.refusals.proofs.check_spot.Met.{met as check-spot-of·met}
 use Rattle.call_fill.proofs.fill_out.Statement.{statement as fill-out·statement}
 use Rattle.call_fill.proofs.fill_out.Met.{met as fill-out·met}
-use Rattle.call_fill.proofs.fill_number_of.Statement.{statement as fill-number-of·statement}
-use Rattle.call_fill.proofs.fill_number_of.Met.{met as fill-number-of·met}
-use Rattle.call_fill.proofs.fill_spot_of.Statement.{statement as fill-spot-of·statement}
-use Rattle.call_fill.proofs.fill_spot_of.Met.{met as fill-spot-of·met}
+use Rattle.refusals.proofs.fill_number.Statement.{statement as fill-number-of·statement}
+use Rattle.refusals.proofs.fill_number.Met.{met as fill-number-of·met}
+use Rattle.refusals.proofs.fill_spot.Statement.{statement as fill-spot-of·statement}
+use Rattle.refusals.proofs.fill_spot.Met.{met as fill-spot-of·met}
 use Rattle.checker_model.proofs.put_shown_model.Statement.{statement as put-shown-model·statement}
 use Rattle.checker_model.proofs.put_shown_model.Met.{met as put-shown-model·met}
 use Rattle.checker_output.proofs.put_output.Statement.{statement as put-output·statement}
@@ -316,7 +319,7 @@ use Rattle.truth_blocks.proofs.row_passes.Statement.{statement as row-passes·s
 use Rattle.truth_blocks.proofs.row_passes.Met.{met as row-passes·met}
 use Rattle.truth_blocks.proofs.value_of.Statement.{statement as truth-value-of·statement}
 use Rattle.truth_blocks.proofs.value_of.Met.{met as truth-value-of·met}
-use Rattle.program.specs.declared.Reading.{Reading}
+use Rattle.reader.specs.declared.Reading.{Reading}
 use Rattle.answer_form.specs.Reading.{Spotted}
 use Rattle.encoding.specs.Literal.{clauseTrue}
 use Rattle.call_lines.specs.Lines.{lineBytes}
@@ -332,7 +335,7 @@ use Rattle.call_check.proofs.Buffers.{model-writes, assumed-rest, refused-zeroe
 use Rattle.checker_output.specs.Output.{outputText, checkerText, PrintsModel}
 use Rattle.checker_output.proofs.Shown.{answer-whole, output-whole}
 use Rattle.checker_output.proofs.Printed.{checker-refuses, checker-shows}
-use Rattle.call_fill.specs.declared.FillRefusal.{FillRefusal}
+use Rattle.refusals.specs.declared.FillRefusal.{FillRefusal}
 use Rattle.call_fill.specs.declared.FillVerdict.the-variants.{Filled, Refused as FillRefused}
 use Rattle.call_fill.specs.FillOut.{fillAnswer, fillAssignment, fillLevels}
 use Rattle.call_fill.specs.Rows.{FillRow, FirstFillRow, FillAnswers, FillAccepts, Fills}

@@ -8,10 +8,10 @@ use cases::print_bad_case;
 use cases::print_line_end;
 use cases::print_refused;
 use cases::read_argument;
-use program::ReadVerdict;
-use program::number_of;
-use program::read;
-use program::spot_of;
+use reader::ReadVerdict;
+use reader::read;
+use refusals::text_number;
+use refusals::text_spot;
 
 // Reads a text and prints the verdict.
 fn say_verdict(text: &[u8]) {
@@ -21,7 +21,7 @@ fn say_verdict(text: &[u8]) {
         io::write_all(1, b"ok\n");
         return;
     };
-    print_refused(number_of(r), spot_of(r));
+    print_refused(text_number(r), text_spot(r));
     print_line_end();
 }
 

@@ -3,7 +3,7 @@
 --   begun-from, head-from, closed-from, atom-behind, between-from, shut-from, first-from   the parts of the form
 --   ListPlace k                    what the automaton does at the place of a list
 -- Assumes nothing.
-use Prim.Native.Nat.{ℕ, _+_, _-_, _*_, _≤_, _<_}
+use Prim.Native.Nat.{ℕ, _+_, _*_, _≤_, _<_}
 use native.Mathlib.Omega.{arith}
 use mathlib.Core.Path.{_≡_, refl, sym, _∙_, ap₂, subst}
 use mathlib.Core.Bool.{Bool, true, false, cond, false≢true}

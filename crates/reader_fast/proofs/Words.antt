@@ -2,7 +2,7 @@
 --   word-from, word-goes, word-other, word-all, word-beyond   the loop of `has`
 --   word-found   the text from there on is the word and what follows it
 -- Assumes nothing.
-use Prim.Native.Nat.{ℕ, _+_, _-_, _≤_, _<_}
+use Prim.Native.Nat.{ℕ, _+_, _≤_, _<_}
 use native.Mathlib.Nat.{not-suc-le-zero, add-zero, add-suc}
 use native.Mathlib.Numerals.{add-one}
 use native.Mathlib.Omega.{arith}

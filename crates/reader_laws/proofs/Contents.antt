@@ -7,12 +7,14 @@ use native.Mathlib.Nat.{suc-ne-zero, lt-irrefl, le-trans}
 use lib.ListN.{length}
 use Rattle.meaning.specs.Program.{Program}
 use Rattle.text.specs.Text.{textOf}
-use Rattle.program.specs.declared.TextRefusal.{TextRefusal}
-use Rattle.program.specs.declared.ReadVerdict.the-variants.{Accepted, Refused}
-use Rattle.program.specs.declared.Reading.{Reading}
-use Rattle.program.specs.Verdict.{emptyProgram, refuseOf, readOf}
-use Rattle.reader_laws.specs.Breach.{hits, kept}
-use Rattle.reader_laws.specs.Row.{Limits, Admitted}
+use Rattle.refusals.specs.declared.TextRefusal.{TextRefusal}
+use Rattle.reader.specs.declared.ReadVerdict.the-variants.{Accepted, Refused}
+use Rattle.reader.specs.declared.Reading.{Reading}
+use Rattle.program.specs.Arrays.{emptyProgram}
+use Rattle.reader.specs.Verdict.{refuseOf, readOf}
+use Rattle.reader_laws.specs.Breach.{hits}
+use Rattle.program.specs.Arrays.{kept}
+use Rattle.text.specs.Limits.{Limits, Admitted}
 use Rattle.reader_laws.proofs.Spot.{form-not-malformed}
 use Rattle.reader_laws.proofs.Unique.{text-unique}
 use Rattle.reader_laws.proofs.Rows.{Outcome, too-long, left-form, breached, fine, outcome, not-both}

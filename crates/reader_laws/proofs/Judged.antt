@@ -13,7 +13,9 @@ use Rattle.meaning.specs.Program.{Rule, Program}
 use Rattle.text.specs.Decimal.{decimal}
 use Rattle.reader_work.specs.Work.{workOf, workHeads, workStarts, workBodies, endedOf, endedHeads, endedBodies, atomsEnded}
 use Rattle.reader_laws.specs.Judge.{Work, acts, numberRead, ruleEnd, ruleRead, rulesRead, judged, positiveSpot, negativeSpot}
-use Rattle.reader_laws.specs.Breach.{atomsRead, ruleOpened, headRead, listEvents, ruleEvents, rulesEvents, events, whenMet, Hit, hitsOf, hitsIn, hits, bodiesOf, endsOf}
+use Rattle.reader_laws.specs.Breach.{atomsRead, ruleOpened, headRead, listEvents, ruleEvents, rulesEvents, events, whenMet, Hit, hitsOf, hitsIn, hits}
+use Rattle.text.specs.Limits.{bodiesOf}
+use Rattle.program.specs.Arrays.{endsOf}
 use Rattle.reader_laws.proofs.Frozen.{rules-frozen}
 use Rattle.reader_laws.proofs.Outcomes.{Out, passed, stopped, then, nil-left, nil-right, room-list, hits-append, below, good, cap-above, cap-known, rule-out, done}
 

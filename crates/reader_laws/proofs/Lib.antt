@@ -11,7 +11,6 @@
 -- Rows: the answer is the first row met
 -- Within: a program has no breach exactly if it is within the limits
 -- Contents: what is kept of an accepted text, and of a refused one
--- Decode: the arrays kept of a program hold it
 pub mod Values
 pub mod Frozen
 pub mod Scanned
@@ -25,4 +24,3 @@ pub mod Order
 pub mod Rows
 pub mod Within
 pub mod Contents
-pub mod Decode

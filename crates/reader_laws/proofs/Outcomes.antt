@@ -17,7 +17,8 @@ use Rattle.text.specs.Decimal.{decimal}
 use Rattle.text.specs.Text.{listText}
 use Rattle.reader_work.specs.Work.{workOf, workHeads, workStarts, workBodies, endedOf, endedHeads, endedBodies, headEnded, headStored, bodyEnded, bodyStored, openedOf, startStored, ruleShut, bracketOf, bracketStarts}
 use Rattle.reader_laws.specs.Judge.{Work, acts, cap, numberRead, moreRead, listRead, positiveSpot, negativeSpot, ruleRead}
-use Rattle.reader_laws.specs.Breach.{Event, ruleOpened, headRead, bodyRead, moreEvents, listEvents, ruleEvents, unknown, notAbove, whenMet, Hit, hitsOf, hitsIn, pad}
+use Rattle.reader_laws.specs.Breach.{Event, ruleOpened, headRead, bodyRead, moreEvents, listEvents, ruleEvents, unknown, notAbove, whenMet, Hit, hitsOf, hitsIn}
+use Rattle.program.specs.Arrays.{pad}
 use Rattle.reader_laws.proofs.Values.{cap-small, cap-large, ListAt, positive, negative}
 use Rattle.reader_laws.proofs.Frozen.{Refused, acts-frozen, more-frozen, list-frozen}
 

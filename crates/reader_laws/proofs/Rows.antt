@@ -12,17 +12,19 @@ use borrow.Author.Tests.{lt-ltb, le-ltb, ne-eqb}
 use Rattle.lists.proofs.Tests.{le-or-lt}
 use Rattle.meaning.specs.Program.{Program}
 use Rattle.text.specs.Text.{textOf, Malformed}
-use Rattle.program.specs.declared.TextRefusal.{TextRefusal}
-use Rattle.program.specs.declared.TextRefusal.the-variants as Refusal
-use Rattle.program.specs.declared.ReadVerdict.{ReadVerdict}
-use Rattle.program.specs.declared.ReadVerdict.the-variants.{Accepted, Refused}
-use Rattle.program.specs.declared.Reading.{Reading}
+use Rattle.refusals.specs.declared.TextRefusal.{TextRefusal}
+use Rattle.refusals.specs.declared.TextRefusal.the-variants as Refusal
+use Rattle.reader.specs.declared.ReadVerdict.{ReadVerdict}
+use Rattle.reader.specs.declared.ReadVerdict.the-variants.{Accepted, Refused}
+use Rattle.reader.specs.declared.Reading.{Reading}
 use Rattle.reader_work.specs.Reading.{State, readFrom}
-use Rattle.program.specs.Verdict.{textNumber, textSpot, refusalOf, refuseOf, finished, readOf}
-use Rattle.program.specs.Verdict as Verdict
+use Rattle.refusals.specs.Numbers.{textNumber, textSpot}
+use Rattle.reader.specs.Verdict.{refusalOf, refuseOf, finished, readOf}
+use Rattle.reader.specs.Verdict as Verdict
 use Rattle.reader_laws.specs.Judge.{Work, judged}
 use Rattle.reader_laws.specs.Scan.{accepts, leaves}
-use Rattle.reader_laws.specs.Breach.{Event, events, noEvent, Breached, too-many-atoms, unknown-head, unknown-atom, unordered, too-many-rules, bodies-full, Breach, Hit, hits, kept}
+use Rattle.reader_laws.specs.Breach.{Event, events, noEvent, Breached, too-many-atoms, unknown-head, unknown-atom, unordered, too-many-rules, bodies-full, Breach, Hit, hits}
+use Rattle.program.specs.Arrays.{kept}
 use Rattle.reader_laws.specs.Row.{Row, overlong, malformed, breach, rank, NoLaterBy, NoLater, ranked, nearer, smaller, FirstRow, Answers}
 use Rattle.reader_laws.proofs.Values.{stateOf, read-text}
 use Rattle.reader_laws.proofs.Scanned.{MalformedAt, read-rejects}

@@ -16,8 +16,9 @@ use Rattle.lists.proofs.Tests.{le-or-lt}
 use Rattle.meaning.specs.Program.{Rule, Program, isAtom, ruleFits, wellFormed}
 use Rattle.text.specs.Decimal.{decimal}
 use Rattle.reader_laws.specs.Judge.{positiveSpot}
-use Rattle.reader_laws.specs.Breach.{Event, atomsRead, ruleOpened, headRead, bodyRead, moreEvents, listEvents, ruleEvents, rulesEvents, events, unknown, notAbove, whenMet, Hit, hitsOf, hitsIn, hits, bodiesOf}
-use Rattle.reader_laws.specs.Row.{ascends, ruleAscends, Limits}
+use Rattle.reader_laws.specs.Breach.{Event, atomsRead, ruleOpened, headRead, bodyRead, moreEvents, listEvents, ruleEvents, rulesEvents, events, unknown, notAbove, whenMet, Hit, hitsOf, hitsIn, hits}
+use Rattle.text.specs.Limits.{bodiesOf}
+use Rattle.text.specs.Limits.{ascends, ruleAscends, Limits}
 use Rattle.reader_laws.proofs.Outcomes.{below, nil-left, nil-right, hits-append}
 
 -- ---- one event

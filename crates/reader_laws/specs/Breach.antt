@@ -5,18 +5,16 @@
 --   Breach P k s      some event of the text of P meets row k at spot s
 --   rowsOf N e        the rows that e meets, ascending, computed
 --   hits P            all breaches in text order, computed
---   kept P            the program struct of an accepted program
 -- Assumes nothing.
-use Prim.Native.Nat.{ℕ, _+_, _-_, _≤_, _<_}
+use Prim.Native.Nat.{ℕ, _+_, _≤_, _<_}
 use mathlib.Core.Path.{_≡_}
 use mathlib.Core.Logic.{_⊎_}
 use mathlib.Core.Bool.{Bool, false, _||_, cond}
 use mathlib.Core.List.{List, [], _∷_, _++_, map}
 use lib.Dec.{ltb, leb, eqb}
-use lib.ListN.{length, getD, replicate}
+use lib.ListN.{length, getD}
 use Rattle.meaning.specs.Program.{Rule, Program}
 use Rattle.text.specs.Decimal.{decimal}
-use Rattle.program.specs.declared.Program.{Program as Arrays}
 use Rattle.reader_laws.specs.Judge.{positiveSpot, negativeSpot, ruleEnd}
 
 pub data Event : Type 0 where
@@ -109,31 +107,3 @@ hitsIn N (e ∷ es) = hitsOf N e ++ hitsIn N es
 
 abbrev pub hits : Program → List Hit
 hits P = hitsIn (P .atoms) (events P)
-
--- ---- the arrays of a program
-
--- xs, filled up with zeros to k elements
-abbrev pub pad : ℕ → List ℕ → List ℕ
-pad k xs = xs ++ replicate (k - length xs) 0
-
--- the body atoms of the rules, in text order
-abbrev pub bodiesOf : List Rule → List ℕ
-bodiesOf [] = []
-bodiesOf (r ∷ rs) = r .positive ++ (r .negative ++ bodiesOf rs)
-
--- where the lists of the rules end, with j body atoms before them
-abbrev pub endsOf : ℕ → List Rule → List ℕ
-endsOf j [] = []
-endsOf j (r ∷ rs) =
-    (j + length (r .positive)) ∷ (j + length (r .positive) + length (r .negative)) ∷ endsOf (j + length (r .positive) + length (r .negative)) rs
-
-unfoldable pub kept : Program → Arrays
-kept P =
-    record {
-      atoms = P .atoms;
-      rules = length (P .rules);
-      held = length (bodiesOf (P .rules));
-      heads = pad 500 (map (λ r. r .head) (P .rules));
-      starts = pad 1001 (0 ∷ endsOf 0 (P .rules));
-      bodies = pad 500 (bodiesOf (P .rules));
-    }

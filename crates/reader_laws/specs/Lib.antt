@@ -2,4 +2,3 @@ pub mod Judge
 pub mod Scan
 pub mod Breach
 pub mod Row
-pub mod Decoded

@@ -1,6 +1,6 @@
 -- Truth of a clause slot by slot, and the first false clause place by place, from the tables.
 -- Assumes nothing.
-use Prim.Native.Nat.{ℕ, zero, suc, pred, _+_, _-_, _≤_, _<_}
+use Prim.Native.Nat.{ℕ, zero, suc, pred, _+_, _≤_, _<_}
 use native.Mathlib.Nat.{le-trans, le-antisymm, not-suc-le-zero, suc-add}
 use native.Mathlib.Numerals.{add-one, one-add}
 use native.Mathlib.Omega.{arith}

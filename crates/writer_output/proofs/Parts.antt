@@ -10,7 +10,7 @@ use Rattle.lists.specs.Lists.{joined}
 use Rattle.io.specs.Counts.{Counts}
 use Rattle.meaning.specs.Program.{Program}
 use Rattle.program.specs.declared.Program.{Program as Arrays}
-use Rattle.reader_laws.specs.Decoded.{decoded}
+use Rattle.program.specs.Arrays.{decoded}
 use Rattle.clause_tables.specs.declared.Pairs.{Pairs}
 use Rattle.clause_tables.specs.declared.Totals.{Totals}
 use Rattle.clause_tables.specs.Tables.{Stored, Tabled, pairTable, totalsOf, programIn}
@@ -18,7 +18,7 @@ use Rattle.clause_places.specs.declared.Place.{Place}
 use Rattle.clause_places.specs.Places.{placeAt}
 use Rattle.clause_runs.specs.declared.Part.{Part}
 use Rattle.clause_runs.specs.Lines.{partIn, runIn, runBytesIn}
-use Rattle.call_lines.proofs.Open.{program-is, tabled}
+use Rattle.call_laws.proofs.Tabled.{program-is, tabled}
 use Rattle.clause_runs.proofs.Runs.{part-bytes, part-place, part-within, part-onward}
 use Rattle.writer_output.specs.Onward.{Onward}
 

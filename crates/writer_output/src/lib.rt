@@ -10,16 +10,16 @@ use clause_tabling::totals_of;
 use clause_text::put_refusal;
 use files::rest_length;
 use program::Program;
-use program::ReadVerdict;
-use program::TextRefusal;
-use program::number_of;
-use program::spot_of;
-use reader_counted::read_counted;
+use reader::ReadVerdict;
+use reader::read_counted;
+use refusals::TextRefusal;
+use refusals::text_number;
+use refusals::text_spot;
 ghost use Prim.Native.Nat.{_≤_};
 ghost use mathlib.Core.Path.{_≡_};
 ghost use lib.ListN.{length};
 ghost use Rattle.io.specs.Counts.{Counts};
-ghost use Rattle.reader_laws.specs.Decoded.{decoded};
+ghost use Rattle.program.specs.Arrays.{decoded};
 ghost use Rattle.clause_tables.specs.Tables.{Stored, pairTable, totalsOf};
 ghost use Rattle.clause_places.specs.Places.{placeAt};
 ghost use Rattle.clause_runs.specs.Lines.{partIn, runBytesIn};
@@ -28,7 +28,7 @@ ghost use Rattle.writer_output.specs.Onward.{Onward};
 // Prints the line of a refusal.
 fn say_refusal(x: TextRefusal) {
     let mut out = [0u8; 64];
-    let n = put_refusal(number_of(x), spot_of(x), &mut out);
+    let n = put_refusal(text_number(x), text_spot(x), &mut out);
     io::write_all(1, &out[..n]);
 }
 

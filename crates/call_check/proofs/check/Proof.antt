@@ -1,6 +1,6 @@
 use denote.Ref.{now}
 use Rattle.call_check.proofs.Open.{check-whole}
-use Rattle.call_lines.proofs.Open.{accepted-stored}
+use Rattle.call_laws.proofs.Tabled.{accepted-stored}
 use borrow.Author.Needs.{needs}
 use Rattle.call_check.proofs.check.Statement.{statement}
 use Rattle.call_check.proofs.check.Tie as tie

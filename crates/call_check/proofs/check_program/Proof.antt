@@ -1,6 +1,6 @@
 use denote.Ref.{now}
 use Rattle.call_check.proofs.Open.{same-program}
-use Rattle.call_lines.proofs.Open.{totals-asks, ready-of, program-is}
+use Rattle.call_laws.proofs.Tabled.{totals-asks, ready-of, program-is}
 use borrow.Author.Needs.{needs}
 use Rattle.call_check.proofs.check_program.Statement.{statement}
 use Rattle.call_check.proofs.check_program.Tie as tie

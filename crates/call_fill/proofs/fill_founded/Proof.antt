@@ -1,4 +1,3 @@
-use denote.Ref.{now}
 use Rattle.call_fill.proofs.Steps.{atoms-few, levels-again}
 use borrow.Author.Needs.{needs}
 use Rattle.call_fill.proofs.fill_founded.Statement.{statement}

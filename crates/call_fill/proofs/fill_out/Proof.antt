@@ -1,6 +1,6 @@
 use denote.Ref.{now}
 use Rattle.call_fill.proofs.Steps.{read-accepted, read-refused}
-use Rattle.call_lines.proofs.Open.{accepted-stored}
+use Rattle.call_laws.proofs.Tabled.{accepted-stored}
 use borrow.Author.Needs.{needs}
 use Rattle.call_fill.proofs.fill_out.Statement.{statement}
 use Rattle.call_fill.proofs.fill_out.Tie as tie

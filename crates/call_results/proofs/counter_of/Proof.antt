@@ -1,6 +1,5 @@
 use denote.Ref.{now}
 use borrow.Author.Needs.{needs}
-use Rattle.encoding.specs.Counter.{value}
 use mathlib.Core.Bool.{cond}
 use lib.ListN.{length}
 use Prim.Native.Nat.{_-_, _≤_, _<_, ℕ}

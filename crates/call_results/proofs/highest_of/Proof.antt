@@ -1,7 +1,7 @@
 use denote.Ref.{now}
 use borrow.Author.Needs.{needs}
-use Prim.Native.Nat.{_-_, _≤_, ℕ}
-use mathlib.Core.Path.{_≡_, refl, _∙_, ap}
+use Prim.Native.Nat.{_-_, _≤_}
+use mathlib.Core.Path.{_≡_, refl}
 use native.Mathlib.Omega.{arith}
 use Rattle.lists.specs.Lists.{highest}
 use Rattle.call_results.specs.Results.{levelIn}

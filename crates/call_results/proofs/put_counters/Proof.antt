@@ -1,6 +1,6 @@
 use denote.Ref.{now}
 use borrow.Author.Needs.{needs}
-use Prim.Native.Nat.{_-_, _≤_, ℕ}
+use Prim.Native.Nat.{_-_, _≤_}
 use lib.ListN.{length, length-set, drop}
 use mathlib.Core.List.{_++_}
 use mathlib.Core.Path.{_≡_, refl, _∙_}

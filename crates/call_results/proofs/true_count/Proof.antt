@@ -1,7 +1,7 @@
 use denote.Ref.{now}
 use borrow.Author.Needs.{needs}
-use Prim.Native.Nat.{_+_, _-_, _≤_, ℕ}
-use mathlib.Core.Path.{_≡_, _∙_, ap}
+use Prim.Native.Nat.{_+_, _-_, _≤_}
+use mathlib.Core.Path.{_≡_}
 use native.Mathlib.Omega.{arith}
 use Rattle.truth_clauses.specs.Truth.{valueIn}
 use Rattle.call_results.specs.Results.{trueCount}

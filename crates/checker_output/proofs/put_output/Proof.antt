@@ -1,9 +1,9 @@
 use denote.Ref.{now}
-use Rattle.program.specs.declared.Reading.{Reading}
+use Rattle.reader.specs.declared.Reading.{Reading}
 use mathlib.Core.Path.{ap}
 use Rattle.checker_output.specs.Output.{outputOf, outputText}
 use Rattle.checker_output.proofs.Shown.{same-text}
-use Rattle.reader_counted.proofs.Counted.{counted-stored}
+use Rattle.call_laws.proofs.Tabled.{counted-stored}
 use borrow.Author.Needs.{needs}
 use Rattle.checker_output.proofs.put_output.Statement.{statement}
 use Rattle.checker_output.proofs.put_output.Tie as tie

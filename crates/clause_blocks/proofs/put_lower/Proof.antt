@@ -9,7 +9,7 @@ use borrow.Author.Needs.{needs}
 use mathlib.Core.Bool.{false}
 use mathlib.Core.Path.{refl, ap}
 use native.Mathlib.Omega.{arith}
-use Prim.Native.Nat.{_+_, _-_, _≤_}
+use Prim.Native.Nat.{_-_, _≤_}
 use denote.Ref.{now}
 use Rattle.clause_blocks.proofs.put_lower.Statement.{statement}
 use Rattle.clause_blocks.proofs.put_lower.Tie as tie

@@ -8,7 +8,7 @@ use Rattle.encoding.specs.Variables.{levelVar}
 use borrow.Author.Needs.{needs}
 use mathlib.Core.Path.{refl, ap}
 use native.Mathlib.Omega.{arith}
-use Prim.Native.Nat.{_+_, _-_, _≤_}
+use Prim.Native.Nat.{_-_, _≤_}
 use denote.Ref.{now}
 use Rattle.clause_blocks.proofs.put_pairs.Statement.{statement}
 use Rattle.clause_blocks.proofs.put_pairs.Tie as tie

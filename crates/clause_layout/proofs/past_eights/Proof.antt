@@ -2,7 +2,6 @@ use Rattle.clause_layout.proofs.Heads.{next-eight}
 use Rattle.clause_layout.specs.Numbers.{nextHead}
 use borrow.Author.Needs.{needs}
 use lib.ListN.{length}
-use native.Mathlib.Omega.{arith}
 use mathlib.Core.Path.{_≡_, refl, sym, _∙_}
 use Prim.Native.Nat.{_-_, _<_, _^_}
 use denote.Ref.{now}

@@ -1,7 +1,7 @@
 use Rattle.clause_tabling.proofs.Turns.{Filled, filled-start, filled-next, filled-end, rises, within, count-fits, empty-fits}
 use Rattle.clause_tabling.proofs.Sizes.{none-few}
 use Rattle.clause_tabling.proofs.Kept.{rules-many}
-use Rattle.reader_laws.specs.Decoded.{decoded}
+use Rattle.program.specs.Arrays.{decoded}
 use borrow.Author.Needs.{needs}
 use native.Mathlib.Omega.{arith}
 use lib.ListN.{length}

@@ -1,4 +1,3 @@
-use borrow.Author.Needs.{needs}
 use Rattle.digits.proofs.NumeralLaws.{size-four, size-three, size-two, size-one}
 use Rattle.digits.proofs.size_of.Statement.{statement}
 use Rattle.digits.proofs.size_of.Tie as tie

@@ -1,5 +1,5 @@
 use Rattle.exports.proofs.Told.{totalled}
-use Rattle.call_lines.proofs.Open.{totals-asks}
+use Rattle.call_laws.proofs.Tabled.{totals-asks}
 use borrow.Author.Needs.{needs}
 use Rattle.exports.proofs.of_program.Statement.{statement}
 use Rattle.exports.proofs.of_program.Tie as tie

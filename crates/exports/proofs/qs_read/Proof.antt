@@ -1,5 +1,5 @@
 use Rattle.exports.proofs.Told.{numbered, reading-told}
-use Rattle.call_lines.proofs.Open.{accepted-stored}
+use Rattle.call_laws.proofs.Tabled.{accepted-stored}
 use denote.Ref.{now}
 use borrow.Author.Needs.{needs}
 use Rattle.exports.proofs.qs_read.Statement.{statement}

@@ -1,5 +1,5 @@
 use mathlib.Core.Path.{refl}
-use Rattle.program.specs.Verdict.{emptyProgram}
+use Rattle.program.specs.Arrays.{emptyProgram}
 use Rattle.program.proofs.empty.Statement.{statement}
 use Rattle.program.proofs.empty.Tie as tie
 

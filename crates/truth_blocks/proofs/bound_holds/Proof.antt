@@ -2,7 +2,6 @@ use denote.Ref.{now}
 use Prim.Native.Nat.{_-_, _≤_}
 use mathlib.Core.Bool.{_||_}
 use mathlib.Core.Path.{_≡_}
-use native.Mathlib.Omega.{arith}
 use borrow.Author.Needs.{needs}
 use Rattle.lists.specs.Lists.{anyTo}
 use Rattle.clause_literals.specs.Sizes.{sizesOf}

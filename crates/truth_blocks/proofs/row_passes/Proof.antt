@@ -1,6 +1,5 @@
 use denote.Ref.{now}
 use mathlib.Core.Path.{_∙_}
-use Rattle.clause_tables.specs.Tables.{programIn}
 use Rattle.truth_blocks.specs.Values.{valueIn}
 use Rattle.truth_blocks.proofs.WholeRows.{bit-in, bit-row, next-asks, next-row, zero-asks, zero-row, passes-five, passes-four, passes-three, passes-six, passes-none, count-asks, head-asks, before-asks, rule-row, rule-asks}
 use borrow.Author.Needs.{needs}

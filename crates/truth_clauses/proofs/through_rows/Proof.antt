@@ -2,8 +2,7 @@ use denote.Ref.{now}
 use Prim.Native.Nat.{_-_, _≤_}
 use native.Mathlib.Omega.{arith}
 use native.Mathlib.Nat.{le-refl, pos-of-ne-zero}
-use borrow.Author.Tests.{not-true, not-false}
-use borrow.Author.Needs.{needs}
+use borrow.Author.Tests.{not-false}
 use Rattle.clause_tables.specs.Tables.{programIn}
 use Rattle.clause_places.proofs.Behind.{behind-sum, behind-adds, behind-at}
 use Rattle.truth_clauses.proofs.Clauses.{clause-asks, furthered}

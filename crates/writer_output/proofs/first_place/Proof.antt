@@ -1,4 +1,4 @@
-use Rattle.call_lines.proofs.Open.{ready-of}
+use Rattle.call_laws.proofs.Tabled.{ready-of}
 use Rattle.writer_output.proofs.Parts.{placed}
 use Rattle.writer_output.proofs.first_place.Statement.{statement}
 use Rattle.writer_output.proofs.first_place.Tie as tie

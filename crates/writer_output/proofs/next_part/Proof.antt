@@ -1,6 +1,6 @@
 use denote.Ref.{now}
 use native.Mathlib.Omega.{arith}
-use Rattle.call_lines.proofs.Open.{ready-of}
+use Rattle.call_laws.proofs.Tabled.{ready-of}
 use Rattle.writer_output.proofs.Parts.{placed-in, part-is}
 use borrow.Author.Needs.{needs}
 use Rattle.writer_output.proofs.next_part.Statement.{statement}

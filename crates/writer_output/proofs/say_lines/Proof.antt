@@ -1,7 +1,7 @@
 use Rattle.writer_output.proofs.Parts.{first-number}
-use Rattle.call_lines.proofs.Open.{totals-asks}
+use Rattle.call_laws.proofs.Tabled.{totals-asks}
 use Rattle.clause_places.specs.Places.{placeAt}
-use Rattle.reader_laws.specs.Decoded.{decoded}
+use Rattle.program.specs.Arrays.{decoded}
 use lib.ListN.{length}
 use native.Mathlib.Omega.{arith}
 use borrow.Author.Needs.{needs}

@@ -1,4 +1,4 @@
-use Rattle.reader_counted.proofs.Counted.{counted-stored}
+use Rattle.call_laws.proofs.Tabled.{counted-stored}
 use borrow.Author.Needs.{needs}
 use Rattle.writer_output.proofs.write_clauses.Statement.{statement}
 use Rattle.writer_output.proofs.write_clauses.Tie as tie

@@ -1,0 +1,181 @@
+// The reader of program text.
+use program::Program;
+use program::empty;
+use reader_fast::Stand;
+use reader_fast::lines;
+use reader_form::step;
+use reader_work::Counts;
+use reader_work::begin_after;
+use reader_work::refused;
+use reader_work::value_after;
+use reader_work::work;
+use refusals::TextRefusal;
+ghost use mathlib.Core.Path.{_≡_};
+ghost use Rattle.reader_work.specs.Reading.{Ends, readFrom, started};
+ghost use Rattle.reader_fast.specs.Standing.{readOn};
+ghost use Rattle.reader.specs.Verdict.{refusalOf, refuseOf, readOf};
+ghost use Rattle.reader.specs.Counted.{countedOf};
+
+// Whether a text is a program.
+pub enum ReadVerdict {
+    Accepted,
+    Refused(TextRefusal),
+}
+
+// The verdict, and the program: the empty one where the text is refused.
+pub struct Reading {
+    pub verdict: ReadVerdict,
+    pub program: Program,
+}
+
+// Reads on to the end of the text, byte by byte: counts and arrays at the end.
+fn finish(
+    text: &[u8],
+    s: Stand,
+    heads: &mut [u16; 500],
+    starts: &mut [u16; 1001],
+    bodies: &mut [u16; 500],
+) -> Counts
+    ensures { λ r. ⌜ Ends r (now (heads .exit)) (now (starts .exit)) (now (bodies .exit)) (readOn s (now (heads .entry)) (now (starts .entry)) (now (bodies .entry)) (now (text .entry))) ⌝ }
+{
+    let mut k = s.k;
+    let mut mode = s.mode;
+    let mut value: u16 = 0;
+    let mut begin: usize = 0;
+    let mut c = Counts {
+        atoms: s.atoms as u16,
+        rules: s.rules,
+        held: s.held,
+        prev: s.prev,
+        number: 0,
+        spot: 0,
+    };
+    let mut i = s.at;
+    while i < text.len() {
+        let b = text[i];
+        let p = step(k, mode, b);
+        let act = p.act;
+        if p.mode == 4 {
+            return refused(c, 2, i);
+        }
+        c = work(
+            act,
+            k,
+            value,
+            begin,
+            i,
+            c,
+            &mut *heads,
+            &mut *starts,
+            &mut *bodies,
+        );
+        value = value_after(act, value, b);
+        begin = begin_after(act, begin, i);
+        k = p.k;
+        mode = p.mode;
+        i += 1;
+    }
+    if k != 10 {
+        return refused(c, 2, i);
+    }
+    if mode != 0 {
+        return refused(c, 2, i);
+    }
+    c
+}
+
+// Reads the text into the three arrays, which hold zeros.
+fn read_into(
+    text: &[u8],
+    heads: &mut [u16; 500],
+    starts: &mut [u16; 1001],
+    bodies: &mut [u16; 500],
+) -> Counts
+    ensures { λ r. ⌜ Ends r (now (heads .exit)) (now (starts .exit)) (now (bodies .exit)) (readFrom (started (now (heads .entry)) (now (starts .entry)) (now (bodies .entry))) 0 (now (text .entry))) ⌝ }
+{
+    let s = Stand {
+        k: 0,
+        mode: 0,
+        at: 0,
+        atoms: 0,
+        rules: 0,
+        held: 0,
+        prev: 0,
+    };
+    let p = lines(text, s, &mut *heads, &mut *starts, &mut *bodies);
+    finish(text, p, &mut *heads, &mut *starts, &mut *bodies)
+}
+
+// The refusal of row `number`, from 2 to 7.
+fn refusal(number: u8, spot: usize) -> TextRefusal
+    ensures { λ r. ⌜ r ≡ refusalOf number spot ⌝ }
+{
+    if number == 2 {
+        return TextRefusal::Malformed(spot);
+    }
+    if number == 3 {
+        return TextRefusal::TooManyAtoms(spot);
+    }
+    if number == 4 {
+        return TextRefusal::UnknownAtom(spot);
+    }
+    if number == 5 {
+        return TextRefusal::Unordered(spot);
+    }
+    if number == 6 {
+        return TextRefusal::TooManyRules(spot);
+    }
+    TextRefusal::BodiesFull(spot)
+}
+
+// A text that is refused, and the empty program.
+fn refuse(refusal: TextRefusal) -> Reading
+    ensures { λ r. ⌜ r ≡ refuseOf refusal ⌝ }
+{
+    let program = empty();
+    Reading {
+        verdict: ReadVerdict::Refused(refusal),
+        program: program,
+    }
+}
+
+// Reads a program text: its verdict, and its program if it is accepted.
+pub fn read(text: &[u8]) -> Reading
+    ensures { λ r. ⌜ r ≡ readOf (now (text .entry)) ⌝ }
+{
+    if 65536 < text.len() {
+        return refuse(TextRefusal::Overlong(text.len()));
+    }
+    let mut heads = [0u16; 500];
+    let mut starts = [0u16; 1001];
+    let mut bodies = [0u16; 500];
+    let c = read_into(text, &mut heads, &mut starts, &mut bodies);
+    if c.number != 0 {
+        return refuse(refusal(c.number, c.spot));
+    }
+    let program = Program {
+        atoms: c.atoms,
+        rules: c.rules,
+        held: c.held,
+        heads: heads,
+        starts: starts,
+        bodies: bodies,
+    };
+    Reading {
+        verdict: ReadVerdict::Accepted,
+        program: program,
+    }
+}
+
+// Reads the text that begins with `front` and has `total` bytes. Of a text that is not overlong `front` is all.
+pub fn read_counted(front: &[u8], total: usize) -> Reading
+    ensures { λ r. ⌜ r ≡ countedOf (now (front .entry)) total ⌝ }
+{
+    if 65536 < total {
+        return Reading {
+            verdict: ReadVerdict::Refused(TextRefusal::Overlong(total)),
+            program: empty(),
+        };
+    }
+    read(front)
+}

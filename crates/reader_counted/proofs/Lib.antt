@@ -1,2 +1,0 @@
--- Counted: the front of a text and its length give the answer to the whole
-pub mod Counted

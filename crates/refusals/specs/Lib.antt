@@ -1,0 +1,2 @@
+-- Numbers: number and spot of each refusal
+pub mod Numbers
