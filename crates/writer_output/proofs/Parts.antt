@@ -1,11 +1,11 @@
--- The parts of the clause file, one after the other, from the tables of the program.
+-- The parts of the clause file, one after the other, from the tables of the program: together they are the clause file.
 -- Assumes nothing.
-use Prim.Native.Nat.{ℕ, _+_, _≤_}
+use Prim.Native.Nat.{ℕ, _+_, _≤_, _<_}
 use native.Mathlib.Omega.{arith}
-use mathlib.Core.Path.{_≡_, sym, _∙_, ap, subst}
-use mathlib.Core.List.{List}
-use lib.ListN.{length, drop, length-append, length-drop}
-use lib.Seq.{length-take-le}
+use mathlib.Core.Path.{_≡_, sym, _∙_, ap, ap₂, subst}
+use mathlib.Core.List.{List, _++_}
+use lib.ListN.{length, take, drop, length-append, length-drop}
+use lib.Seq.{length-take-le, take-add, take-all}
 use Rattle.lists.specs.Lists.{joined}
 use Rattle.io.specs.Counts.{Counts}
 use Rattle.meaning.specs.Program.{Program}
@@ -17,10 +17,11 @@ use Rattle.clause_tables.specs.Tables.{Stored, Tabled, pairTable, totalsOf, pro
 use Rattle.clause_places.specs.declared.Place.{Place}
 use Rattle.clause_places.specs.Places.{placeAt}
 use Rattle.clause_runs.specs.declared.Part.{Part}
-use Rattle.clause_runs.specs.Lines.{partIn, runIn, runBytesIn}
+use Rattle.clause_runs.specs.Lines.{linesOf, fitting, partIn, runIn, runBytesIn}
 use Rattle.call_laws.proofs.Tabled.{program-is, tabled}
-use Rattle.clause_runs.proofs.Runs.{part-bytes, part-place, part-within, part-onward}
-use Rattle.writer_output.specs.Onward.{Onward}
+use Rattle.clause_runs.proofs.Runs.{joined-append, part-bytes, part-place, part-within, part-onward}
+use Rattle.clause_runs.proofs.Placed.{lines-count, clauses-short}
+use Rattle.writer_output.specs.Output.{clauseFile, fileBefore, Stands, PartPut}
 
 module _ {A : Arrays} {k : Pairs} {t : Totals} (pre : Stored A × (k ≡ pairTable (decoded A)) × (t ≡ totalsOf (decoded A))) where
   T : Tabled (decoded A) t (A .heads) (A .starts) (A .bodies) (k .before) (k .bodies) (k .heads)
@@ -48,16 +49,56 @@ module _ {A : Arrays} {k : Pairs} {t : Totals} (pre : Stored A × (k ≡ pairTab
         whole : (x : ℕ) → q .bytes ≡ x → x + length (drop x b) ≡ length b
         whole x e = omega (arith, e, bytes-in, length-drop x b)
 
-    pub part-is : (q ≡ partIn (decoded A) (t .sizes .w) (c .number) (length b)) × (l ≡ runBytesIn (decoded A) (c .number) b) × Counts (q .bytes) l × Onward (decoded A) t c (q .place)
-    part-is =
-        (v .0, v .1, (within, sym (length-take-le (q .bytes) l within)), record { placed = part-place T (c .number) (length b) (v .0) h; within = part-within T (c .number) (length b) (v .0) h; later = part-onward T (c .number) (length b) (v .0) h f })
-      where
-        within : q .bytes ≤ length l
-        within = subst (λ (x : ℕ). q .bytes ≤ x) (sym same-length) bytes-in
+    within : q .bytes ≤ length l
+    within = subst (λ (x : ℕ). q .bytes ≤ x) (sym same-length) bytes-in
 
--- the place that is number 0
-pub first-number : (P : Program) (w n : ℕ) {c : Place} → c ≡ placeAt P w 0 → (c ≡ placeAt P w (c .number)) × (c .number ≤ n)
-first-number P w n {c} e = (e ∙ ap (placeAt P w) (sym number), omega (arith, number))
-  where
-    number : c .number ≡ 0
-    number = ap (λ (d : Place). d .number) e
+    number-then : q .place .number ≡ c .number + fitting (length b) (drop (c .number) (linesOf (decoded A)))
+    number-then = ap (λ (x : Part). x .place .number) (v .0)
+
+    -- the lines before the next place are those before c and those of the part
+    before-then : fileBefore (decoded A) (q .place .number) ≡ fileBefore (decoded A) (c .number) ++ joined (runIn (decoded A) (c .number) (length b))
+    before-then =
+        ap (fileBefore (decoded A)) number-then
+        ∙ ap joined (take-add (c .number) (fitting (length b) (drop (c .number) (linesOf (decoded A)))) (linesOf (decoded A)))
+        ∙ joined-append (take (c .number) (linesOf (decoded A))) (runIn (decoded A) (c .number) (length b))
+
+    module _ (n : ℕ) (s : Stands (decoded A) t c n) (g : length b ≤ 65536) where
+      handed-then : n + q .bytes ≡ length (fileBefore (decoded A) (q .place .number))
+      handed-then =
+          ap₂ (λ (x y : ℕ). x + y) (s .handed) (ap (λ (x : Part). x .bytes) (v .0))
+          ∙ sym (length-append (fileBefore (decoded A) (c .number)) (joined (runIn (decoded A) (c .number) (length b)))) ∙ sym (ap length before-then)
+
+      pub part-put : PartPut (decoded A) t c n b q l
+      part-put =
+          record {
+            part-is = v .0;
+            bytes-are = v .1;
+            counts = (within, sym (length-take-le (q .bytes) l within));
+            onward = onward;
+            stands =
+                record {
+                  placed = part-place T (c .number) (length b) (v .0) h;
+                  within = part-within T (c .number) (length b) (v .0) h;
+                  handed = handed-then;
+                  bounded = omega (arith, s .bounded, bytes-in, g, onward);
+                };
+          }
+        where
+          onward : c .number < q .place .number
+          onward = part-onward T (c .number) (length b) (v .0) h f
+
+  pub total-short : t .clauses ≤ 53690
+  total-short = clauses-short T
+
+  -- ---- the beginning and the end
+
+  pub first-stands : {c : Place} → c ≡ placeAt (programIn (t .sizes) (A .heads) (A .starts) (A .bodies)) (t .sizes .w) 0 → Stands (decoded A) t c 0
+  first-stands {c} e = record { placed = placed 0 e ∙ ap (placeAt (decoded A) (t .sizes .w)) (sym number); within = omega (arith, number); handed = ap (λ (j : ℕ). length (fileBefore (decoded A) j)) (sym number); bounded = omega arith }
+    where
+      number : c .number ≡ 0
+      number = ap (λ (d : Place). d .number) e
+
+  -- at the place behind the last line all of the clause file has been handed over
+  pub stands-end : {c : Place} {n : ℕ} → Stands (decoded A) t c n → t .clauses < c .number → n ≡ length (clauseFile (decoded A))
+  stands-end {c} {n} s h =
+      s .handed ∙ ap (λ (x : List (List ℕ)). length (joined x)) (take-all (c .number) (linesOf (decoded A)) (omega (arith, lines-count T, h)))

@@ -1,1 +1,2 @@
-pub mod Onward
+-- Output: all that the writer prints
+pub mod Output

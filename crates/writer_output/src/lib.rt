@@ -1,4 +1,5 @@
-// The writer: reads a program text from standard input and prints its clause file, or why the text is refused (document 01, "Programs").
+// The writer: reads a program text and prints its clause file, or why the text is refused (document 01, "Programs"). What is printed is handed to the
+// output in parts; each function that hands over returns how many bytes it handed.
 use clause_places::Place;
 use clause_places::start;
 use clause_runs::Part;
@@ -8,7 +9,7 @@ use clause_tables::Totals;
 use clause_tabling::pairs_of;
 use clause_tabling::totals_of;
 use clause_text::put_refusal;
-use files::rest_length;
+use files::read_open;
 use program::Program;
 use reader::ReadVerdict;
 use reader::read_counted;
@@ -18,31 +19,36 @@ use refusals::text_spot;
 ghost use Prim.Native.Nat.{_≤_};
 ghost use mathlib.Core.Path.{_≡_};
 ghost use lib.ListN.{length};
-ghost use Rattle.io.specs.Counts.{Counts};
 ghost use Rattle.program.specs.Arrays.{decoded};
+ghost use Rattle.refusals.specs.Numbers.{textNumber, textSpot};
 ghost use Rattle.clause_tables.specs.Tables.{Stored, pairTable, totalsOf};
-ghost use Rattle.clause_places.specs.Places.{placeAt};
-ghost use Rattle.clause_runs.specs.Lines.{partIn, runBytesIn};
-ghost use Rattle.writer_output.specs.Onward.{Onward};
+ghost use Rattle.clause_text.specs.Lines.{refusedText};
+ghost use Rattle.writer_output.specs.Output.{clauseFile, refusedLine, outputText, Stands, PartPut};
 
-// Prints the line of a refusal.
-fn say_refusal(x: TextRefusal) {
+// Hands over the line of a refusal.
+fn say_refusal(x: TextRefusal) -> usize
+    ensures { λ r. ⌜ r ≡ length (refusedText (textNumber x) (textSpot x)) ⌝ }
+{
     let mut out = [0u8; 64];
     let n = put_refusal(text_number(x), text_spot(x), &mut out);
     io::write_all(1, &out[..n]);
+    n
 }
 
-fn say_refused(v: ReadVerdict) {
-    let ReadVerdict::Refused(x) = v else {
-        return;
-    };
-    say_refusal(x);
+// Hands over the line of a refusal, and nothing for an accepted text.
+fn say_refused(v: ReadVerdict) -> usize
+    ensures { λ r. ⌜ r ≡ length (refusedLine v) ⌝ }
+{
+    match v {
+        ReadVerdict::Accepted => 0,
+        ReadVerdict::Refused(x) => say_refusal(x),
+    }
 }
 
 // The place before the first clause, of a program with its table of pairs and its totals.
 fn first_place(p: Program, k: Pairs, t: Totals) -> Place
     requires { ⌜ (Stored p) × (k ≡ pairTable (decoded p)) × (t ≡ totalsOf (decoded p)) ⌝ }
-    ensures { λ r. ⌜ r ≡ placeAt (decoded p) (t .sizes .w) 0 ⌝ }
+    ensures { λ r. ⌜ Stands (decoded p) t r 0 ⌝ }
 {
     start(
         t,
@@ -55,10 +61,11 @@ fn first_place(p: Program, k: Pairs, t: Totals) -> Place
     )
 }
 
-// The lines from place c on, as many as fit.
-fn next_part(p: Program, k: Pairs, t: Totals, c: Place, out: &mut [u8]) -> Part
-    requires { ⌜ (Stored p) × (k ≡ pairTable (decoded p)) × (t ≡ totalsOf (decoded p)) × (c ≡ placeAt (decoded p) (t .sizes .w) (c .number)) × (c .number ≤ t .clauses) × (3008 ≤ length (now out)) ⌝ }
-    ensures { λ r. ⌜ (r ≡ partIn (decoded p) (t .sizes .w) (c .number) (length (now (out .entry)))) × (now (out .exit) ≡ runBytesIn (decoded p) (c .number) (now (out .entry))) × (Counts (r .bytes) (now (out .exit))) × (Onward (decoded p) t c (r .place)) ⌝ }
+// Puts the lines from place c on at the front of the buffer, as many as fit. `said` bytes of the clause file stand before them.
+fn next_part(p: Program, k: Pairs, t: Totals, c: Place, said: usize, out: &mut [u8]) -> Part
+    requires { ⌜ (Stored p) × (k ≡ pairTable (decoded p)) × (t ≡ totalsOf (decoded p)) ⌝ }
+    requires { ⌜ (Stands (decoded p) t c said) × (c .number ≤ t .clauses) × (3008 ≤ length (now out)) × (length (now out) ≤ 65536) ⌝ }
+    ensures { λ r. ⌜ PartPut (decoded p) t c said (now (out .entry)) r (now (out .exit)) ⌝ }
 {
     put_lines(
         t,
@@ -73,30 +80,41 @@ fn next_part(p: Program, k: Pairs, t: Totals, c: Place, out: &mut [u8]) -> Part
     )
 }
 
-// Prints all lines of a program.
-fn say_lines(p: Program)
+// Hands over all lines of a program, part after part.
+fn say_lines(p: Program) -> usize
     requires { ⌜ Stored p ⌝ }
+    ensures { λ r. ⌜ r ≡ length (clauseFile (decoded p)) ⌝ }
 {
     let k = pairs_of(p);
     let t = totals_of(p, k.count, k.empty);
     let mut out = io::large_buffer();
     let mut c = first_place(p, k, t);
+    let mut said: usize = 0;
     while c.number <= t.clauses {
-        let part = next_part(p, k, t, c, &mut out);
+        let part = next_part(p, k, t, c, said, &mut out);
         io::write_all(1, &out[..part.bytes]);
         c = part.place;
+        said += part.bytes;
     }
+    said
 }
 
-pub fn write_clauses() {
-    let mut text = [0u8; 65537];
-    let n = io::read_full(0, &mut text);
-    let total = n + rest_length(0);
-    let r = read_counted(&text[..n], total);
+// Hands over the output for the program text that begins with `front` and has `total` bytes; of a text that is not overlong, `front` is all.
+pub fn say_output(front: &[u8], total: usize) -> usize
+    ensures { λ r. ⌜ r ≡ length (outputText (now (front .entry)) total) ⌝ }
+{
+    let r = read_counted(front, total);
     let v = r.verdict;
     let ReadVerdict::Accepted = v else {
-        say_refused(v);
-        return;
+        return say_refused(v);
     };
-    say_lines(r.program);
+    say_lines(r.program)
+}
+
+// Reads a program text from an open file and prints the output.
+pub fn write_clauses(fd: i32) {
+    let mut text = [0u8; 65537];
+    let f = read_open(fd, &mut text);
+    let n = f.kept;
+    say_output(&text[..n], f.total);
 }

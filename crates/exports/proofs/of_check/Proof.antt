@@ -13,11 +13,11 @@ accepted-requires c κs = search needs
 enum-known-v-2 : tie.Need-enum-known-v-2
 enum-known-v-2 c = search needs
 
-check-number-of-requires : tie.Need-check-number-of-requires
-check-number-of-requires c κs = search needs
+check-number-requires : tie.Need-check-number-requires
+check-number-requires c κs = search needs
 
-check-spot-of-requires : tie.Need-check-spot-of-requires
-check-spot-of-requires c κs = search needs
+check-spot-requires : tie.Need-check-spot-requires
+check-spot-requires c κs = search needs
 
 refused-requires : tie.Need-refused-requires
 refused-requires c κs = search needs
@@ -26,7 +26,7 @@ returns : tie.Need-returns
 returns c = told ofCheck (c .before .before .v .given .1) (c .accepted .ensures)
 
 returns-2 : tie.Need-returns-2
-returns-2 c = told ofCheck (c .before .before .before .before .v2 .given .1) (numbered (c .before .before .check-number-of .ensures) (c .before .check-spot-of .ensures) (c .refused .ensures))
+returns-2 c = told ofCheck (c .before .before .before .before .v2 .given .1) (numbered (c .before .before .check-number .ensures) (c .before .check-spot .ensures) (c .refused .ensures))
 
 pub of-check-spec : {M : Type 1} → statement M
 of-check-spec =
@@ -35,8 +35,8 @@ of-check-spec =
     enum-known-v
     accepted-requires
     enum-known-v-2
-    check-number-of-requires
-    check-spot-of-requires
+    check-number-requires
+    check-spot-requires
     refused-requires
     returns
     returns-2)

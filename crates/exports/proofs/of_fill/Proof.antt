@@ -13,11 +13,11 @@ accepted-requires c κs = search needs
 enum-known-v-2 : tie.Need-enum-known-v-2
 enum-known-v-2 c = search needs
 
-fill-number-of-requires : tie.Need-fill-number-of-requires
-fill-number-of-requires c κs = search needs
+fill-number-requires : tie.Need-fill-number-requires
+fill-number-requires c κs = search needs
 
-fill-spot-of-requires : tie.Need-fill-spot-of-requires
-fill-spot-of-requires c κs = search needs
+fill-spot-requires : tie.Need-fill-spot-requires
+fill-spot-requires c κs = search needs
 
 refused-requires : tie.Need-refused-requires
 refused-requires c κs = search needs
@@ -26,7 +26,7 @@ returns : tie.Need-returns
 returns c = told ofFill (c .before .before .v .given .1) (c .accepted .ensures)
 
 returns-2 : tie.Need-returns-2
-returns-2 c = told ofFill (c .before .before .before .before .v2 .given .1) (numbered (c .before .before .fill-number-of .ensures) (c .before .fill-spot-of .ensures) (c .refused .ensures))
+returns-2 c = told ofFill (c .before .before .before .before .v2 .given .1) (numbered (c .before .before .fill-number .ensures) (c .before .fill-spot .ensures) (c .refused .ensures))
 
 pub of-fill-spec : {M : Type 1} → statement M
 of-fill-spec =
@@ -35,8 +35,8 @@ of-fill-spec =
     enum-known-v
     accepted-requires
     enum-known-v-2
-    fill-number-of-requires
-    fill-spot-of-requires
+    fill-number-requires
+    fill-spot-requires
     refused-requires
     returns
     returns-2)

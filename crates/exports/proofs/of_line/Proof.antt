@@ -13,11 +13,11 @@ accepted-requires c κs = search needs
 enum-known-v-2 : tie.Need-enum-known-v-2
 enum-known-v-2 c = search needs
 
-line-number-of-requires : tie.Need-line-number-of-requires
-line-number-of-requires c κs = search needs
+line-number-requires : tie.Need-line-number-requires
+line-number-requires c κs = search needs
 
-line-spot-of-requires : tie.Need-line-spot-of-requires
-line-spot-of-requires c κs = search needs
+line-spot-requires : tie.Need-line-spot-requires
+line-spot-requires c κs = search needs
 
 refused-requires : tie.Need-refused-requires
 refused-requires c κs = search needs
@@ -26,7 +26,7 @@ returns : tie.Need-returns
 returns c = told ofLine (c .before .before .v .given .1) (c .accepted .ensures)
 
 returns-2 : tie.Need-returns-2
-returns-2 c = told ofLine (c .before .before .before .before .v2 .given .1) (numbered (c .before .before .line-number-of .ensures) (c .before .line-spot-of .ensures) (c .refused .ensures))
+returns-2 c = told ofLine (c .before .before .before .before .v2 .given .1) (numbered (c .before .before .line-number .ensures) (c .before .line-spot .ensures) (c .refused .ensures))
 
 pub of-line-spec : {M : Type 1} → statement M
 of-line-spec =
@@ -35,8 +35,8 @@ of-line-spec =
     enum-known-v
     accepted-requires
     enum-known-v-2
-    line-number-of-requires
-    line-spot-of-requires
+    line-number-requires
+    line-spot-requires
     refused-requires
     returns
     returns-2)

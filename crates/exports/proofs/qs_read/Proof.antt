@@ -17,11 +17,11 @@ of-program-requires c κs = accepted-stored (now (c .before .before .before .bef
 enum-known-v : tie.Need-enum-known-v
 enum-known-v c = search needs
 
-number-of-requires : tie.Need-number-of-requires
-number-of-requires c κs = search needs
+text-number-requires : tie.Need-text-number-requires
+text-number-requires c κs = search needs
 
-spot-of-requires : tie.Need-spot-of-requires
-spot-of-requires c κs = search needs
+text-spot-requires : tie.Need-text-spot-requires
+text-spot-requires c κs = search needs
 
 refused-requires : tie.Need-refused-requires
 refused-requires c κs = search needs
@@ -30,7 +30,7 @@ returns : tie.Need-returns
 returns c = reading-told (now (c .before .before .before .before .before .args .text)) (c .before .before .before .read .ensures) (c .before .enum-told .given .1) (c .of-program .ensures)
 
 returns-2 : tie.Need-returns-2
-returns-2 c = reading-told (now (c .before .before .before .before .before .before .before .before .args .text)) (c .before .before .before .before .before .before .read .ensures) (c .before .before .before .before .v .given .1) (numbered (c .before .before .number-of .ensures) (c .before .spot-of .ensures) (c .refused .ensures))
+returns-2 c = reading-told (now (c .before .before .before .before .before .before .before .before .args .text)) (c .before .before .before .before .before .before .read .ensures) (c .before .before .before .before .v .given .1) (numbered (c .before .before .text-number .ensures) (c .before .text-spot .ensures) (c .refused .ensures))
 
 pub qs-read-spec : {M : Type 1} → statement M
 qs-read-spec =
@@ -40,8 +40,8 @@ qs-read-spec =
     enum-told
     of-program-requires
     enum-known-v
-    number-of-requires
-    spot-of-requires
+    text-number-requires
+    text-spot-requires
     refused-requires
     returns
     returns-2)

@@ -1,41 +1,58 @@
-use Rattle.clause_text.specs.Lines.{refusedText}
-use Rattle.files.proofs.Begun.{begins-counts}
-use Rattle.clause_text.proofs.Parts.{refused-small}
+use lib.ListN.{length}
+use mathlib.Core.Path.{_∙_, ap, ap₂}
 use native.Mathlib.Omega.{arith}
+use Rattle.clause_text.proofs.Parts.{refused-small}
+use Rattle.files.proofs.Begun.{begins-counts}
+use Rattle.clause_text.specs.Lines.{refusedText}
 use borrow.Author.Needs.{needs}
 use Rattle.writer_output.proofs.say_refusal.Statement.{statement}
 use Rattle.writer_output.proofs.say_refusal.Tie as tie
+use Rattle.writer_output.proofs.say_refusal.Reads as reads
+use Rattle.writer_output.proofs.say_refusal.Lts as lts
+use Rattle.clause_text.proofs.put_refusal.Reads as put-refusal-reads
+use Rattle.io.proofs.write_all.Reads as write-all-reads
+use Rattle.refusals.proofs.text_number.Reads as text-number-reads
+use Rattle.refusals.proofs.text_spot.Reads as text-spot-reads
 
-number-of-requires : tie.Need-number-of-requires
-number-of-requires c κs = search needs
+-- src/lib.rt:36:25
+text-number-requires : tie.Need-text-number-requires
+text-number-requires c κs = search needs
 
-spot-of-requires : tie.Need-spot-of-requires
-spot-of-requires c κs = search needs
+-- src/lib.rt:36:41
+text-spot-requires : tie.Need-text-spot-requires
+text-spot-requires c κs = search needs
 
+-- src/lib.rt:36:55
 slice-aggregate-put-refusal : tie.Need-slice-aggregate-put-refusal
 slice-aggregate-put-refusal c = search needs
 
+-- src/lib.rt:36:9
 put-refusal-requires : tie.Need-put-refusal-requires
-put-refusal-requires c κs = omega (arith, refused-small (c .before .before .number-of .result) (c .before .spot-of .result) (omega (arith, c .before .before .number-of .ok)) (omega (arith, c .before .spot-of .ok)))
+put-refusal-requires c κs =
+    omega (arith, refused-small (c .before .before .text-number .result) (c .before .text-spot .result) (omega (arith, c .before .before .text-number .ok)) (omega (arith, c .before .text-spot .ok)))
 
+-- src/lib.rt:37:22
 array-share-prefix-out : tie.Need-array-share-prefix-out
-array-share-prefix-out c = begins-counts _ (refusedText (c .before .before .before .before .number-of .result) (c .before .before .before .spot-of .result)) (c .before .put-refusal .ensures) .0
+array-share-prefix-out c = begins-counts _ (refusedText (c .before .before .before .before .text-number .result) (c .before .before .before .text-spot .result)) (c .before .put-refusal .ensures) .0
 
+-- src/lib.rt:37:22
 slice-aggregate-write-all : tie.Need-slice-aggregate-write-all
-slice-aggregate-write-all c = begins-counts _ (refusedText (c .before .before .before .before .before .number-of .result) (c .before .before .before .before .spot-of .result)) (c .before .before .put-refusal .ensures) .1
+slice-aggregate-write-all c = begins-counts _ (refusedText (c .before .before .before .before .before .text-number .result) (c .before .before .before .before .text-spot .result)) (c .before .before .put-refusal .ensures) .1
 
+-- src/lib.rt:37:5
 write-all-requires : tie.Need-write-all-requires
 write-all-requires c κs = search needs
 
+-- src/lib.rt:32:1
 returns : tie.Need-returns
-returns c = search needs
+returns c = c .before .before .before .put-refusal .ensures .0 ∙ ap length (ap₂ refusedText (c .before .before .before .before .before .before .text-number .ensures) (c .before .before .before .before .before .text-spot .ensures))
 
 pub say-refusal-spec : {M : Type 1} → statement M
 say-refusal-spec =
     tie.close
     (tie.spec
-    number-of-requires
-    spot-of-requires
+    text-number-requires
+    text-spot-requires
     slice-aggregate-put-refusal
     put-refusal-requires
     array-share-prefix-out

@@ -1,0 +1,48 @@
+-- What the writer hands over, by the reader's answer.
+--   accepted-output, refused-output   for a text of which the front and the length are known
+--   front-output                      the first 65,537 bytes and the length are enough
+--   writer-lists, writer-refuses      for any text: the clause file of the program that it admits, or the line of the row that is answered
+-- Assumes nothing.
+use Prim.Native.Nat.{ℕ}
+use mathlib.Core.Path.{_≡_, sym, _∙_, ap, ap₂}
+use mathlib.Core.List.{List}
+use lib.ListN.{length, take}
+use Rattle.refusals.specs.declared.TextRefusal.{TextRefusal}
+use Rattle.meaning.specs.Program.{Program}
+use Rattle.text.specs.Limits.{Admitted}
+use Rattle.program.specs.Arrays.{decoded}
+use Rattle.program.proofs.Decode.{decoded-kept}
+use Rattle.reader.specs.declared.Reading.{Reading}
+use Rattle.reader.specs.declared.ReadVerdict.{ReadVerdict}
+use Rattle.reader.specs.declared.ReadVerdict.the-variants.{Accepted, Refused}
+use Rattle.reader.specs.Verdict.{readOf}
+use Rattle.reader.specs.Counted.{countedOf}
+use Rattle.reader.proofs.Counted.{counted-whole}
+use Rattle.reader_laws.specs.Row.{Answers}
+use Rattle.reader_laws.proofs.Contents.{admitted-answer}
+use Rattle.clause_text.specs.Lines.{refusedText}
+use Rattle.writer_output.specs.Output.{clauseFile, refusedLine, verdictText, outputOf, outputText, writerText}
+
+module _ (f : List ℕ) (k : ℕ) {r : Reading} (e : r ≡ countedOf f k) where
+  by-verdict : {v : ReadVerdict} → r .verdict ≡ v → verdictText v (clauseFile (decoded (r .program))) ≡ outputText f k
+  unfolding outputText outputOf
+  by-verdict h = ap (λ (v : ReadVerdict). verdictText v (clauseFile (decoded (r .program)))) (sym h) ∙ ap outputOf e
+
+  pub accepted-output : r .verdict ≡ Accepted → clauseFile (decoded (r .program)) ≡ outputText f k
+  accepted-output h = by-verdict h
+
+  pub refused-output : {x : TextRefusal} → r .verdict ≡ Refused x → refusedLine (r .verdict) ≡ outputText f k
+  refused-output h = ap refusedLine h ∙ by-verdict h
+
+pub front-output : (t : List ℕ) → outputText (take 65537 t) (length t) ≡ writerText t
+unfolding outputText writerText
+front-output t = ap outputOf (counted-whole t)
+
+pub writer-lists : (t : List ℕ) (P : Program) → Admitted t P → writerText t ≡ clauseFile P
+unfolding writerText outputOf
+writer-lists t P a = ap outputOf (admitted-answer t P a) ∙ ap clauseFile (decoded-kept P)
+
+pub writer-refuses : (t : List ℕ) (r s : ℕ) → Answers t r s → writerText t ≡ refusedText r s
+unfolding writerText outputOf
+writer-refuses t r s a =
+    ap (λ (v : ReadVerdict). verdictText v (clauseFile (decoded (readOf t .program)))) (a .verdict-is) ∙ ap₂ refusedText (a .row-is) (a .spot-is)

@@ -1,0 +1,69 @@
+-- The writer's output (document 01, "Programs").
+--   clauseFile P        all lines of the clause file of P, joined
+--   fileBefore P j      those before line j
+--   refusedLine v       the line of a refusal, nothing for an accepted text
+--   outputOf r          the output for what the reader gave, r
+--   outputText t k      the output for the program text of k bytes, of which t is all or the front
+--   writerText t        the output for the program text t
+--   Stands P t c n      the output stands at place c, before a line or at the end, and n bytes of the clause file have been handed over
+--   PartPut P t c n b q l   where the output stands at c with n bytes, the part q put into the buffer b, which leaves l, brings it to the place after q
+-- Assumes nothing.
+use Prim.Native.Nat.{ℕ, suc, _+_, _*_, _≤_, _<_}
+use mathlib.Core.Path.{_≡_}
+use mathlib.Core.List.{List, []}
+use lib.ListN.{length, take}
+use Rattle.lists.specs.Lists.{joined}
+use Rattle.meaning.specs.Program.{Program}
+use Rattle.program.specs.Arrays.{decoded}
+use Rattle.refusals.specs.Numbers.{textNumber, textSpot}
+use Rattle.reader.specs.declared.Reading.{Reading}
+use Rattle.reader.specs.declared.ReadVerdict.{ReadVerdict}
+use Rattle.reader.specs.declared.ReadVerdict.the-variants.{Accepted, Refused}
+use Rattle.reader.specs.Verdict.{readOf}
+use Rattle.reader.specs.Counted.{countedOf}
+use Rattle.clause_text.specs.Lines.{refusedText}
+use Rattle.clause_tables.specs.declared.Totals.{Totals}
+use Rattle.clause_places.specs.declared.Place.{Place}
+use Rattle.clause_places.specs.Places.{placeAt}
+use Rattle.io.specs.Counts.{Counts}
+use Rattle.clause_runs.specs.declared.Part.{Part}
+use Rattle.clause_runs.specs.Lines.{linesOf, partIn, runBytesIn}
+
+abbrev pub clauseFile : Program → List ℕ
+clauseFile P = joined (linesOf P)
+
+abbrev pub fileBefore : Program → ℕ → List ℕ
+fileBefore P j = joined (take j (linesOf P))
+
+abbrev pub refusedLine : ReadVerdict → List ℕ
+refusedLine Accepted = []
+refusedLine (Refused r) = refusedText (textNumber r) (textSpot r)
+
+abbrev pub verdictText : ReadVerdict → List ℕ → List ℕ
+verdictText Accepted file = file
+verdictText (Refused r) file = refusedLine (Refused r)
+
+unfoldable pub outputOf : Reading → List ℕ
+outputOf r = verdictText (r .verdict) (clauseFile (decoded (r .program)))
+
+unfoldable pub outputText : List ℕ → ℕ → List ℕ
+outputText t k = outputOf (countedOf t k)
+
+unfoldable pub writerText : List ℕ → List ℕ
+writerText t = outputOf (readOf t)
+
+pub record Stands (P : Program) (t : Totals) (c : Place) (n : ℕ) : Type 0 where
+  pub placed : c ≡ placeAt P (t .sizes .w) (c .number)
+  pub within : c .number ≤ suc (t .clauses)
+  pub handed : n ≡ length (fileBefore P (c .number))
+  -- a part has at most 65,536 bytes and at least one line
+  pub bounded : n ≤ 65536 * c .number
+
+pub record PartPut (P : Program) (t : Totals) (c : Place) (n : ℕ) (b : List ℕ) (q : Part) (l : List ℕ) : Type 0 where
+  -- the lines from place c on that fit the buffer, at its front
+  pub part-is : q ≡ partIn P (t .sizes .w) (c .number) (length b)
+  pub bytes-are : l ≡ runBytesIn P (c .number) b
+  pub counts : Counts (q .bytes) l
+  -- there is at least one, and with their bytes the output stands after them
+  pub onward : c .number < q .place .number
+  pub stands : Stands P t (q .place) (n + q .bytes)
