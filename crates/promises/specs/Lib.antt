@@ -1,0 +1,2 @@
+-- Promised: what is promised, as one record of statements
+pub mod Promised
