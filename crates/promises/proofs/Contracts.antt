@@ -3,7 +3,7 @@
 --   contracts   the reader, the lines, the check, filling out, the numbers and spots of refusals, what the two programs read and print, the calls for
 --               other languages
 --   working     working material: what ties definitions that the code alone uses to those of specs/Promised.antt. No promise speaks of them.
--- What `files` reads goes through the C library, whose contracts are axioms of the kit (specs/Promised.antt).
+-- What `files` reads and `writer_output` hands over goes through the C library, whose contracts are axioms of the kit (specs/Promised.antt).
 use Prim.Native.Nat.{ℕ, zero, pred, _-_, _≤_, _<_}
 use mathlib.Core.Path.{_≡_}
 use mathlib.Core.Logic.{_↔_}
@@ -38,6 +38,7 @@ use Rattle.call_check.specs.Check.{readResult}
 use Rattle.call_check.proofs as call-check
 use Rattle.call_fill.proofs as call-fill
 use Rattle.files.proofs as files
+use Rattle.writer_output.proofs as writer-output
 use Rattle.checker_output.proofs as checker-output
 use Rattle.exports.proofs as exports
 
@@ -70,6 +71,8 @@ pub record Contracts (M : Type 1) : Type 2 where
   pub fill-spot : refusals.fill_spot.Statement.statement M
   -- what the checker prints, at the front of a buffer: `outputText`; the bytes after it stay
   pub put-output : checker-output.put_output.Statement.statement M
+  -- the writer hands its output over part after part, and returns how many bytes that is: the length of `outputText`
+  pub say-output : writer-output.say_output.Statement.statement M
   -- what is counted of an input after one read more: `readOn`
   pub read-on : files.read_on.Statement.statement M
   -- what is kept and counted of an open file, and of one by its name: by `readOn` for some reads, the last of which met the end
@@ -101,6 +104,7 @@ contracts M =
       fill-number = refusals.fill_number.Met.met;
       fill-spot = refusals.fill_spot.Met.met;
       put-output = checker-output.put_output.Met.met;
+      say-output = writer-output.say_output.Met.met;
       read-on = files.read_on.Met.met;
       read-open = files.read_open.Met.met;
       read-file = files.read_file.Met.met;

@@ -1,13 +1,19 @@
 -- What is promised is proved: `proved` is the one term of the record `Promised` (specs/Promised.antt). Where a field takes more than the name of a law of
 -- another crate, its proof stands above it, section by section.
-use Prim.Native.Nat.{ℕ, _+_, _^_, _≤_}
-use mathlib.Core.Path.{_≡_, sym, _∙_, ap}
-use mathlib.Core.Bool.{So}
-use mathlib.Core.List.{List}
-use lib.ListN.{length}
+use Prim.Native.Nat.{ℕ, zero, suc, pred, _+_, _-_, _^_, _≤_, _<_}
+use native.Mathlib.Omega.{arith}
+use mathlib.Core.Path.{_≡_, refl, sym, _∙_, ap, ap₂, subst}
+use mathlib.Core.Bool.{Bool, So, cond}
+use mathlib.Core.List.{List, [], _∷_}
+use lib.ListN.{length, take, drop, length-map}
+use lib.Seq.{ext-getD, take-add, take-all, drop-cons}
+use borrow.Author.Tests.{le-leb}
+use Rattle.lists.specs.Lists.{tab, joined}
+use Rattle.lists.proofs.Tables.{length-tab, getD-tab}
 use Rattle.meaning.specs.Program.{Program, Atoms, wellFormed}
 use Rattle.meaning.specs.Stage.{Definite, reduct, Stable, level}
 use Rattle.encoding.specs.Width.{width}
+use Rattle.encoding.specs.Clauses.{clauses}
 use Rattle.theory.proofs.LeastModel.{union-model, union-least, first-stage-unique}
 use Rattle.theory.proofs.Decided as Decided
 use Rattle.theory.proofs.LevelNumberings.{stable-level-numbering, level-numbering-stable, level-numbering-unique}
@@ -20,14 +26,19 @@ use Rattle.text.specs.Limits.{Limits, Admitted}
 use Rattle.program.specs.Arrays.{decoded}
 use Rattle.program.proofs.Decode.{decoded-kept}
 use Rattle.reader.specs.declared.Reading.{Reading}
+use Rattle.reader.specs.declared.ReadVerdict.{ReadVerdict}
 use Rattle.reader.specs.declared.ReadVerdict.the-variants.{Accepted}
 use Rattle.reader.specs.Verdict.{readOf}
 use Rattle.reader.proofs.Counted.{counted-whole}
+use Rattle.reader_laws.specs.Row.{Answers}
 use Rattle.reader_laws.proofs.Spot as TextSpot
 use Rattle.reader_laws.proofs.Unique.{text-unique}
 use Rattle.reader_laws.proofs.Rows.{first-unique, answers-first, first-answers, accepted-none, none-accepted, answers-malformed, answers-breach}
 use Rattle.reader_laws.proofs.Contents.{accepted-admitted, admitted-answer, refused-empty}
 use Rattle.clause_table_laws.proofs.Bounds.{variables-fit, clauses-fit}
+use Rattle.clause_text.specs.Lines.{refusedText}
+use Rattle.clause_runs.specs.Lines.{clauseTotal, linesOf, lineOf, fitting, runIn}
+use Rattle.clause_runs.proofs.Runs.{joined-append}
 use Rattle.call_lines.proofs.File as File
 use Rattle.call_lines.proofs.Rows.{answers-line-first, first-line-answers, first-line-unique, written-none, none-written}
 use Rattle.call_lines.proofs.Calls.{line-stays, line-writes, run-refused-as, run-stays, run-writes}
@@ -43,11 +54,12 @@ use Rattle.call_fill.proofs.Written.{fill-accepted, fill-kept}
 use Rattle.correspondence.proofs.Correspond as Correspond
 use Rattle.correspondence.proofs.Gaps.{check-gaps, fill-gaps}
 use Rattle.correspondence.proofs.Texts.{checked-exactly, line-prints, level-bytes, level-of-false, fills-exactly}
+use Rattle.writer_output.specs.Output.{clauseFile, verdictText, outputOf, outputText, writerText}
 use Rattle.checker_output.proofs.Shown.{output-whole}
 use Rattle.checker_output.proofs.Printed.{checker-refuses, checker-shows}
 use Rattle.exports.proofs.Zero as Zero
 use Rattle.promises.specs.Promised.{LeastModel, Stability, LevelNumbers, HighestLevel, Width, ClauseList, Demand3, ProgramText, ClauseFile}
-use Rattle.promises.specs.Promised.{LineCall, RunCall, AnswerText, CheckCall, CheckerOutput, FillCall, TextDemand3, LeftOut}
+use Rattle.promises.specs.Promised.{LineCall, RunCall, WriterOutput, WriterParts, AnswerText, CheckCall, CheckerOutput, FillCall, TextDemand3, LeftOut}
 use Rattle.promises.specs.Promised.{LevelsWithoutGaps, ZeroAccepts, Promised}
 
 -- ---- 1 Meaning
@@ -134,11 +146,27 @@ program-text t =
 
 -- ---- 5 The clause file
 
+lines-count : (P : Program) → Limits P → length (linesOf P) ≡ suc (clauseTotal P)
+unfolding linesOf
+lines-count P L = ap suc (length-map (clauses P (width (P .atoms))) _ ∙ sym (File.clause-total P L))
+
+all-lines : (P : Program) → Limits P → linesOf P ≡ tab (suc (clauseTotal P)) (λ i. lineOf P (pred i))
+all-lines P L =
+    ext-getD [] (linesOf P) (tab lines line) (lines-count P L ∙ sym (length-tab lines line))
+    (λ i h. sym (getD-tab lines line [] i (subst (λ (k : ℕ). i < k) (lines-count P L) h)))
+  where
+    lines : ℕ
+    lines = suc (clauseTotal P)
+
+    line : ℕ → List ℕ
+    line i = lineOf P (pred i)
+
 clause-file : (P : Program) → Limits P → ClauseFile P
 clause-file P L =
     record {
       header = File.header-line P;
       clause-line = File.clause-line P L;
+      all-lines = all-lines P L;
       clause-total = File.clause-total P L;
       few-variables = variables-fit P L;
       few-clauses = clauses-fit P L;
@@ -157,6 +185,40 @@ line-call t j k b =
 
 run-call : (t : List ℕ) (j : ℕ) (b : List ℕ) → RunCall t j b
 run-call t j b = record { refused = run-refused-as t j (length b); stays = run-stays t j b; written = run-writes t j b }
+
+writer-refuses : (t : List ℕ) (r s : ℕ) → Answers t r s → writerText t ≡ refusedText r s
+unfolding writerText outputOf
+writer-refuses t r s w =
+    ap (λ (v : ReadVerdict). verdictText v (clauseFile (decoded (readOf t .program)))) (w .verdict-is) ∙ ap₂ refusedText (w .row-is) (w .spot-is)
+
+writer-writes : (t : List ℕ) (P : Program) → Admitted t P → writerText t ≡ clauseFile P
+unfolding writerText outputOf
+writer-writes t P A = ap outputOf (admitted-answer t P A) ∙ ap clauseFile (decoded-kept P)
+
+writer-whole : (t : List ℕ) → outputText (take 65537 t) (length t) ≡ writerText t
+unfolding outputText writerText
+writer-whole t = ap outputOf (counted-whole t)
+
+writer-output : (t : List ℕ) → WriterOutput t
+writer-output t = record { refused = writer-refuses t; written = writer-writes t; front = writer-whole t }
+
+-- as many lines as fit, if the first line does
+fits-some : (n : ℕ) (l : List ℕ) (ls : List (List ℕ)) → length l ≤ n → zero < fitting n (l ∷ ls)
+fits-some n l ls h = subst (λ (d : Bool). zero < cond d (suc (fitting (n - length l) ls)) 0) (sym (le-leb (length l) n h)) (omega arith)
+
+writer-parts : (P : Program) → Limits P → WriterParts P
+writer-parts P L =
+    record {
+      at-first = refl;
+      next-part = λ j.
+          sym
+          (ap joined (take-add j (fitting 65536 (drop j (linesOf P))) (linesOf P))
+          ∙ joined-append (take j (linesOf P)) (runIn P j 65536));
+      some-line = λ j h.
+          subst (λ (ls : List (List ℕ)). zero < fitting 65536 ls) (sym (drop-cons (linesOf P) j [] (omega (arith, h, lines-count P L))))
+          (fits-some 65536 (lineOf P j) (drop (suc j) (linesOf P)) (omega (arith, File.short-lines P L j h)));
+      at-last = λ j h. ap joined (take-all j (linesOf P) (omega (arith, h, lines-count P L)));
+    }
 
 -- ---- 6 Solver answers
 
@@ -266,6 +328,8 @@ proved =
       clause-file = clause-file;
       line-call = line-call;
       run-call = run-call;
+      writer-output = writer-output;
+      writer-parts = writer-parts;
       answer-text = answer-text;
       check-call = check-call;
       checker-output = checker-output;

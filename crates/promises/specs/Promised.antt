@@ -4,7 +4,7 @@
 --   2  Encoding: width, variables and clauses (document 01, "Variables" and "Clauses, in order")
 --   3  Demand 3 for assignments: stable models and satisfying assignments correspond, one to one
 --   4  Demand 1 for program texts: what the reader answers to any bytes (document 01, "Program text" and rows 1 to 7)
---   5  The clause file: its lines, what the line call and the call for a run of lines answer and write (rows 8 and 9)
+--   5  The clause file: its lines, what the line call and the call for a run of lines answer and write (rows 8 and 9), and what the writer hands over
 --   6  Solver answers: the form, where a text leaves it, and the literals (document 01, "Solver answer")
 --   7  The check: what it answers and writes (rows 8, 10 to 14 and 16), and what the checker prints
 --   8  Filling out: what it answers and writes (rows 8, 17 and 18)
@@ -17,10 +17,11 @@
 -- Letters: P is a program, n the number of its atoms, w a width, V and C the numbers of variables and clauses, M a set of atoms, a an atom, t a program text,
 -- u an answer, xs literals with the indices of their first bytes, s a spot or a set as bytes, b and l lent buffers, j a line's number, r a row of document
 -- 01's table.
--- Nothing is assumed. The hypotheses of sections 1 to 3 and of `of-model` are met by every well-formed program, those of `clause-file` and section 9 by the
--- program of every accepted text; the other statements hold for any bytes and for the literals of any answer. Only the two programs read files and write to an
--- output, through the C library's functions (open, read, write, close), whose contracts are axioms of the kit. What a file holds, and what becomes of the
--- bytes that are handed over, is in no statement: that about the checker is about the bytes that it makes of what it has read, `checkerText`.
+-- Nothing is assumed. The hypotheses of sections 1 to 3 and of `of-model` are met by every well-formed program, those of `clause-file`, `writer-parts` and
+-- section 9 by the program of every accepted text; the other statements hold for any bytes and for the literals of any answer. Only the two programs read
+-- files and write to an output, through the C library's functions (open, read, write, close), whose contracts are axioms of the kit. What a file holds, and
+-- what becomes of the bytes that are handed over, is in no statement: those about the programs are about the bytes that they make of what they have read,
+-- `writerText` and `checkerText`.
 use Prim.Native.Nat.{ℕ, zero, suc, pred, _+_, _-_, _^_, _%_, _≤_, _<_}
 use mathlib.Core.Path.{_≡_}
 use mathlib.Core.Logic.{_↔_, _⊎_}
@@ -29,7 +30,7 @@ use mathlib.Core.List.{List, [], _++_}
 use lib.Count.{leadingZeros}
 use lib.Dec.{eqb, ltb}
 use lib.ListN.{length, getD, take, drop, replicate}
-use Rattle.lists.specs.Lists.{all, sum, highest}
+use Rattle.lists.specs.Lists.{all, tab, joined, sum, highest}
 use Rattle.meaning.specs.Program.{Program, Atoms, isAtom, wellFormed}
 use Rattle.meaning.specs.Stage.{Definite, reduct, InUnion, Stable, FirstStage, leastModel, level, differ}
 use Rattle.meaning.specs.Numbering.{IsModel, LevelNumbering}
@@ -52,7 +53,7 @@ use Rattle.reader_laws.specs.Breach.{Breach}
 use Rattle.reader_laws.specs.Row.{Row, FirstRow, Answers}
 use Rattle.digits.specs.Bytes.{lineText}
 use Rattle.clause_text.specs.Lines.{headerText, refusedText}
-use Rattle.clause_runs.specs.Lines.{clauseTotal, lineOf}
+use Rattle.clause_runs.specs.Lines.{clauseTotal, linesOf, lineOf, fitting, runIn}
 use Rattle.call_lines.specs.declared.LineVerdict.the-variants.{Written, Refused as LineRefused}
 use Rattle.call_lines.specs.declared.RunVerdict.the-variants.{WrittenRun, RefusedRun}
 use Rattle.call_lines.specs.Lines.{lineAnswer, lineBytes, runAnswer, runBytes}
@@ -72,7 +73,10 @@ use Rattle.call_fill.specs.declared.FillVerdict.the-variants.{Filled, Refused a
 use Rattle.call_fill.specs.FillOut.{fillAnswer, fillAssignment, fillLevels}
 use Rattle.call_fill.specs.Rows.{FillRow, FirstFillRow, FillAnswers, FillAccepts, Fills}
 use Rattle.correspondence.specs.Accepted.{AcceptedAssignment, Room, CheckWrites, setBytes, SetOf}
-use Rattle.checker_output.specs.Output.{outputText, checkerText, PrintsModel}
+use Rattle.writer_output.specs.Output.{writerText}
+use Rattle.writer_output.specs.Output as Writer
+use Rattle.checker_output.specs.Output.{checkerText, PrintsModel}
+use Rattle.checker_output.specs.Output as Checker
 use Rattle.exports.specs.Replies.{readReply, lineReply, runReply, checkReply, fillReply}
 
 -- ---- 1 Meaning
@@ -191,6 +195,8 @@ pub record ClauseFile (P : Program) : Type 0 where
   pub header : lineOf P 0 ≡ headerText (variables P (width (P .atoms))) (clauseTotal P)
   -- line j, from 1 to C, is the print of clause j: each literal followed by one space, then 0 and byte 10
   pub clause-line : (j : ℕ) → zero < j → j ≤ clauseTotal P → lineOf P j ≡ lineText (getD (clauses P (width (P .atoms))) (pred j) [])
+  -- there are no other lines
+  pub all-lines : linesOf P ≡ tab (suc (clauseTotal P)) (λ i. lineOf P (pred i))
   -- C, by its formula, is the number of clauses
   pub clause-total : clauseTotal P ≡ length (clauses P (width (P .atoms)))
   -- at most 9,890 variables and 53,690 clauses, and no line passes 3,008 bytes
@@ -218,6 +224,26 @@ pub record RunCall (t : List ℕ) (j : ℕ) (b : List ℕ) : Type 0 where
   pub stays : (r : LineRefusal) → runAnswer t j (length b) ≡ RefusedRun r → runBytes t j b ≡ b
   -- accepted, it writes m lines, those that the line call writes for j, j + 1, .., one after the other, and as many as fit; the other bytes stay
   pub written : (m x : ℕ) → runAnswer t j (length b) ≡ WrittenRun m x → (P : Program) → Admitted t P → RunWritten P j b m x (runBytes t j b)
+
+-- what the writer program hands to its output, all parts joined, for the program text t
+pub record WriterOutput (t : List ℕ) : Type 0 where
+  -- where the reader refuses with row r and spot s, "(refused r s)"
+  pub refused : (r s : ℕ) → Answers t r s → writerText t ≡ refusedText r s
+  -- where it accepts, the whole clause file: all lines of its program, from line 0 on
+  pub written : (P : Program) → Admitted t P → writerText t ≡ Writer.clauseFile P
+  -- the first 65,537 bytes of the text and its length give the same
+  pub front : Writer.outputText (take 65537 t) (length t) ≡ writerText t
+
+-- the parts in which it hands over a clause file, each as many whole lines as fit 65,536 bytes; `fileBefore P j` are the lines before line j, joined
+pub record WriterParts (P : Program) : Type 0 where
+  -- at first nothing has been handed over
+  pub at-first : Writer.fileBefore P 0 ≡ []
+  -- where the lines before line j have been, the part of the lines from j on that fit is next, and then the lines before the one after them have been
+  pub next-part : (j : ℕ) → Writer.fileBefore P j ++ joined (runIn P j 65536) ≡ Writer.fileBefore P (j + fitting 65536 (drop j (linesOf P)))
+  -- a part has at least one line
+  pub some-line : (j : ℕ) → j ≤ clauseTotal P → zero < fitting 65536 (drop j (linesOf P))
+  -- past line C all of the clause file has been handed over
+  pub at-last : (j : ℕ) → clauseTotal P < j → Writer.fileBefore P j ≡ Writer.clauseFile P
 
 -- ---- 6 Solver answers: the bytes u are any
 
@@ -258,7 +284,7 @@ pub record CheckerOutput (t u : List ℕ) : Type 0 where
   -- numbers
   pub shown : (k h c : ℕ) → checkAnswer t u 9890 126 ≡ Model k h c → PrintsModel t u c
   -- the first 65,537 bytes of each and its length give the same
-  pub front : outputText (take 65537 t) (length t) (take 65537 u) (length u) ≡ checkerText t u
+  pub front : Checker.outputText (take 65537 t) (length t) (take 65537 u) (length u) ≡ checkerText t u
 
 -- ---- 8 Filling out: the program text t, the set s, the buffers b for the assignment and l for the levels are any
 
@@ -403,6 +429,10 @@ pub record Promised : Type 1 where
   pub line-call : (t : List ℕ) (j k : ℕ) (b : List ℕ) → LineCall t j k b
   -- 5: the call for a run of lines, for any bytes
   pub run-call : (t : List ℕ) (j : ℕ) (b : List ℕ) → RunCall t j b
+  -- 5: all that the writer hands to its output, for any bytes
+  pub writer-output : (t : List ℕ) → WriterOutput t
+  -- 5: the parts in which it hands over the clause file of every program within the limits
+  pub writer-parts : (P : Program) → Limits P → WriterParts P
   -- 6: solver answers, for any bytes
   pub answer-text : (u : List ℕ) → AnswerText u
   -- 7: the check, for any bytes
