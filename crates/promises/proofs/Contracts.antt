@@ -7,8 +7,9 @@
 use Prim.Native.Nat.{ℕ, zero, pred, _-_, _≤_, _<_}
 use mathlib.Core.Path.{_≡_}
 use mathlib.Core.Logic.{_↔_}
+use mathlib.Core.Bool.{Bool}
 use mathlib.Core.List.{List, []}
-use lib.ListN.{length, getD, take}
+use lib.ListN.{length, getD, take, replicate}
 use Rattle.meaning.specs.Program.{Program, Atoms}
 use Rattle.meaning.specs.Stage.{reduct}
 use Rattle.encoding.specs.Width.{width}
@@ -31,9 +32,12 @@ use Rattle.answer_form.specs.Reading.{IsModel}
 use Rattle.answer_reader.specs.declared.Formed.the-variants.{Model, NoModel, Malformed as LeftForm}
 use Rattle.answer_reader.specs.Results.{formOf}
 use Rattle.answer_reader.proofs.Promised as Form
-use Rattle.answer_values.specs.Assign.{Outcome, literalsFrom, literalAt, variableAt, Unnamed, assignedOf, assignedBytes, filledWith, valueOf}
+use Rattle.answer_values.specs.Assign.{Outcome, literalsFrom, literalAt, variableAt, Unnamed, unnamedCount, assignedOf, assignedBytes, unsetCount, completed}
+use Rattle.answer_values.specs.Assign.{filledWith, valueOf}
 use Rattle.answer_values.specs.Rows.{AllFit, StrayAt, RepeatedAt}
 use Rattle.answer_values.proofs.Rows as Assigned
+use Rattle.answer_offers.specs.Offered.{valueBytes, valuesOf, Completes}
+use Rattle.answer_offers.proofs.Values.{values-complete, values-alone, values-unique}
 use Rattle.call_check.specs.Check.{readResult}
 use Rattle.call_check.proofs as call-check
 use Rattle.call_fill.proofs as call-fill
@@ -147,6 +151,16 @@ pub record Assigning (t : List ℕ) (p n : ℕ) (b : List ℕ) : Type 0 where
       → getD (assignedBytes n (literalsFrom t p) (filledWith n 2 b)) (variableAt (literalsFrom t p) k - 1) 0 ≡ valueOf (literalAt (literalsFrom t p) k)
   -- and that of a variable that none names stays 2
   pub unnamed : (v : ℕ) → zero < v → v ≤ n → Unnamed (literalsFrom t p) v → getD (assignedBytes n (literalsFrom t p) (filledWith n 2 b)) (v - 1) 0 ≡ 2
+  -- as many stay 2 as variables from 1 to n that no literal names
+  pub counted : AllFit n (literalsFrom t p) → unsetCount n (assignedBytes n (literalsFrom t p) (filledWith n 2 b)) ≡ unnamedCount n (literalsFrom t p)
+
+-- literals from position p on that give no variable twice and none above n
+pub record Completing (t : List ℕ) (p n : ℕ) : Type 0 where
+  -- their values, a variable that none names read as false, are a completed assignment, and the only one
+  pub completes : Completes n (literalsFrom t p) (valuesOf n (literalsFrom t p))
+  pub one-completion : (bs : List Bool) → Completes n (literalsFrom t p) bs → bs ≡ valuesOf n (literalsFrom t p)
+  -- these are the bytes that the reader leaves, each 2 read as 0
+  pub bytes : completed (assignedBytes n (literalsFrom t p) (replicate n 2)) ≡ valueBytes (valuesOf n (literalsFrom t p))
 
 pub record Working : Type 0 where
   -- the walk by which code yields the clauses, by group, item, block, clause and slot, gives the clause list
@@ -154,9 +168,12 @@ pub record Working : Type 0 where
   -- code finds clause j at place j of the walk
   pub placed : (P : Program) → Limits P → (j : ℕ) → zero < j → j ≤ clauseTotal P
       → clauseIn P (width (P .atoms)) (placeAt P (width (P .atoms)) j .spot) ≡ getD (clauses P (width (P .atoms))) (pred j) []
+  -- the theory's definitions are document 01's
   pub general : (P : Program) (w : ℕ) → General P w
+  -- an answer is read by its form, then literal by literal into a buffer of bytes, and completed
   pub answer-form : (t : List ℕ) → AnswerForm t
   pub assigning : (t : List ℕ) (p n : ℕ) (b : List ℕ) → Assigning t p n b
+  pub completing : (t : List ℕ) (p n : ℕ) → AllFit n (literalsFrom t p) → Completing t p n
   -- the first 65,537 bytes of an answer and its length give the result of the whole answer
   pub counted-answer : (x : Reading) (u : List ℕ) (a l : ℕ) → readResult x (take 65537 u) (length u) a l ≡ readResult x u (length u) a l
 
@@ -181,6 +198,16 @@ module _ (t : List ℕ) (p n : ℕ) where
         done = (Assigned.assigned-done n (literalsFrom t p) b named, Assigned.done-assigned n (literalsFrom t p) b named);
         values = Assigned.named-value n (literalsFrom t p) b named;
         unnamed = Assigned.unnamed-value n (literalsFrom t p) b named;
+        counted = λ f. Assigned.unset-unnamed n (literalsFrom t p) named f b;
+      }
+
+  completing : AllFit n (literalsFrom t p) → Completing t p n
+  completing f =
+      let named = Assigned.literals-named t p in
+      record {
+        completes = values-complete n (literalsFrom t p) named f;
+        one-completion = values-unique n (literalsFrom t p) named f;
+        bytes = values-alone n (literalsFrom t p) named f;
       }
 
 pub working : Working
@@ -191,5 +218,6 @@ working =
       general = general;
       answer-form = answer-form;
       assigning = assigning;
+      completing = completing;
       counted-answer = checker-output.Shown.answer-whole;
     }

@@ -3,7 +3,8 @@
 use Prim.Native.Nat.{ℕ, zero, suc, pred, _+_, _-_, _^_, _≤_, _<_}
 use native.Mathlib.Omega.{arith}
 use mathlib.Core.Path.{_≡_, refl, sym, _∙_, ap, ap₂, subst}
-use mathlib.Core.Bool.{Bool, So, cond}
+use mathlib.Core.Logic.{_⊎_, inl, inr}
+use mathlib.Core.Bool.{Bool, true, false, So, cond, false≢true}
 use mathlib.Core.List.{List, [], _∷_}
 use lib.ListN.{length, take, drop, length-map}
 use lib.Seq.{ext-getD, take-add, take-all, drop-cons}
@@ -42,11 +43,14 @@ use Rattle.clause_runs.proofs.Runs.{joined-append}
 use Rattle.call_lines.proofs.File as File
 use Rattle.call_lines.proofs.Rows.{answers-line-first, first-line-answers, first-line-unique, written-none, none-written}
 use Rattle.call_lines.proofs.Calls.{line-stays, line-writes, run-refused-as, run-stays, run-writes}
+use Rattle.answer_form.specs.Answer.{Answer, proper, answerText, Status, OfStatus}
+use Rattle.answer_form.specs.Reading.{Spotted, spotsOf}
 use Rattle.answer_form.proofs.Spot as AnswerSpot
 use Rattle.answer_form.proofs.Unique.{answer-unique}
-use Rattle.answer_values.specs.Assign.{literalsFrom, filledWith}
-use Rattle.answer_values.proofs.Rows.{literals-named, unset-unnamed}
-use Rattle.answer_offers.proofs.Values.{values-complete, values-alone, values-unique}
+use Rattle.answer_values.specs.Assign.{filledWith}
+use Rattle.answer_offers.proofs.Values.{values-complete, values-unique}
+use Rattle.call_check.specs.Rows.{Offers}
+use Rattle.call_check.proofs.Spots.{offers-unique, offers-named}
 use Rattle.call_check.proofs.Verdicts.{answers-check-first, first-check-answers, first-check-unique, model-none, none-model}
 use Rattle.call_check.proofs.Buffers.{model-writes, assumed-rest, refused-zeroes, refused-keeps, refused-levels, never-15}
 use Rattle.call_fill.proofs.FirstRows.{fill-answers-first, first-fill-answers, first-fill-one, fill-accepts-none, none-fill-accepts}
@@ -222,6 +226,27 @@ writer-parts P L =
 
 -- ---- 6 Solver answers
 
+-- what an answer of the form says
+said : (u : List ℕ) (a : Answer) → So (proper a) → u ≡ answerText a → ((xs : List Spotted) × Offers u xs) ⊎ ((x : Status) × OfStatus u x)
+said u (Answer.model before lines last after) p e =
+    inl (
+      spotsOf (Answer.model before lines last after),
+      record { before = before; lines = lines; last = last; after = after; is-proper = p; its-text = e; literals-are = refl },
+    )
+said u (Answer.noModel before status rest) p e = inr (status, record { before = before; rest = rest; is-proper = p; its-text = e })
+
+abbrev offersModel : Answer → Bool
+offersModel (Answer.model before lines last after) = true
+offersModel (Answer.noModel before status rest) = false
+
+one-status : (u : List ℕ) (xs : List Spotted) (x : Status) → Offers u xs → OfStatus u x → ⊥
+one-status u xs x o w =
+    false≢true
+    (sym
+    (ap offersModel
+    (answer-unique (Answer.model (o .before) (o .lines) (o .last) (o .after)) (Answer.noModel (w .before) x (w .rest)) (o .is-proper) (w .is-proper)
+    (sym (o .its-text) ∙ w .its-text))))
+
 answer-text : (u : List ℕ) → AnswerText u
 answer-text u =
     record {
@@ -229,6 +254,9 @@ answer-text u =
       malformed-somewhere = AnswerSpot.formless-malformed u;
       one-spot = AnswerSpot.spot-unique u;
       form-at-none = λ f s. AnswerSpot.form-not-malformed u s f;
+      of-form = λ f. said u (f .answer) (f .is-proper) (f .its-text);
+      one-status = one-status u;
+      one-list = λ xs ys o w. offers-unique o w;
     }
 
 -- ---- 7 The check
@@ -290,10 +318,8 @@ accepted-demand3 t e = let a = accepted-admitted t e in (a .0, a .1, text-demand
 left-out : LeftOut
 left-out =
     record {
-      completes = λ t p n. values-complete n (literalsFrom t p) (literals-named t p);
-      one-completion = λ t p n. values-unique n (literalsFrom t p) (literals-named t p);
-      bytes = λ t p n. values-alone n (literalsFrom t p) (literals-named t p);
-      counted = λ t p n. unset-unnamed n (literalsFrom t p) (literals-named t p);
+      completes = λ u xs o n. values-complete n xs (offers-named o);
+      one-completion = λ u xs o n. values-unique n xs (offers-named o);
       of-check = assumed-rest;
       never-15 = never-15;
     }

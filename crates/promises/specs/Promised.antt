@@ -58,12 +58,11 @@ use Rattle.call_lines.specs.declared.LineVerdict.the-variants.{Written, Refused
 use Rattle.call_lines.specs.declared.RunVerdict.the-variants.{WrittenRun, RefusedRun}
 use Rattle.call_lines.specs.Lines.{lineAnswer, lineBytes, runAnswer, runBytes}
 use Rattle.call_lines.specs.Rows.{LineRow, FirstLineRow, LineAnswers, RunWritten}
-use Rattle.answer_form.specs.Answer.{Answer, proper, answerText}
+use Rattle.answer_form.specs.Answer.{Answer, proper, answerText, OfStatus}
 use Rattle.answer_form.specs.Answer as Solver
 use Rattle.answer_form.specs.Reading.{Spotted}
-use Rattle.answer_values.specs.Assign.{literalsFrom, unnamedCount, assignedBytes, unsetCount, completed, filledWith}
 use Rattle.answer_values.specs.Rows.{AllFit}
-use Rattle.answer_offers.specs.Offered.{valueBytes, valuesOf, Completes, offeredText}
+use Rattle.answer_offers.specs.Offered.{valuesOf, Completes, offeredText}
 use Rattle.call_results.specs.Results.{levelIn, varTotal}
 use Rattle.call_check.specs.declared.CheckVerdict.the-variants.{Model}
 use Rattle.call_check.specs.Check.{checkAnswer, checkAssignment, checkLevels}
@@ -162,7 +161,7 @@ pub record Demand3 (P : Program) (w : ℕ) : Type 0 where
 pub record ProgramText (t : List ℕ) : Type 0 where
   -- a text has the form, `HasForm`, if it is what `textOf` prints for some number of atoms and some rules over arbitrary numbers; no two programs have one text
   pub one-program : (P Q : Program) → t ≡ textOf P → t ≡ textOf Q → P ≡ Q
-  -- a text that has not the form is malformed at one spot, and a text of the form at none
+  -- a text that does not have the form is malformed at one spot, and a text of the form at none
   pub malformed-somewhere : (HasForm t → ⊥) → (s : ℕ) × Malformed t s
   pub one-spot : (s u : ℕ) → Malformed t s → Malformed t u → s ≡ u
   pub form-at-none : HasForm t → (s : ℕ) → Malformed t s → ⊥
@@ -250,10 +249,16 @@ pub record WriterParts (P : Program) : Type 0 where
 pub record AnswerText (u : List ℕ) : Type 0 where
   -- a text has the form, `HasForm`, if it is what `answerText` prints for some proper answer; no two proper answers have one text
   pub one-answer : (a b : Answer) → So (proper a) → So (proper b) → u ≡ answerText a → u ≡ answerText b → a ≡ b
-  -- a text that has not the form is malformed at one spot, and a text of the form at none
+  -- a text that does not have the form is malformed at one spot, and a text of the form at none
   pub malformed-somewhere : (Solver.HasForm u → ⊥) → (s : ℕ) × Solver.Malformed u s
   pub one-spot : (s v : ℕ) → Solver.Malformed u s → Solver.Malformed u v → s ≡ v
   pub form-at-none : Solver.HasForm u → (s : ℕ) → Solver.Malformed u s → ⊥
+  -- a text of the form has the status SATISFIABLE and offers literals, or has another status
+  pub of-form : Solver.HasForm u → ((xs : List Spotted) × Offers u xs) ⊎ ((x : Solver.Status) × OfStatus u x)
+  -- and never both
+  pub one-status : (xs : List Spotted) (x : Solver.Status) → Offers u xs → OfStatus u x → ⊥
+  -- it offers one list of literals alone
+  pub one-list : (xs ys : List Spotted) → Offers u xs → Offers u ys → xs ≡ ys
 
 -- ---- 7 The check: the program text t, the answer u, the buffers b for the assignment and l for the levels are any
 
@@ -345,20 +350,12 @@ pub record TextDemand3 (t : List ℕ) (P : Program) : Type 0 where
 
 -- ---- 10 The requests of document 02
 
--- Q-3, solvers that leave variables out: `literalsFrom t p` are the literals of an answer t from position p on, n is any number of variables. Demand 3 for
--- such answers is section 9.
+-- Q-3, solvers that leave variables out: u is an answer that offers the literals xs, n any number of variables. Demand 3 for such answers is section 9.
 pub record LeftOut : Type 0 where
   -- literals that give no variable twice and none above n have a completed assignment, n values: each literal is true, and a variable that none names is false
-  pub completes : (t : List ℕ) (p n : ℕ) → AllFit n (literalsFrom t p) → Completes n (literalsFrom t p) (valuesOf n (literalsFrom t p))
+  pub completes : (u : List ℕ) (xs : List Spotted) → Offers u xs → (n : ℕ) → AllFit n xs → Completes n xs (valuesOf n xs)
   -- and one alone
-  pub one-completion : (t : List ℕ) (p n : ℕ) → AllFit n (literalsFrom t p) → (bs : List Bool) → Completes n (literalsFrom t p) bs
-      → bs ≡ valuesOf n (literalsFrom t p)
-  -- these are the bytes that the reader leaves, each 2 read as 0
-  pub bytes : (t : List ℕ) (p n : ℕ) → AllFit n (literalsFrom t p)
-      → completed (assignedBytes n (literalsFrom t p) (replicate n 2)) ≡ valueBytes (valuesOf n (literalsFrom t p))
-  -- and as many are so read as variables from 1 to n that no literal names
-  pub counted : (t : List ℕ) (p n : ℕ) → AllFit n (literalsFrom t p) → (b : List ℕ)
-      → unsetCount n (assignedBytes n (literalsFrom t p) (filledWith n 2 b)) ≡ unnamedCount n (literalsFrom t p)
+  pub one-completion : (u : List ℕ) (xs : List Spotted) → Offers u xs → (n : ℕ) → AllFit n xs → (bs : List Bool) → Completes n xs bs → bs ≡ valuesOf n xs
   -- the count c that an accepting check returns is V less the number of literals of the answer
   pub of-check : (t u b l : List ℕ) (k h c : ℕ) → checkAnswer t u (length b) (length l) ≡ Model k h c
       → (P : Program) × (xs : List Spotted) × Admitted t P × Offers u xs × (c + length xs ≡ varTotal P)
