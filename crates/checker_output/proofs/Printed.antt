@@ -1,6 +1,7 @@
 -- What the checker prints (document 01, "Programs"; document 02, Q-3), for any program text t and any answer u.
 --   checker-refuses   where the check refuses with row r and spot s, the line of these
---   checker-shows     where it accepts, the line of the variables that were assumed, if there are any, and the line of a stable model
+--   checker-shows     where it accepts, the line of the variables that were assumed, if there are any, and the line of the stable model that the answer's
+--                     values give
 -- Assumes nothing.
 use Prim.Native.Nat.{ℕ, suc, _≤_, _<_}
 use native.Mathlib.Omega.{arith}
@@ -143,7 +144,10 @@ module _ (t u : List ℕ) where
         record {
           program = P;
           admitted = A;
+          literals = xs;
+          offers = S .offers;
           model = M;
+          its-atoms = refl;
           stable = stable;
           lines-are =
               by-verdict e

@@ -6,8 +6,8 @@
 --   outputOf r u j          the lines for what the reader gave, r, and the answer of j bytes; of one that is not overlong, u is all
 --   outputText t k u j      the lines for the program text of k bytes, of which t is all or the front, and the answer likewise
 --   checkerText t u         the lines for the program text t and the answer u
---   PrintsModel t u c       they are the line of c, unless c is 0, and the line of the atoms of a stable model of t's program, ascending, with their level
---                           numbers, in step
+--   PrintsModel t u c       they are the line of c, unless c is 0, and the line of the true atoms of the answer's values, completed, ascending, with their
+--                           level numbers, in step; these atoms are a stable model of t's program
 -- Assumes nothing.
 use Prim.Native.Nat.{ℕ}
 use mathlib.Core.Path.{_≡_}
@@ -16,17 +16,21 @@ use lib.ListN.{length, replicate}
 use Rattle.lists.specs.Lists.{select}
 use Rattle.meaning.specs.Program.{Program, Atoms}
 use Rattle.meaning.specs.Stage.{Stable, level}
+use Rattle.encoding.specs.Fill.{trueAtoms}
 use Rattle.reader.specs.declared.Reading.{Reading}
 use Rattle.reader.specs.Verdict.{readOf}
 use Rattle.text.specs.Limits.{Admitted}
 use Rattle.clause_text.specs.Lines.{refusedText}
 use Rattle.reader.specs.Counted.{countedOf}
+use Rattle.answer_form.specs.Reading.{Spotted}
+use Rattle.answer_offers.specs.Offered.{valuesOf}
 use Rattle.call_results.specs.Results.{Result, assignmentAfter, levelsAfter, varTotal, programOf}
 use Rattle.refusals.specs.declared.CheckRefusal.{CheckRefusal}
 use Rattle.call_check.specs.declared.CheckVerdict.{CheckVerdict}
 use Rattle.call_check.specs.declared.CheckVerdict.the-variants.{Model, Refused}
 use Rattle.refusals.specs.Numbers.{checkNumber, checkSpot}
 use Rattle.call_check.specs.Check.{zeroes, verdictOf, readResult}
+use Rattle.call_check.specs.Rows.{Offers}
 use Rattle.checker_model.specs.Model.{modelLine, modelText, assumedText}
 
 abbrev pub refusedLine : CheckVerdict → List ℕ
@@ -53,6 +57,9 @@ checkerText t u = outputOf (readOf t) u (length u)
 pub record PrintsModel (t u : List ℕ) (c : ℕ) : Type 0 where
   pub program : Program
   pub admitted : Admitted t program
+  pub literals : List Spotted
+  pub offers : Offers u literals
   pub model : Atoms
+  pub its-atoms : model ≡ trueAtoms program (valuesOf (varTotal program) literals)
   pub stable : Stable program model
   pub lines-are : checkerText t u ≡ assumedText c ++ modelLine (select (program .atoms) model) (map (level program model) (select (program .atoms) model))

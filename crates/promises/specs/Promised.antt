@@ -285,8 +285,8 @@ pub record CheckCall (t u b l : List ℕ) : Type 0 where
 pub record CheckerOutput (t u : List ℕ) : Type 0 where
   -- where the check refuses with row r and spot s, "(refused r s)"
   pub refused : (r s : ℕ) → CheckAnswers t u 9890 126 r s → checkerText t u ≡ refusedText r s
-  -- where it accepts, "(assumed c)" on a line unless c is 0, then "(model (atoms) (levels))" with the atoms of a stable model, ascending, and their level
-  -- numbers
+  -- where it accepts, "(assumed c)" on a line unless c is 0, then "(model (atoms) (levels))" with the true atoms of the answer, ascending, which are a stable
+  -- model, and their level numbers
   pub shown : (k h c : ℕ) → checkAnswer t u 9890 126 ≡ Model k h c → PrintsModel t u c
   -- the first 65,537 bytes of each and its length give the same
   pub front : Checker.outputText (take 65537 t) (length t) (take 65537 u) (length u) ≡ checkerText t u
