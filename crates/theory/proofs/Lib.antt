@@ -12,6 +12,7 @@
 --   Reducts: how an atom enters a stage of a code's reduct
 --   Numbered: level numberings and stable models
 --   Gaps: the highest level; levels without gaps, and no more levels than true atoms
+--   AllTrue: when all clauses of a list are true, part by part
 --   Groups: the clauses of one rule or atom, as one truth value each
 --   Meaning: what the clause list says, group by group
 --   Pairs: which rule and body atom a pair is of
@@ -23,6 +24,7 @@
 --   Counts, Occurs: the number of clauses, and the variables in them
 -- For document 01
 --   Whole: its definitions are those of a code that fits
+--   GroupMeanings: what each group of its clauses says
 --   Base: the theorem for its definitions
 pub mod Atoms
 pub mod Stages
@@ -35,6 +37,7 @@ pub mod Widths
 pub mod Reducts
 pub mod Numbered
 pub mod Gaps
+pub mod AllTrue
 pub mod Groups
 pub mod Meaning
 pub mod Pairs
@@ -45,4 +48,5 @@ pub mod Theorem
 pub mod Counts
 pub mod Occurs
 pub mod Whole
+pub mod GroupMeanings
 pub mod Base

@@ -3,15 +3,15 @@
 use Prim.Native.Nat.{ℕ, suc, _+_, _^_, _%_, _<_}
 use mathlib.Core.Path.{_≡_, refl, sym, _∙_, ap, subst}
 use mathlib.Core.Logic.{_↔_, ⊎-elim}
-use mathlib.Core.Bool.{Bool, true, false, not, _&&_, _||_, So, false≢true, cond}
-use mathlib.Core.List.{List, [], _∷_, _++_}
+use mathlib.Core.Bool.{Bool, true, false, not, _&&_, _||_, So, cond}
+use mathlib.Core.List.{List, [], _∷_}
 use lib.Dec.{eqb}
 use lib.ListN.{length}
 use borrow.Author.Tests.{eq-eqb, eqb-true, not-true}
 use Rattle.lists.specs.Lists.{all, any, allTo, each}
 use Rattle.lists.proofs.Bools.{and-in, and-left, and-right, or-cases, beq-eq, eq-beq, not-So, So-not}
 use lib.Dec.{lit<}
-use Rattle.lists.proofs.Tests.{all-at, allTo-at, allTo-in, anyTo-at, anyTo-in, all-append, all-each, all-joined, all-select, any-select}
+use Rattle.lists.proofs.Tests.{all-at, allTo-at, allTo-in, anyTo-at, anyTo-in, all-joined, all-select, any-select}
 use Rattle.meaning.specs.Program.{bodyTrue}
 use Rattle.encoding.specs.Literal.{Clause, Assignment, clauseTrue, allTrue}
 use Rattle.encoding.specs.Variables.{Sizes, bodyVar, foundsVar, levelVar, nextVar, belowVar, nextBelowVar}
@@ -19,6 +19,7 @@ use Rattle.encoding.specs.Counter.{value, chain}
 use Rattle.encoding.specs.Clauses.{impliedClauses, supportedClause, foundsClauses, oneClauses, lowestClauses, foundedClause, rulesOf}
 use Rattle.encoding.specs.Fill.{counter}
 use Rattle.theory.specs.Code.{Code, m, sizesOf, rl, its, pairList, bodyOf, headOf, pairNumbers, part1, part2, part3, part4, part5, part6, part7, clausesOf}
+use Rattle.theory.proofs.AllTrue.{so-or, or-so, so-implies, each-at, each-in, append-left, append-right, append-in, one-of}
 use Rattle.theory.proofs.Counters.{bits, Compares, chain-iff, successor-iff}
 use Rattle.theory.proofs.Groups.{body-means, implied-means, supported-means, zero-means, founds-means, oneTest, one-means, lowTest, lowest-means, founded-means}
 
@@ -47,35 +48,23 @@ pub record Says (G : Code) (A : Assignment) : Type 0 where
       → (r : ℕ) × (r < m G) × (rl G (suc r) .head ≡ suc a) × So (A (foundsVar (sizesOf G) (suc r)))
   pub one : (a : ℕ) → a < G .n → So (G .opened (suc a)) → So (A (suc a)) → So (oneTest (sizesOf G) A (suc a))
 
--- ---- a disjunction, and the rules of an atom
-
-so-or : (a b : Bool) → (So (not a) → So b) → So (a || b)
-so-or true b f = refl
-so-or false b f = f refl
-
-or-so : (a b : Bool) → So (not a || b) → So a → So b
-or-so true b t u = t
-or-so false b t u = absurd (false≢true u)
-
-so-implies : (a b : Bool) → (So a → So b) → So (not a || b)
-so-implies true b f = f refl
-so-implies false b f = refl
+-- ---- the rules of an atom
 
 module _ (G : Code) (p : ℕ → Bool) (a : ℕ) where
-  its-any : So (any p (its G a)) → (r : ℕ) × (r < m G) × (rl G (suc r) .head ≡ a) × So (p (suc r))
+  pub its-any : So (any p (its G a)) → (r : ℕ) × (r < m G) × (rl G (suc r) .head ≡ a) × So (p (suc r))
   unfolding rulesOf
   its-any t =
       let q = anyTo-at (m G) (λ r. eqb (rl G r .head) a && p r) (sym (any-select p (λ r. eqb (rl G r .head) a) (m G)) ∙ t) in
       let r = suc (q .0) in
       (q .0, q .1, eqb-true (rl G r .head) a (and-left (eqb (rl G r .head) a) (p r) (q .2)), and-right (eqb (rl G r .head) a) (p r) (q .2))
 
-  any-its : (r : ℕ) → r < m G → rl G (suc r) .head ≡ a → So (p (suc r)) → So (any p (its G a))
+  pub any-its : (r : ℕ) → r < m G → rl G (suc r) .head ≡ a → So (p (suc r)) → So (any p (its G a))
   unfolding rulesOf
   any-its r h e t =
       any-select p (λ r. eqb (rl G r .head) a) (m G)
       ∙ anyTo-in (m G) (λ r. eqb (rl G r .head) a && p r) r h (and-in (eq-eqb (rl G (suc r) .head) a e) t)
 
-  its-all : So (all p (its G a)) → (r : ℕ) → r < m G → rl G (suc r) .head ≡ a → So (p (suc r))
+  pub its-all : So (all p (its G a)) → (r : ℕ) → r < m G → rl G (suc r) .head ≡ a → So (p (suc r))
   unfolding rulesOf
   its-all t r h e =
       or-so (eqb (rl G (suc r) .head) a) (p (suc r))
@@ -94,12 +83,6 @@ module _ (G : Code) (A : Assignment) where
   S = sizesOf G
 
   -- ---- the list, part by part
-
-  each-at : (n : ℕ) (f : ℕ → List Clause) → So (allTrue A (each n f)) → (i : ℕ) → i < n → So (allTrue A (f (suc i)))
-  each-at n f t = allTo-at n (λ i. allTrue A (f i)) (sym (all-each (clauseTrue A) n f) ∙ t)
-
-  each-in : (n : ℕ) (f : ℕ → List Clause) → ((i : ℕ) → i < n → So (allTrue A (f (suc i)))) → So (allTrue A (each n f))
-  each-in n f g = all-each (clauseTrue A) n f ∙ allTo-in n (λ i. allTrue A (f i)) g
 
   pub record Parts : Type 0 where
     pub at1 : So (allTrue A (part1 G))
@@ -123,19 +106,7 @@ module _ (G : Code) (A : Assignment) where
       all-joined (clauseTrue A) (part1 G ∷ part2 G ∷ part3 G ∷ part4 G ∷ part5 G ∷ part6 G ∷ part7 G ∷ [])
       ∙ and-in (p .at1) (and-in (p .at2) (and-in (p .at3) (and-in (p .at4) (and-in (p .at5) (and-in (p .at6) (and-in (p .at7) refl))))))
 
-  -- ---- the clauses of one atom, pair or rule in two lists
-
-  append-left : (xs ys : List Clause) → So (allTrue A (xs ++ ys)) → So (allTrue A xs)
-  append-left xs ys t = and-left (allTrue A xs) (allTrue A ys) (sym (all-append (clauseTrue A) xs ys) ∙ t)
-
-  append-right : (xs ys : List Clause) → So (allTrue A (xs ++ ys)) → So (allTrue A ys)
-  append-right xs ys t = and-right (allTrue A xs) (allTrue A ys) (sym (all-append (clauseTrue A) xs ys) ∙ t)
-
-  append-in : (xs ys : List Clause) → So (allTrue A xs) → So (allTrue A ys) → So (allTrue A (xs ++ ys))
-  append-in xs ys t u = all-append (clauseTrue A) xs ys ∙ and-in t u
-
-  one-of : (c : Clause) → So (allTrue A (c ∷ [])) → So (clauseTrue A c)
-  one-of c t = and-left (clauseTrue A c) true t
+  -- ---- the clauses of one atom, pair or rule
 
   abbrev unopened : ℕ → List Clause
   unopened a = cond (G .opened a) [] (supportedClause S a (its G a) ∷ [])
@@ -157,38 +128,38 @@ module _ (G : Code) (A : Assignment) where
   reads : Parts → Says G A
   reads p =
       record {
-        bodies = λ r h. beq-eq _ _ (sym (body-means S A (suc r) (rl G (suc r))) ∙ each-at (m G) _ (p .at1) r h);
+        bodies = λ r h. beq-eq _ _ (sym (body-means S A (suc r) (rl G (suc r))) ∙ each-at A (m G) _ (p .at1) r h);
         implied = λ a h r g e t.
             ⊎-elim (λ u. u) (λ u. absurd (not-So (not (A (bodyVar S (suc r)))) (ap not t) (its-all G (λ r. not (A (bodyVar S r))) (suc a) u r g e)))
-            (or-cases (A (suc a)) _ (sym (implied-means S A (suc a) (its G (suc a))) ∙ append-left (impliedClauses S (suc a) (its G (suc a))) (unopened (suc a)) (each-at (G .n) _ (p .at2) a h)));
+            (or-cases (A (suc a)) _ (sym (implied-means S A (suc a) (its G (suc a))) ∙ append-left A (impliedClauses S (suc a) (its G (suc a))) (unopened (suc a)) (each-at A (G .n) _ (p .at2) a h)));
         supported = λ a h o t.
             its-any G (λ r. A (bodyVar S r)) (suc a)
             (or-so (A (suc a)) _
             (sym (supported-means S A (suc a) (its G (suc a)))
-            ∙ one-of (supportedClause S (suc a) (its G (suc a)))
+            ∙ one-of A (supportedClause S (suc a) (its G (suc a)))
             (subst (λ b. So (allTrue A (cond b [] (supportedClause S (suc a) (its G (suc a)) ∷ [])))) o
-            (append-right (impliedClauses S (suc a) (its G (suc a))) (unopened (suc a)) (each-at (G .n) _ (p .at2) a h)))) t);
+            (append-right A (impliedClauses S (suc a) (its G (suc a))) (unopened (suc a)) (each-at A (G .n) _ (p .at2) a h)))) t);
         zeroed = λ a h e i g.
             not-true (A (levelVar S (suc a) (suc i)))
             (allTo-at (G .w) (λ i. not (A (levelVar S (suc a) i)))
-            (subst (λ b. So (b || allTo (G .w) (λ i. not (A (levelVar S (suc a) i))))) e (sym (zero-means S A (suc a)) ∙ each-at (G .n) _ (p .at3) a h)) i g);
-        nexts = λ a h. successor-iff A (G .w) (nextVar S (suc a)) (levelVar S (suc a)) .0 (each-at (G .n) _ (p .at4) a h);
-        belows = λ k h. chain-iff A (G .w) _ _ _ .0 (append-left (belowChain (suc k)) (nextBelowChain (suc k)) (each-at (length (pairList G)) _ (p .at5) k h));
-        nextBelows = λ k h. chain-iff A (G .w) _ _ _ .0 (append-right (belowChain (suc k)) (nextBelowChain (suc k)) (each-at (length (pairList G)) _ (p .at5) k h));
-        founds = λ r h. beq-eq _ _ (sym (founds-means S A (suc r) (pairNumbers G (suc r))) ∙ append-left (foundsPart (suc r)) (lowestPart (suc r)) (each-at (m G) _ (p .at6) r h));
+            (subst (λ b. So (b || allTo (G .w) (λ i. not (A (levelVar S (suc a) i))))) e (sym (zero-means S A (suc a)) ∙ each-at A (G .n) _ (p .at3) a h)) i g);
+        nexts = λ a h. successor-iff A (G .w) (nextVar S (suc a)) (levelVar S (suc a)) .0 (each-at A (G .n) _ (p .at4) a h);
+        belows = λ k h. chain-iff A (G .w) _ _ _ .0 (append-left A (belowChain (suc k)) (nextBelowChain (suc k)) (each-at A (length (pairList G)) _ (p .at5) k h));
+        nextBelows = λ k h. chain-iff A (G .w) _ _ _ .0 (append-right A (belowChain (suc k)) (nextBelowChain (suc k)) (each-at A (length (pairList G)) _ (p .at5) k h));
+        founds = λ r h. beq-eq _ _ (sym (founds-means S A (suc r) (pairNumbers G (suc r))) ∙ append-left A (foundsPart (suc r)) (lowestPart (suc r)) (each-at A (m G) _ (p .at6) r h));
         lowest = λ r h t.
             or-so (A (bodyVar S (suc r))) _
-            (sym (lowest-means S A (suc r) (rl G (suc r) .head) (pairNumbers G (suc r))) ∙ append-right (foundsPart (suc r)) (lowestPart (suc r)) (each-at (m G) _ (p .at6) r h)) t;
+            (sym (lowest-means S A (suc r) (rl G (suc r) .head) (pairNumbers G (suc r))) ∙ append-right A (foundsPart (suc r)) (lowestPart (suc r)) (each-at A (m G) _ (p .at6) r h)) t;
         founded = λ a h o t.
             its-any G (λ r. A (foundsVar S r)) (suc a)
             (or-so (A (suc a)) _
             (sym (founded-means S A (suc a) (its G (suc a)))
-            ∙ one-of (foundedClause S (suc a) (its G (suc a)))
-            (subst (λ b. So (allTrue A (cond b (oneClauses S (suc a) (suc a)) (foundedClause S (suc a) (its G (suc a)) ∷ [])))) o (each-at (G .n) _ (p .at7) a h))) t);
+            ∙ one-of A (foundedClause S (suc a) (its G (suc a)))
+            (subst (λ b. So (allTrue A (cond b (oneClauses S (suc a) (suc a)) (foundedClause S (suc a) (its G (suc a)) ∷ [])))) o (each-at A (G .n) _ (p .at7) a h))) t);
         one = λ a h o t.
             or-so (A (suc a)) _
             (sym (one-means S A (suc a) (suc a))
-            ∙ subst (λ b. So (allTrue A (cond b (oneClauses S (suc a) (suc a)) (foundedClause S (suc a) (its G (suc a)) ∷ [])))) o (each-at (G .n) _ (p .at7) a h)) t;
+            ∙ subst (λ b. So (allTrue A (cond b (oneClauses S (suc a) (suc a)) (foundedClause S (suc a) (its G (suc a)) ∷ [])))) o (each-at A (G .n) _ (p .at7) a h)) t;
       }
 
   -- ---- and written
@@ -196,19 +167,19 @@ module _ (G : Code) (A : Assignment) where
   writes : Says G A → Parts
   writes s =
       record {
-        at1 = each-in (m G) _ (λ r h. body-means S A (suc r) (rl G (suc r)) ∙ eq-beq _ _ (s .bodies r h));
-        at2 = each-in (G .n) _ (λ a h. append-in (impliedClauses S (suc a) (its G (suc a))) (unopened (suc a))
+        at1 = each-in A (m G) _ (λ r h. body-means S A (suc r) (rl G (suc r)) ∙ eq-beq _ _ (s .bodies r h));
+        at2 = each-in A (G .n) _ (λ a h. append-in A (impliedClauses S (suc a) (its G (suc a))) (unopened (suc a))
             (implied-means S A (suc a) (its G (suc a))
             ∙ so-or (A (suc a)) _ (λ u. all-its G (λ r. not (A (bodyVar S r))) (suc a) (λ r g e. so-false (A (bodyVar S (suc r))) (λ t. not-So (A (suc a)) (not-true (A (suc a)) u) (s .implied a h r g e t)))))
             (opened-or (G .opened (suc a)) a refl h));
-        at3 = each-in (G .n) _ (λ a h. zero-means S A (suc a)
+        at3 = each-in A (G .n) _ (λ a h. zero-means S A (suc a)
             ∙ so-or (A (suc a)) _ (λ u. allTo-in (G .w) _ (λ i g. So-not (A (levelVar S (suc a) (suc i))) (s .zeroed a h (not-true (A (suc a)) u) i g))));
-        at4 = each-in (G .n) _ (λ a h. successor-iff A (G .w) (nextVar S (suc a)) (levelVar S (suc a)) .1 (s .nexts a h));
-        at5 = each-in (length (pairList G)) _ (λ k h. append-in (belowChain (suc k)) (nextBelowChain (suc k)) (chain-iff A (G .w) _ _ _ .1 (s .belows k h)) (chain-iff A (G .w) _ _ _ .1 (s .nextBelows k h)));
-        at6 = each-in (m G) _ (λ r h. append-in (foundsPart (suc r)) (lowestPart (suc r))
+        at4 = each-in A (G .n) _ (λ a h. successor-iff A (G .w) (nextVar S (suc a)) (levelVar S (suc a)) .1 (s .nexts a h));
+        at5 = each-in A (length (pairList G)) _ (λ k h. append-in A (belowChain (suc k)) (nextBelowChain (suc k)) (chain-iff A (G .w) _ _ _ .1 (s .belows k h)) (chain-iff A (G .w) _ _ _ .1 (s .nextBelows k h)));
+        at6 = each-in A (m G) _ (λ r h. append-in A (foundsPart (suc r)) (lowestPart (suc r))
             (founds-means S A (suc r) (pairNumbers G (suc r)) ∙ eq-beq _ _ (s .founds r h))
             (lowest-means S A (suc r) (rl G (suc r) .head) (pairNumbers G (suc r)) ∙ so-implies (A (bodyVar S (suc r))) _ (s .lowest r h)));
-        at7 = each-in (G .n) _ (λ a h. opened-last (G .opened (suc a)) a refl h);
+        at7 = each-in A (G .n) _ (λ a h. opened-last (G .opened (suc a)) a refl h);
       }
     where
       so-false : (b : Bool) → (So b → ⊥) → So (not b)

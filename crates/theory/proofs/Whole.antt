@@ -36,7 +36,7 @@ module _ (P : Program) (w : ℕ) where
   unfolding pairList pairs
   pairs-whole = each-ext (length (P .rules)) _ _ (λ r h. ap (pairsWith (ruleAt (P .rules) (suc r) .head)) (inner-whole (suc r)))
 
-  before-whole : (r : ℕ) → before G r ≡ pairsBefore P r
+  pub before-whole : (r : ℕ) → before G r ≡ pairsBefore P r
   unfolding before pairsBefore
   before-whole r = sum-ext (pred r) _ _ (λ q h. ap length (inner-whole (suc q)))
 
