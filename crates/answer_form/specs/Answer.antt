@@ -7,18 +7,18 @@
 --   literalsOf a      its literals but the last 0, in order
 --   HasForm t         t is the text of some proper answer
 --   OfStatus t s      t is that of one with the status s, another than SATISFIABLE
---   Viable t          some ending of t gives the form
+--   Viable t          some ending of t, a list of bytes, gives the form
 --   Malformed t s     s is the first byte after which no ending gives the form, or the length if the text stops short
 -- Assumes nothing.
-use Prim.Native.Nat.{ℕ, _+_, _≤_, _<_}
+use Prim.Native.Nat.{ℕ}
 use mathlib.Core.Path.{_≡_}
 use mathlib.Core.Bool.{Bool, not, _&&_, So}
 use mathlib.Core.List.{List, [], _∷_, _++_}
 use lib.Dec.{eqb, ltb}
-use lib.ListN.{length, take}
 use Rattle.lists.specs.Lists.{all}
 use Rattle.lists.specs.Ascii.{ascii}
 use Rattle.encoding.specs.Literal.{Literal, literalNumber, variable}
+use Rattle.text.specs.Spot.{ViableIn, MalformedIn}
 use Rattle.digits.specs.Bytes.{literalText}
 
 -- a comment is what stands between its c and its byte 10
@@ -113,15 +113,8 @@ pub record OfStatus (t : List ℕ) (s : Status) : Type 0 where
   pub is-proper : So (proper (Answer.noModel before s rest))
   pub its-text : t ≡ answerText (Answer.noModel before s rest)
 
-pub record Viable (t : List ℕ) : Type 0 where
-  pub ending : List ℕ
-  pub gives : HasForm (t ++ ending)
+abbrev pub Viable : List ℕ → Type 0
+Viable t = ViableIn HasForm t
 
-pub record Malformed (t : List ℕ) (s : ℕ) : Type 0 where
-  pub within : s ≤ length t
-  -- some ending of the first s bytes gives the form
-  pub before : Viable (take s t)
-  -- none does with the byte at s
-  pub dead : s < length t → Viable (take (s + 1) t) → ⊥
-  -- and a text that stops short does not have it
-  pub short : s ≡ length t → HasForm t → ⊥
+abbrev pub Malformed : List ℕ → ℕ → Type 0
+Malformed t s = MalformedIn HasForm t s

@@ -4,14 +4,14 @@
 --   ruleText r        "(rule H (B ..) (C ..))" and byte 10
 --   textOf P          "(atoms N)", byte 10, and the rules
 --   HasForm t         t is the text of some program
---   Viable t          some ending of t gives the form
+--   Viable t          some ending of t, a list of bytes, gives the form
 --   Malformed t s     s is the first byte after which no ending gives the form, or the length if the text stops short
 -- Assumes nothing.
-use Prim.Native.Nat.{ℕ, _+_, _≤_, _<_}
+use Prim.Native.Nat.{ℕ}
 use mathlib.Core.Path.{_≡_}
 use mathlib.Core.List.{List, [], _∷_, _++_}
-use lib.ListN.{length, take}
 use Rattle.meaning.specs.Program.{Rule, Program}
+use Rattle.text.specs.Spot.{ViableIn, MalformedIn}
 use Rattle.text.specs.Decimal.{decimal}
 
 abbrev pub moreText : List ℕ → List ℕ
@@ -42,15 +42,8 @@ pub record HasForm (t : List ℕ) : Type 0 where
   pub program : Program
   pub its-text : t ≡ textOf program
 
-pub record Viable (t : List ℕ) : Type 0 where
-  pub ending : List ℕ
-  pub gives : HasForm (t ++ ending)
+abbrev pub Viable : List ℕ → Type 0
+Viable t = ViableIn HasForm t
 
-pub record Malformed (t : List ℕ) (s : ℕ) : Type 0 where
-  pub within : s ≤ length t
-  -- some ending of the first s bytes gives the form
-  pub before : Viable (take s t)
-  -- none does with the byte at s
-  pub dead : s < length t → Viable (take (s + 1) t) → ⊥
-  -- and a text that stops short does not have it
-  pub short : s ≡ length t → HasForm t → ⊥
+abbrev pub Malformed : List ℕ → ℕ → Type 0
+Malformed t s = MalformedIn HasForm t s
