@@ -9,6 +9,7 @@
 -- StatusLaws: the status line, beside the automaton and in printed answers
 -- ReadingLaws: reading literal by literal
 -- Whole: what a text is, by what is read of it
+-- FirstBytes: what the text has at the spots of literals
 -- Turns: the same functions by the index of a byte, for loops
 -- Computed: written texts, accepted or left at their spots
 pub mod Machine
@@ -22,5 +23,6 @@ pub mod Passing
 pub mod StatusLaws
 pub mod ReadingLaws
 pub mod Whole
+pub mod FirstBytes
 pub mod Turns
 pub mod Computed

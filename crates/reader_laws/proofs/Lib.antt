@@ -8,6 +8,7 @@
 -- Outcomes: each step of a program's work passes or meets the first breach
 -- Judged: the whole work of a program: accepted with its arrays, or stopped by the first breach
 -- Order: breaches in text order ascend by spot, and by row at one spot
+-- FirstBytes: what the text has at the spots of events and breaches
 -- Rows: the answer is the first row met
 -- Within: a program has no breach exactly if it is within the limits
 -- Contents: what is kept of an accepted text, and of a refused one
@@ -21,6 +22,7 @@ pub mod Unique
 pub mod Outcomes
 pub mod Judged
 pub mod Order
+pub mod FirstBytes
 pub mod Rows
 pub mod Within
 pub mod Contents

@@ -1,4 +1,5 @@
 pub mod Judge
 pub mod Scan
 pub mod Breach
+pub mod FirstBytes
 pub mod Row
