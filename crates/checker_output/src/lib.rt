@@ -1,10 +1,10 @@
-// The checker: reads program.lp and answer.txt in the current folder and prints the model that the answer shows, or why none is shown (document 01,
+// The checker: reads a program text and a solver answer from two files and prints the model that the answer shows, or why none is shown (document 01,
 // "Programs"; document 02, Q-3).
 use call_check::CheckVerdict;
 use call_check::check_read;
 use checker_model::put_shown_model;
 use clause_text::put_refusal;
-use files::read_front;
+use files::read_file;
 use reader::Reading;
 use reader::read_counted;
 use refusals::check_number;
@@ -51,15 +51,15 @@ pub fn put_output(text: &[u8], size: usize, answer: &[u8], total: usize, out: &m
     put_checked(x, answer, total, &mut *out)
 }
 
-// Reads the two files and prints the lines.
-pub fn show_model() {
+// Reads the two files of those names and prints the lines.
+pub fn show_model(program: &[u8], answer: &[u8]) {
     let mut text = [0u8; 65537];
-    let mut answer = [0u8; 65537];
-    let t = read_front(b"program.lp", &mut text);
-    let a = read_front(b"answer.txt", &mut answer);
+    let mut given = [0u8; 65537];
+    let t = read_file(program, &mut text);
+    let a = read_file(answer, &mut given);
     let n = t.kept;
     let k = a.kept;
     let mut out = [0u8; 1131];
-    let z = put_output(&text[..n], t.total, &answer[..k], a.total, &mut out);
+    let z = put_output(&text[..n], t.total, &given[..k], a.total, &mut out);
     io::write_all(1, &out[..z]);
 }

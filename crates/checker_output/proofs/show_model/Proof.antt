@@ -4,23 +4,17 @@ use borrow.Author.Needs.{needs}
 use Rattle.checker_output.proofs.show_model.Statement.{statement}
 use Rattle.checker_output.proofs.show_model.Tie as tie
 
-slice-aggregate-read-front : tie.Need-slice-aggregate-read-front
-slice-aggregate-read-front c = search needs
+slice-aggregate-read-file : tie.Need-slice-aggregate-read-file
+slice-aggregate-read-file c = search needs
 
-slice-aggregate-read-front-2 : tie.Need-slice-aggregate-read-front-2
-slice-aggregate-read-front-2 c = search needs
+read-file-requires : tie.Need-read-file-requires
+read-file-requires c κs = search needs
 
-read-front-requires : tie.Need-read-front-requires
-read-front-requires c κs = search needs
+slice-aggregate-read-file-2 : tie.Need-slice-aggregate-read-file-2
+slice-aggregate-read-file-2 c = search needs
 
-slice-aggregate-read-front-3 : tie.Need-slice-aggregate-read-front-3
-slice-aggregate-read-front-3 c = search needs
-
-slice-aggregate-read-front-4 : tie.Need-slice-aggregate-read-front-4
-slice-aggregate-read-front-4 c = search needs
-
-read-front-requires-2 : tie.Need-read-front-requires-2
-read-front-requires-2 c κs = search needs
+read-file-requires-2 : tie.Need-read-file-requires-2
+read-file-requires-2 c κs = search needs
 
 array-share-prefix-text : tie.Need-array-share-prefix-text
 array-share-prefix-text c = search needs
@@ -28,8 +22,8 @@ array-share-prefix-text c = search needs
 slice-aggregate-put-output : tie.Need-slice-aggregate-put-output
 slice-aggregate-put-output c = search needs
 
-array-share-prefix-answer : tie.Need-array-share-prefix-answer
-array-share-prefix-answer c = search needs
+array-share-prefix-given : tie.Need-array-share-prefix-given
+array-share-prefix-given c = search needs
 
 slice-aggregate-put-output-2 : tie.Need-slice-aggregate-put-output-2
 slice-aggregate-put-output-2 c = search needs
@@ -56,15 +50,13 @@ pub show-model-spec : {M : Type 1} → statement M
 show-model-spec =
     tie.close
     (tie.spec
-    slice-aggregate-read-front
-    slice-aggregate-read-front-2
-    read-front-requires
-    slice-aggregate-read-front-3
-    slice-aggregate-read-front-4
-    read-front-requires-2
+    slice-aggregate-read-file
+    read-file-requires
+    slice-aggregate-read-file-2
+    read-file-requires-2
     array-share-prefix-text
     slice-aggregate-put-output
-    array-share-prefix-answer
+    array-share-prefix-given
     slice-aggregate-put-output-2
     slice-aggregate-put-output-3
     put-output-requires
