@@ -1,6 +1,6 @@
 #!/usr/bin/env python3
-"""Tests of the Python binding: the module's functions on document 01's examples, and the library's functions on the calls of the case programs (crates/*_cases),
-whose expected replies are in the repository. Prints how many calls were compared."""
+"""Tests of the Python binding: the module's functions on document 01's examples, and the library's functions on the calls of crates/examples, whose
+expected replies are in the repository. Prints how many calls were compared."""
 
 import ctypes
 import os
@@ -70,21 +70,34 @@ def shown(data):
     return data.hex() or "-"
 
 
-class Cases(unittest.TestCase):
-    """Each call's reply, and every byte of its buffers, against the line that the case program prints for it."""
+def calls():
+    """The calls of crates/examples, each with the line that is expected of it, by the ending of the file's name. A line that is no call is left out."""
+    folder = os.path.join(quadrensolo.ROOT, "crates", "examples")
+    with open(os.path.join(folder, "stdout")) as file:
+        expected = iter(file.read().splitlines())
+    with open(os.path.join(folder, "args")) as file:
+        names = file.read().splitlines()
+    found = {}
+    for name in names:
+        kind = name.split(".")[1]
+        if kind == "lp":
+            # A program text has three lines, or that of its refusal.
+            if not next(expected).startswith("refused "):
+                next(expected), next(expected)
+            continue
+        with open(os.path.join(folder, "data", name)) as file:
+            pairs = [(line, next(expected)) for line in file.read().splitlines()]
+        found.setdefault(kind, []).extend((line, reply) for line, reply in pairs if reply != "bad case")
+    if next(expected, None) is not None:
+        raise ValueError("crates/examples/stdout has lines that belong to no call")
+    return found
+
+
+class Calls(unittest.TestCase):
+    """Each call's reply, and every byte of its buffers, against the line that crates/examples prints for it."""
 
     compared = 0
-
-    def calls(self, crate, names):
-        folder = os.path.join(quadrensolo.ROOT, "crates", crate)
-        with open(os.path.join(folder, "stdout")) as file:
-            expected = file.read().splitlines()
-        lines = []
-        for name in names:
-            with open(os.path.join(folder, "data", name)) as file:
-                lines += file.read().splitlines()
-        self.assertTrue(0 < len(lines) <= len(expected))
-        return zip(lines, expected)
+    given = calls()
 
     def compare(self, expected, reply, values, *buffers, used=None):
         """`used` says how many values the call has, if `values` are not all of them; the others are 0, and all are if it is refused."""
@@ -92,34 +105,41 @@ class Cases(unittest.TestCase):
         self.assertFalse(any((reply.a, reply.b, reply.c, reply.d)[used:]))
         words = [f"refused {reply.number} {reply.spot}"] if reply.number else [" ".join(map(str, ["ok", *values]))]
         self.assertEqual(" ".join(words + [shown(buffer.raw) for buffer in buffers]), expected)
-        Cases.compared += 1
+        Calls.compared += 1
 
     def test_read(self):
-        for line, expected in self.calls("read_cases", ["vectors.hex"]):
+        for line, expected in self.given["read"]:
             text = field(line)
             self.compare(expected, _library.qs_read(text, len(text)), (), used=2)
 
     def test_line(self):
-        for line, expected in self.calls("line_cases", ["vectors.calls", "hand.calls"]):
+        for line, expected in self.given["line"]:
             words = line.split(" ")
             text, buf = field(words[0]), field(words[3])
             buffer = ctypes.create_string_buffer(buf, len(buf))
             reply = _library.qs_line(text, len(text), int(words[1]), int(words[2]), buffer, len(buf))
             self.compare(expected, reply, (reply.a,), buffer)
 
-    def models(self, crate, names, function, values):
-        for line, expected in self.calls(crate, names):
+    def test_run(self):
+        for line, expected in self.given["run"]:
+            words = line.split(" ")
+            text, buf = field(words[0]), field(words[2])
+            buffer = ctypes.create_string_buffer(buf, len(buf))
+            reply = _library.qs_run(text, len(text), int(words[1]), buffer, len(buf))
+            self.compare(expected, reply, (reply.a, reply.b), buffer)
+
+    def models(self, kind, function, values):
+        for line, expected in self.given[kind]:
             text, given, assignment, levels = map(field, line.split(" "))
             buffers = [ctypes.create_string_buffer(data, len(data)) for data in (assignment, levels)]
             reply = function(text, len(text), given, len(given), buffers[0], len(assignment), buffers[1], len(levels))
             self.compare(expected, reply, values(reply), *buffers)
 
     def test_check(self):
-        names = ["vectors1.calls", "vectors2.calls", "vectors3.calls", "hand.calls", "full.calls", "filled.calls", "filled_vectors.calls"]
-        self.models("check_cases", names, _library.qs_check, lambda reply: (reply.a, reply.b, reply.c))
+        self.models("check", _library.qs_check, lambda reply: (reply.a, reply.b, reply.c))
 
     def test_fill(self):
-        self.models("fill_cases", ["vectors.calls", "hand.calls", "full.calls"], _library.qs_fill, lambda reply: (reply.a, reply.b))
+        self.models("fill", _library.qs_fill, lambda reply: (reply.a, reply.b))
 
     @classmethod
     def tearDownClass(cls):
