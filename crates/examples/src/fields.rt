@@ -163,7 +163,8 @@ pub fn decode_four(
     third: &mut [u8],
     fourth: &mut [u8],
 ) -> Lengths
-    ensures { λ r. ⌜ (Counts (r .first) (now (first .exit))) × (Counts (r .second) (now (second .exit))) × (Counts (r .third) (now (third .exit))) × (Counts (r .fourth) (now (fourth .exit))) ⌝ }
+    ensures { λ r. ⌜ (Counts (r .first) (now (first .exit))) × (Counts (r .second) (now (second .exit)))
+        × (Counts (r .third) (now (third .exit))) × (Counts (r .fourth) (now (fourth .exit))) ⌝ }
 {
     let a = decode_field(line, 0, &mut *first);
     let b = decode_field(line, 1, &mut *second);
