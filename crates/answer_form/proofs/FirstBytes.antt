@@ -1,6 +1,5 @@
 -- At the spot of each literal the text of an answer has that literal (document 01, "Verdicts", rows 13 and 14: "its literal's first byte").
---   LiteralAt t x    the literal x stands whole at its spot in t
---   literals-at      each literal of an answer does in its text
+--   literals-at      each literal of an answer stands whole at its spot in its text
 --   spots-shown      the bytes at the spots of a small answer
 -- Assumes nothing.
 use Prim.Native.Nat.{ℕ, _+_, _<_}
@@ -17,10 +16,7 @@ use Rattle.text.specs.Decimal.{decimal}
 use Rattle.text.proofs.Standing.{behind, next, fresh, whole, Each, none, also, each-append, each-at}
 use Rattle.digits.specs.Bytes.{literalText}
 use Rattle.answer_form.specs.Answer.{Comment, Line, Answer, commentText, commentsText, spacedText, linesText, satisfiableText, answerText}
-use Rattle.answer_form.specs.Reading.{Spotted, spacedSpots, lineSpots, statusEnd, spotsOf}
-
-abbrev pub LiteralAt : List ℕ → Spotted → Type 0
-LiteralAt t x = WholeAt t (x .first) (literalText (literalNumber (x .literal)))
+use Rattle.answer_form.specs.Reading.{Spotted, spacedSpots, lineSpots, statusEnd, spotsOf, LiteralAt}
 
 -- a space, or what comes behind all literals
 stops : (ls : List Literal) (w : List ℕ) → So (separates (getD w 0 0)) → So (separates (getD (spacedText ls ++ w) 0 0))

@@ -12,6 +12,7 @@
 --   closeOf t i       whether only a line end and c lines stand from i on; or the spot where t leaves the form
 --   Reads t p xs c    from position p on the literals are xs, with the indices of their first bytes, and then the text ends as c says
 --   spotsOf a         the literals of an answer with the indices of their first bytes in its text
+--   LiteralAt t x     the literal x stands whole at its spot in t
 --   IsModel t e       t offers a model, and its status line ends at e
 -- Assumes nothing.
 use Prim.Native.Nat.{ℕ, suc, _+_, _*_, _-_, min, max}
@@ -24,6 +25,7 @@ use Rattle.reader_form.specs.Automaton.{digitTest}
 use Rattle.encoding.specs.Literal.{Literal, literalNumber}
 use Literal.{var, −_}
 use Rattle.digits.specs.Bytes.{literalText}
+use Rattle.text.specs.Bytes.{WholeAt}
 use Rattle.answer_form.specs.Answer.{Comment, Line, Status, Answer, proper, answerText, commentText, commentsText, spacedText, linesText, satisfiableText, statusText}
 use Rattle.answer_form.specs.Automaton.{seekStep, endStep}
 
@@ -144,6 +146,10 @@ unfoldable pub spotsOf : Answer → List Spotted
 spotsOf (Answer.model before lines vs after) =
     lineSpots (statusEnd before + 1) lines ++ spacedSpots (statusEnd before + 1 + length (linesText lines) + 1) vs
 spotsOf (Answer.noModel before status rest) = []
+
+-- the literal x stands whole at its spot in t
+abbrev pub LiteralAt : List ℕ → Spotted → Type 0
+LiteralAt t x = WholeAt t (x .first) (literalText (literalNumber (x .literal)))
 
 -- ---- a text that offers a model
 

@@ -2,24 +2,25 @@
 -- another crate, its proof stands above it, section by section.
 use Prim.Native.Nat.{ℕ, zero, suc, pred, _+_, _-_, _^_, _≤_, _<_}
 use native.Mathlib.Omega.{arith}
-use mathlib.Core.Path.{_≡_, refl, sym, _∙_, ap, ap₂, subst}
+use mathlib.Core.Path.{_≡_, refl, sym, _∙_, ap, subst}
 use mathlib.Core.Logic.{_⊎_, inl, inr}
-use mathlib.Core.Bool.{Bool, true, false, So, cond, false≢true}
+use mathlib.Core.Bool.{Bool, true, false, So, false≢true}
 use mathlib.Core.List.{List, [], _∷_}
-use lib.ListN.{length, take, drop, length-map}
-use lib.Seq.{ext-getD, take-add, take-all, drop-cons}
-use borrow.Author.Tests.{le-leb}
+use lib.ListN.{length, take, drop}
+use lib.Seq.{ext-getD, take-add, take-all}
 use Rattle.lists.specs.Lists.{tab, joined}
 use Rattle.lists.proofs.Tables.{length-tab, getD-tab}
 use Rattle.meaning.specs.Program.{Program, Atoms, wellFormed}
 use Rattle.meaning.specs.Stage.{Definite, reduct, Stable, level}
 use Rattle.encoding.specs.Width.{width}
+use Rattle.encoding.specs.Literal.{Assignment}
 use Rattle.encoding.specs.Clauses.{clauses}
 use Rattle.theory.proofs.LeastModel.{union-model, union-least, first-stage-unique}
 use Rattle.theory.proofs.Decided as Decided
 use Rattle.theory.proofs.LevelNumberings.{stable-level-numbering, level-numbering-stable, level-numbering-unique}
 use Rattle.theory.proofs.Gaps as Gaps
 use Rattle.theory.proofs.Counters.{chain-iff, successor-iff}
+use Rattle.theory.proofs.GroupMeanings.{group1-iff, group2-iff, group3-iff, group4-iff, group5-iff, group6-iff, group7-iff, pairs-are, pairs-counted}
 use Rattle.theory.proofs.Widths.{width-is, width-unique, width-table, width-zeros, width-enough}
 use Rattle.theory.proofs.Counts.{count-whole}
 use Rattle.theory.proofs.Base as Base
@@ -27,26 +28,26 @@ use Rattle.text.specs.Limits.{Limits, Admitted}
 use Rattle.program.specs.Arrays.{decoded}
 use Rattle.program.proofs.Decode.{decoded-kept}
 use Rattle.reader.specs.declared.Reading.{Reading}
-use Rattle.reader.specs.declared.ReadVerdict.{ReadVerdict}
 use Rattle.reader.specs.declared.ReadVerdict.the-variants.{Accepted}
 use Rattle.reader.specs.Verdict.{readOf}
 use Rattle.reader.proofs.Counted.{counted-whole}
-use Rattle.reader_laws.specs.Row.{Answers}
+use Rattle.reader_laws.proofs.FirstBytes.{breach-at}
 use Rattle.reader_laws.proofs.Spot as TextSpot
 use Rattle.reader_laws.proofs.Unique.{text-unique}
 use Rattle.reader_laws.proofs.Rows.{first-unique, answers-first, first-answers, accepted-none, none-accepted, answers-malformed, answers-breach}
 use Rattle.reader_laws.proofs.Contents.{accepted-admitted, admitted-answer, refused-empty}
 use Rattle.clause_table_laws.proofs.Bounds.{variables-fit, clauses-fit}
-use Rattle.clause_text.specs.Lines.{refusedText}
 use Rattle.clause_runs.specs.Lines.{clauseTotal, linesOf, lineOf, fitting, runIn}
 use Rattle.clause_runs.proofs.Runs.{joined-append}
 use Rattle.call_lines.proofs.File as File
+use Rattle.call_lines.proofs.Parts.{lines-many, file-parts, some-line}
 use Rattle.call_lines.proofs.Rows.{answers-line-first, first-line-answers, first-line-unique, written-none, none-written}
 use Rattle.call_lines.proofs.Calls.{line-stays, line-writes, run-refused-as, run-stays, run-writes}
 use Rattle.answer_form.specs.Answer.{Answer, proper, answerText, Status, OfStatus}
 use Rattle.answer_form.specs.Reading.{Spotted, spotsOf}
 use Rattle.answer_form.proofs.Spot as AnswerSpot
 use Rattle.answer_form.proofs.Unique.{answer-unique}
+use Rattle.answer_form.proofs.FirstBytes.{literals-at}
 use Rattle.answer_values.specs.Assign.{filledWith}
 use Rattle.answer_offers.proofs.Values.{values-complete, values-unique}
 use Rattle.call_check.specs.Rows.{Offers}
@@ -58,11 +59,11 @@ use Rattle.call_fill.proofs.Written.{fill-accepted, fill-kept}
 use Rattle.correspondence.proofs.Correspond as Correspond
 use Rattle.correspondence.proofs.Gaps.{check-gaps, fill-gaps}
 use Rattle.correspondence.proofs.Texts.{checked-exactly, line-prints, level-bytes, level-of-false, fills-exactly}
-use Rattle.writer_output.specs.Output.{clauseFile, verdictText, outputOf, outputText, writerText}
+use Rattle.writer_output.proofs.Outputs.{front-output, writer-lists, writer-refuses}
 use Rattle.checker_output.proofs.Shown.{output-whole}
 use Rattle.checker_output.proofs.Printed.{checker-refuses, checker-shows}
 use Rattle.exports.proofs.Zero as Zero
-use Rattle.promises.specs.Promised.{LeastModel, Stability, LevelNumbers, HighestLevel, Width, ClauseList, Demand3, ProgramText, ClauseFile}
+use Rattle.promises.specs.Promised.{LeastModel, Stability, LevelNumbers, HighestLevel, Width, GroupMeanings, ClauseList, Demand3, ProgramText, ClauseFile}
 use Rattle.promises.specs.Promised.{LineCall, RunCall, WriterOutput, WriterParts, AnswerText, CheckCall, CheckerOutput, FillCall, TextDemand3, LeftOut}
 use Rattle.promises.specs.Promised.{LevelsWithoutGaps, ZeroAccepts, Promised}
 
@@ -108,6 +109,20 @@ widths n =
       by-zeros = λ b. width-zeros b n;
     }
 
+group-meanings : (P : Program) (w : ℕ) (A : Assignment) → GroupMeanings P w A
+unfolding clauses
+group-meanings P w A =
+    record {
+      bodies = group1-iff P w A;
+      supported = group2-iff P w A;
+      zeros = group3-iff P w A;
+      nexts = group4-iff P w A;
+      compared = group5-iff P w A;
+      founds = group6-iff P w A;
+      founded = group7-iff P w A;
+      in-order = refl;
+    }
+
 clause-list-at : (P : Program) (w : ℕ) → So (wellFormed P) → P .atoms + 2 ≤ 2 ^ w → ClauseList P w
 clause-list-at P w form wide =
     record {
@@ -141,6 +156,7 @@ program-text t =
       viable-before = λ s a. answers-malformed t s a .before;
       dead-after = λ s a. answers-malformed t s a .dead;
       smallest-breach = answers-breach t;
+      breach-at = λ P e. breach-at P;
       accepted = (accepted-none t, none-accepted t);
       admitted = (accepted-admitted t, λ a. ap (λ (x : Reading). x .verdict) (admitted-answer t (a .0) (a .1)));
       kept-whole = λ P a. ap (λ (x : Reading). x .program) (admitted-answer t P a);
@@ -150,14 +166,10 @@ program-text t =
 
 -- ---- 5 The clause file
 
-lines-count : (P : Program) → Limits P → length (linesOf P) ≡ suc (clauseTotal P)
-unfolding linesOf
-lines-count P L = ap suc (length-map (clauses P (width (P .atoms))) _ ∙ sym (File.clause-total P L))
-
 all-lines : (P : Program) → Limits P → linesOf P ≡ tab (suc (clauseTotal P)) (λ i. lineOf P (pred i))
 all-lines P L =
-    ext-getD [] (linesOf P) (tab lines line) (lines-count P L ∙ sym (length-tab lines line))
-    (λ i h. sym (getD-tab lines line [] i (subst (λ (k : ℕ). i < k) (lines-count P L) h)))
+    ext-getD [] (linesOf P) (tab lines line) (lines-many P L ∙ sym (length-tab lines line))
+    (λ i h. sym (getD-tab lines line [] i (subst (λ (k : ℕ). i < k) (lines-many P L) h)))
   where
     lines : ℕ
     lines = suc (clauseTotal P)
@@ -190,38 +202,20 @@ line-call t j k b =
 run-call : (t : List ℕ) (j : ℕ) (b : List ℕ) → RunCall t j b
 run-call t j b = record { refused = run-refused-as t j (length b); stays = run-stays t j b; written = run-writes t j b }
 
-writer-refuses : (t : List ℕ) (r s : ℕ) → Answers t r s → writerText t ≡ refusedText r s
-unfolding writerText outputOf
-writer-refuses t r s w =
-    ap (λ (v : ReadVerdict). verdictText v (clauseFile (decoded (readOf t .program)))) (w .verdict-is) ∙ ap₂ refusedText (w .row-is) (w .spot-is)
-
-writer-writes : (t : List ℕ) (P : Program) → Admitted t P → writerText t ≡ clauseFile P
-unfolding writerText outputOf
-writer-writes t P A = ap outputOf (admitted-answer t P A) ∙ ap clauseFile (decoded-kept P)
-
-writer-whole : (t : List ℕ) → outputText (take 65537 t) (length t) ≡ writerText t
-unfolding outputText writerText
-writer-whole t = ap outputOf (counted-whole t)
-
 writer-output : (t : List ℕ) → WriterOutput t
-writer-output t = record { refused = writer-refuses t; written = writer-writes t; front = writer-whole t }
-
--- as many lines as fit, if the first line does
-fits-some : (n : ℕ) (l : List ℕ) (ls : List (List ℕ)) → length l ≤ n → zero < fitting n (l ∷ ls)
-fits-some n l ls h = subst (λ (d : Bool). zero < cond d (suc (fitting (n - length l) ls)) 0) (sym (le-leb (length l) n h)) (omega arith)
+writer-output t = record { refused = writer-refuses t; written = writer-lists t; front = front-output t }
 
 writer-parts : (P : Program) → Limits P → WriterParts P
 writer-parts P L =
     record {
+      all-parts = file-parts P L 65536 (omega arith);
       at-first = refl;
       next-part = λ j.
           sym
           (ap joined (take-add j (fitting 65536 (drop j (linesOf P))) (linesOf P))
           ∙ joined-append (take j (linesOf P)) (runIn P j 65536));
-      some-line = λ j h.
-          subst (λ (ls : List (List ℕ)). zero < fitting 65536 ls) (sym (drop-cons (linesOf P) j [] (omega (arith, h, lines-count P L))))
-          (fits-some 65536 (lineOf P j) (drop (suc j) (linesOf P)) (omega (arith, File.short-lines P L j h)));
-      at-last = λ j h. ap joined (take-all j (linesOf P) (omega (arith, h, lines-count P L)));
+      some-line = some-line P L 65536 (omega arith);
+      at-last = λ j h. ap joined (take-all j (linesOf P) (omega (arith, h, lines-many P L)));
     }
 
 -- ---- 6 Solver answers
@@ -257,6 +251,7 @@ answer-text u =
       of-form = λ f. said u (f .answer) (f .is-proper) (f .its-text);
       one-status = one-status u;
       one-list = λ xs ys o w. offers-unique o w;
+      literals-at = λ xs o. literals-at u xs (Answer.model (o .before) (o .lines) (o .last) (o .after)) (o .its-text) (o .literals-are);
     }
 
 -- ---- 7 The check
@@ -345,6 +340,8 @@ proved =
       widths = widths;
       successors = successor-iff;
       chains = chain-iff;
+      group-meanings = group-meanings;
+      pair-list = λ P. record { of-rule = pairs-are P 0 (λ v. false); counted = pairs-counted P 0 (λ v. false) };
       clause-list-at = clause-list-at;
       clause-list = λ P form. clause-list-at P (width (P .atoms)) form (width-enough (P .atoms));
       demand3-at = demand3-at;

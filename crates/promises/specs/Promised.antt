@@ -26,20 +26,23 @@ use Prim.Native.Nat.{ℕ, zero, suc, pred, _+_, _-_, _^_, _%_, _≤_, _<_}
 use mathlib.Core.Path.{_≡_}
 use mathlib.Core.Logic.{_↔_, _⊎_}
 use mathlib.Core.Bool.{Bool, false, not, So, cond}
-use mathlib.Core.List.{List, [], _++_}
+use mathlib.Core.List.{List, [], _∷_, _++_}
 use lib.Count.{leadingZeros}
 use lib.Dec.{eqb, ltb}
 use lib.ListN.{length, getD, take, drop, replicate}
 use Rattle.lists.specs.Lists.{all, tab, joined, sum, highest}
-use Rattle.meaning.specs.Program.{Program, Atoms, isAtom, wellFormed}
+use Rattle.meaning.specs.Program.{Program, Atoms, ruleAt, isAtom, wellFormed, bodyTrue}
 use Rattle.meaning.specs.Stage.{Definite, reduct, InUnion, Stable, FirstStage, leastModel, level, differ}
 use Rattle.meaning.specs.Numbering.{IsModel, LevelNumbering}
 use Rattle.meaning.specs.Gaps.{WithoutGaps}
 use Rattle.encoding.specs.Width.{IsWidth, width, tableWidth}
 use Rattle.encoding.specs.Literal.{Assignment, valueOf, clauseTrue, allTrue, within, occurs}
 use Rattle.encoding.specs.Counter.{value, chain, successor}
-use Rattle.encoding.specs.Clauses.{sizes, clauses, variables, clauseCount}
+use Rattle.encoding.specs.Variables.{bodyVar, foundsVar, nextVar}
+use Rattle.encoding.specs.Clauses.{sizes, pairs, pairAt, pairCount, pairsBefore, group1, group2, group3, group4, group5, group6, group7}
+use Rattle.encoding.specs.Clauses.{clauses, variables, clauseCount}
 use Rattle.encoding.specs.Fill.{fill, trueAtoms, counter}
+use Rattle.theory.specs.GroupMeaning.{SomeRule, ComparesPair, FoundsRule}
 use Rattle.text.specs.Text.{textOf, HasForm, Viable, Malformed}
 use Rattle.text.specs.Limits.{Limits, Admitted}
 use Rattle.program.specs.Arrays.{decoded, kept, emptyProgram}
@@ -50,6 +53,7 @@ use Rattle.reader.specs.declared.ReadVerdict.the-variants.{Accepted, Refused}
 use Rattle.reader.specs.Verdict.{readOf}
 use Rattle.reader.specs.Counted.{countedOf}
 use Rattle.reader_laws.specs.Breach.{Breach}
+use Rattle.reader_laws.specs.FirstBytes.{BreachAt}
 use Rattle.reader_laws.specs.Row.{Row, FirstRow, Answers}
 use Rattle.digits.specs.Bytes.{lineText}
 use Rattle.clause_text.specs.Lines.{headerText, refusedText}
@@ -57,10 +61,11 @@ use Rattle.clause_runs.specs.Lines.{clauseTotal, linesOf, lineOf, fitting, runI
 use Rattle.call_lines.specs.declared.LineVerdict.the-variants.{Written, Refused as LineRefused}
 use Rattle.call_lines.specs.declared.RunVerdict.the-variants.{WrittenRun, RefusedRun}
 use Rattle.call_lines.specs.Lines.{lineAnswer, lineBytes, runAnswer, runBytes}
+use Rattle.call_lines.specs.Parts.{partsOf}
 use Rattle.call_lines.specs.Rows.{LineRow, FirstLineRow, LineAnswers, RunWritten}
 use Rattle.answer_form.specs.Answer.{Answer, proper, answerText, OfStatus}
 use Rattle.answer_form.specs.Answer as Solver
-use Rattle.answer_form.specs.Reading.{Spotted}
+use Rattle.answer_form.specs.Reading.{Spotted, LiteralAt}
 use Rattle.answer_values.specs.Rows.{AllFit}
 use Rattle.answer_offers.specs.Offered.{valuesOf, Completes, offeredText}
 use Rattle.call_results.specs.Results.{levelIn, varTotal}
@@ -140,6 +145,35 @@ pub record ClauseList (P : Program) (w : ℕ) : Type 0 where
   -- and every variable from 1 to V occurs
   pub every-variable : (v : ℕ) → zero < v → v ≤ variables P w → So (occurs v (clauses P w))
 
+-- what each group of clauses says under an assignment A, with counters of w bits
+pub record GroupMeanings (P : Program) (w : ℕ) (A : Assignment) : Type 0 where
+  -- 1: t(r) is the truth of the body of rule r
+  pub bodies : So (allTrue A (group1 P w))
+      ↔ ((r : ℕ) → zero < r → r ≤ length (P .rules) → A (bodyVar (sizes P w) r) ≡ bodyTrue A (ruleAt (P .rules) r))
+  -- 2: an atom is true exactly if t(r) is for one of its rules r
+  pub supported : So (allTrue A (group2 P w)) ↔ ((a : ℕ) → So (isAtom (P .atoms) a) → So (A a) ↔ SomeRule P (λ r. A (bodyVar (sizes P w) r)) a)
+  -- 3: a false atom has counter 0
+  pub zeros : So (allTrue A (group3 P w)) ↔ ((a : ℕ) → So (isAtom (P .atoms) a) → A a ≡ false → counter (sizes P w) A a ≡ 0)
+  -- 4: the next of an atom is its counter plus 1, modulo 2^w
+  pub nexts : So (allTrue A (group4 P w))
+      ↔ ((a : ℕ) → So (isAtom (P .atoms) a) → value (λ i. A (nextVar (sizes P w) a i)) w ≡ (counter (sizes P w) A a + 1) % 2 ^ w)
+  -- 5: p(k,i) and q(k,i) compare the lowest i bits of the level of the body atom, and of its next, with those of the level of the head
+  pub compared : So (allTrue A (group5 P w)) ↔ ((k : ℕ) → zero < k → k ≤ pairCount P → (i : ℕ) → zero < i → i ≤ w → ComparesPair P w A k i)
+  -- 6: s(r) is true exactly if t(r) is and each p(k,w); with t(r) true the head's counter is 1 if B is empty, else some q(k,w) is false
+  pub founds : zero < w → So (allTrue A (group6 P w)) ↔ ((r : ℕ) → zero < r → r ≤ length (P .rules) → FoundsRule P w A r)
+  -- 7: for a true atom s(r) is true for one of its rules r
+  pub founded : So (allTrue A (group7 P w)) ↔ ((a : ℕ) → So (isAtom (P .atoms) a) → So (A a) → SomeRule P (λ r. A (foundsVar (sizes P w) r)) a)
+  -- the clause list is these groups, one after the other
+  pub in-order : clauses P w ≡ joined (group1 P w ∷ group2 P w ∷ group3 P w ∷ group4 P w ∷ group5 P w ∷ group6 P w ∷ group7 P w ∷ [])
+
+-- the pairs, in text order
+pub record PairList (P : Program) : Type 0 where
+  -- those of rule r follow those of the rules before it, and are its positive body atoms, each with its head
+  pub of-rule : (r : ℕ) → zero < r → r ≤ length (P .rules) → (j : ℕ) → j < length (ruleAt (P .rules) r .positive)
+      → pairAt (pairs P) (pairsBefore P r + suc j) ≡ record { body = getD (ruleAt (P .rules) r .positive) j 0; head = ruleAt (P .rules) r .head }
+  -- there are K, as many as positive body atoms
+  pub counted : pairCount P ≡ sum (length (P .rules)) (λ r. length (ruleAt (P .rules) r .positive))
+
 -- ---- 3 Demand 3, for assignments: lists of V values
 
 pub record Demand3 (P : Program) (w : ℕ) : Type 0 where
@@ -176,6 +210,8 @@ pub record ProgramText (t : List ℕ) : Type 0 where
   -- what is answered to a short text of the form is a breach of rows 3 to 7, with the smallest spot and, on a tie, the smaller number
   pub smallest-breach : (P : Program) → length t ≤ 65536 → t ≡ textOf P → (k s : ℕ) → Answers t k s
       → Breach P k s × ((l u : ℕ) → Breach P l u → (s < u) ⊎ ((s ≡ u) × (k ≤ l)))
+  -- and what the row names stands at that spot in the text: the number, or rule 501, from its first byte on
+  pub breach-at : (P : Program) → t ≡ textOf P → (k s : ℕ) → Breach P k s → BreachAt P k s
   -- the reader accepts exactly if no row is met
   pub accepted : (readOf t .verdict ≡ Accepted) ↔ ((k s : ℕ) → Row t k s → ⊥)
   -- and exactly if the text is at most 65,536 bytes long, of the form and within the limits
@@ -235,6 +271,8 @@ pub record WriterOutput (t : List ℕ) : Type 0 where
 
 -- the parts in which it hands over a clause file, each as many whole lines as fit 65,536 bytes; `fileBefore P j` are the lines before line j, joined
 pub record WriterParts (P : Program) : Type 0 where
+  -- the parts, each from where the last one ended, joined, are the clause file; one for each line is enough
+  pub all-parts : joined (partsOf 65536 (suc (clauseTotal P)) (linesOf P)) ≡ Writer.clauseFile P
   -- at first nothing has been handed over
   pub at-first : Writer.fileBefore P 0 ≡ []
   -- where the lines before line j have been, the part of the lines from j on that fit is next, and then the lines before the one after them have been
@@ -259,6 +297,8 @@ pub record AnswerText (u : List ℕ) : Type 0 where
   pub one-status : (xs : List Spotted) (x : Solver.Status) → Offers u xs → OfStatus u x → ⊥
   -- it offers one list of literals alone
   pub one-list : (xs ys : List Spotted) → Offers u xs → Offers u ys → xs ≡ ys
+  -- and has each of them at its index, from its first byte on
+  pub literals-at : (xs : List Spotted) → Offers u xs → (d : Spotted) (j : ℕ) → j < length xs → LiteralAt u (getD xs j d)
 
 -- ---- 7 The check: the program text t, the answer u, the buffers b for the assignment and l for the levels are any
 
@@ -408,6 +448,10 @@ pub record Promised : Type 1 where
   -- 2: a chain of group 5, over any width: its clauses are true exactly if each z i compares the lowest i bits of x and y
   pub chains : (A : Assignment) (w : ℕ) (z x y : ℕ → ℕ)
       → So (allTrue A (chain w z x y)) ↔ ((i : ℕ) → i < w → A (z (suc i)) ≡ ltb (value (λ j. A (x j)) (suc i)) (value (λ j. A (y j)) (suc i)))
+  -- 2: what each group says, for every program, every width and every assignment
+  pub group-meanings : (P : Program) (w : ℕ) (A : Assignment) → GroupMeanings P w A
+  -- 2: the pairs of every program
+  pub pair-list : (P : Program) → PairList P
   -- 2: the clause list of every well-formed program, for every width with room for n + 2 values
   pub clause-list-at : (P : Program) (w : ℕ) → So (wellFormed P) → P .atoms + 2 ≤ 2 ^ w → ClauseList P w
   -- 2: and so for document 01's width
