@@ -1,6 +1,9 @@
 // A program in flat arrays.
 use numbers::Atom;
+use numbers::BODIES;
+use numbers::HEADS;
 use numbers::Rule;
+use numbers::STARTS;
 use numbers::wide;
 ghost use Prim.Native.Nat.{_-_, _≤_, _<_};
 ghost use mathlib.Core.Path.{_≡_};
@@ -13,9 +16,9 @@ pub struct Program {
     pub atoms: u16,
     pub rules: u16,
     pub held: u16,
-    pub heads: [u16; 500],
-    pub starts: [u16; 1001],
-    pub bodies: [u16; 500],
+    pub heads: [u16; HEADS],
+    pub starts: [u16; STARTS],
+    pub bodies: [u16; BODIES],
 }
 
 // The head of rule r.
@@ -35,8 +38,8 @@ pub fn empty() -> Program
         atoms: 0,
         rules: 0,
         held: 0,
-        heads: [0u16; 500],
-        starts: [0u16; 1001],
-        bodies: [0u16; 500],
+        heads: [0u16; HEADS],
+        starts: [0u16; STARTS],
+        bodies: [0u16; BODIES],
     }
 }

@@ -1,8 +1,14 @@
 // The reader of program text.
+use numbers::BODIES;
+use numbers::HEADS;
+use numbers::STARTS;
 use program::Program;
 use program::empty;
 use reader_fast::Stand;
 use reader_fast::lines;
+use reader_form::AT_PLACE;
+use reader_form::DEAD;
+use reader_form::FORM_RULE;
 use reader_form::step;
 use reader_work::Counts;
 use reader_work::begin_after;
@@ -15,6 +21,9 @@ ghost use Rattle.reader_work.specs.Reading.{Ends, readFrom, started};
 ghost use Rattle.reader_fast.specs.Standing.{readOn};
 ghost use Rattle.reader.specs.Verdict.{refusalOf, refuseOf, readOf};
 ghost use Rattle.reader.specs.Counted.{countedOf};
+
+// The most bytes of a program text, and of a solver answer (document 01, "Program text" and "Solver answer").
+pub const MAX_TEXT: usize = 65536;
 
 // Whether a text is a program.
 pub enum ReadVerdict {
@@ -32,9 +41,9 @@ pub struct Reading {
 fn finish(
     text: &[u8],
     s: Stand,
-    heads: &mut [u16; 500],
-    starts: &mut [u16; 1001],
-    bodies: &mut [u16; 500],
+    heads: &mut [u16; HEADS],
+    starts: &mut [u16; STARTS],
+    bodies: &mut [u16; BODIES],
 ) -> Counts
     ensures { λ r. ⌜ Ends r (now (heads .exit)) (now (starts .exit)) (now (bodies .exit)) (readOn s (now (heads .entry)) (now (starts .entry)) (now (bodies .entry)) (now (text .entry))) ⌝ }
 {
@@ -55,7 +64,7 @@ fn finish(
         let b = text[i];
         let p = step(k, mode, b);
         let act = p.act;
-        if p.mode == 4 {
+        if p.mode == DEAD {
             return refused(c, 2, i);
         }
         c = work(
@@ -75,10 +84,10 @@ fn finish(
         mode = p.mode;
         i += 1;
     }
-    if k != 10 {
+    if k != FORM_RULE {
         return refused(c, 2, i);
     }
-    if mode != 0 {
+    if mode != AT_PLACE {
         return refused(c, 2, i);
     }
     c
@@ -87,15 +96,15 @@ fn finish(
 // Reads the text into the three arrays, which hold zeros.
 fn read_into(
     text: &[u8],
-    heads: &mut [u16; 500],
-    starts: &mut [u16; 1001],
-    bodies: &mut [u16; 500],
+    heads: &mut [u16; HEADS],
+    starts: &mut [u16; STARTS],
+    bodies: &mut [u16; BODIES],
 ) -> Counts
     ensures { λ r. ⌜ Ends r (now (heads .exit)) (now (starts .exit)) (now (bodies .exit)) (readFrom (started (now (heads .entry)) (now (starts .entry)) (now (bodies .entry))) 0 (now (text .entry))) ⌝ }
 {
     let s = Stand {
         k: 0,
-        mode: 0,
+        mode: AT_PLACE,
         at: 0,
         atoms: 0,
         rules: 0,
@@ -143,12 +152,12 @@ fn refuse(refusal: TextRefusal) -> Reading
 pub fn read(text: &[u8]) -> Reading
     ensures { λ r. ⌜ r ≡ readOf (now (text .entry)) ⌝ }
 {
-    if 65536 < text.len() {
+    if MAX_TEXT < text.len() {
         return refuse(TextRefusal::Overlong(text.len()));
     }
-    let mut heads = [0u16; 500];
-    let mut starts = [0u16; 1001];
-    let mut bodies = [0u16; 500];
+    let mut heads = [0u16; HEADS];
+    let mut starts = [0u16; STARTS];
+    let mut bodies = [0u16; BODIES];
     let c = read_into(text, &mut heads, &mut starts, &mut bodies);
     if c.number != 0 {
         return refuse(refusal(c.number, c.spot));
@@ -171,7 +180,7 @@ pub fn read(text: &[u8]) -> Reading
 pub fn read_counted(front: &[u8], total: usize) -> Reading
     ensures { λ r. ⌜ r ≡ countedOf (now (front .entry)) total ⌝ }
 {
-    if 65536 < total {
+    if MAX_TEXT < total {
         return Reading {
             verdict: ReadVerdict::Refused(TextRefusal::Overlong(total)),
             program: empty(),

@@ -3,8 +3,22 @@
 // Each function goes on from where the reading stands, or stays there: the rest of the text is read to the same end from the stand that it
 // returns. None of them refuses a text. What they do not take is left to the automaton.
 use numbers::Atom;
+use numbers::BODIES;
+use numbers::HEADS;
+use numbers::MAX_ATOMS;
+use numbers::MAX_BODY_ATOMS;
+use numbers::MAX_RULES;
 use numbers::Rule;
+use numbers::STARTS;
 use numbers::wide;
+use reader_form::AT_PLACE;
+use reader_form::AT_SPACE;
+use reader_form::FORM_BETWEEN;
+use reader_form::FORM_CLOSE;
+use reader_form::FORM_HEAD;
+use reader_form::FORM_NEGATIVE;
+use reader_form::FORM_POSITIVE;
+use reader_form::FORM_RULE;
 use reader_form::is_digit;
 use reader_work::put_body;
 use reader_work::put_head;
@@ -99,20 +113,20 @@ fn ready(s: Stand, k: usize) -> bool
     if s.k != k {
         return false;
     }
-    if s.mode != 0 {
+    if s.mode != AT_PLACE {
         return false;
     }
-    s.rules < 500
+    s.rules < MAX_RULES
 }
 
 // Whether place k has a list.
 fn is_list(k: usize) -> bool
     ensures { λ r. ⌜ r ≡ listAt k ⌝ }
 {
-    if k == 19 {
+    if k == FORM_POSITIVE {
         return true;
     }
-    k == 23
+    k == FORM_NEGATIVE
 }
 
 // Whether the reading stands in a list where a number may begin.
@@ -122,10 +136,10 @@ fn listing(s: Stand) -> bool
     if !is_list(s.k) {
         return false;
     }
-    if s.mode == 0 {
+    if s.mode == AT_PLACE {
         return true;
     }
-    s.mode == 3
+    s.mode == AT_SPACE
 }
 
 // Whether the number is an atom above the list's last one, and there is room for it.
@@ -138,7 +152,7 @@ fn fits(s: Stand, value: u16) -> bool
     if value <= s.prev {
         return false;
     }
-    s.held < 500
+    s.held < MAX_BODY_ATOMS
 }
 
 // The stand with one body atom more, at place k, in `mode`, before byte `at`.
@@ -174,7 +188,7 @@ fn first(text: &[u8], s: Stand) -> Stand
     if n.size == 0 {
         return s;
     }
-    if 126 < n.value {
+    if MAX_ATOMS < n.value {
         return s;
     }
     let to = at + 7 + n.size;
@@ -182,13 +196,13 @@ fn first(text: &[u8], s: Stand) -> Stand
         return s;
     }
     Stand {
-        k: 10,
+        k: FORM_RULE,
         at: to + 2,
         rules: s.rules,
         held: s.held,
         prev: s.prev,
         atoms: n.value as u8,
-        mode: 0,
+        mode: AT_PLACE,
     }
 }
 
@@ -196,7 +210,7 @@ fn first(text: &[u8], s: Stand) -> Stand
 fn begun(text: &[u8], s: Stand) -> Stand
     ensures { λ r. ⌜ Goes s r (now (text .entry)) ⌝ }
 {
-    if !ready(s, 10) {
+    if !ready(s, FORM_RULE) {
         return s;
     }
     let at = s.at;
@@ -204,21 +218,21 @@ fn begun(text: &[u8], s: Stand) -> Stand
         return s;
     }
     Stand {
-        k: 16,
+        k: FORM_HEAD,
         at: at + 6,
         rules: s.rules,
         held: s.held,
         prev: s.prev,
         atoms: s.atoms,
-        mode: 0,
+        mode: AT_PLACE,
     }
 }
 
 // A head, and the bytes up to the first list.
-fn headed(text: &[u8], s: Stand, heads: &mut [u16; 500]) -> Stand
+fn headed(text: &[u8], s: Stand, heads: &mut [u16; HEADS]) -> Stand
     ensures { λ r. ⌜ GoesHeads s (now (heads .entry)) r (now (heads .exit)) (now (text .entry)) ⌝ }
 {
-    if !ready(s, 16) {
+    if !ready(s, FORM_HEAD) {
         return s;
     }
     let at = s.at;
@@ -235,13 +249,13 @@ fn headed(text: &[u8], s: Stand, heads: &mut [u16; 500]) -> Stand
     }
     put_head(&mut *heads, Rule(s.rules + 1), Atom(n.value));
     Stand {
-        k: 19,
+        k: FORM_POSITIVE,
         at: to + 2,
         rules: s.rules,
         held: s.held,
         prev: 0,
         atoms: s.atoms,
-        mode: 0,
+        mode: AT_PLACE,
     }
 }
 
@@ -252,7 +266,7 @@ fn closed(text: &[u8], s: Stand) -> Stand
     if !is_list(s.k) {
         return s;
     }
-    if s.mode != 0 {
+    if s.mode != AT_PLACE {
         return s;
     }
     let at = s.at;
@@ -266,12 +280,12 @@ fn closed(text: &[u8], s: Stand) -> Stand
         held: s.held,
         prev: s.prev,
         atoms: s.atoms,
-        mode: 0,
+        mode: AT_PLACE,
     }
 }
 
 // A body atom, and the space or bracket behind it.
-fn item(text: &[u8], s: Stand, bodies: &mut [u16; 500]) -> Stand
+fn item(text: &[u8], s: Stand, bodies: &mut [u16; BODIES]) -> Stand
     ensures { λ r. ⌜ GoesBodies s (now (bodies .entry)) r (now (bodies .exit)) (now (text .entry)) ⌝ }
 {
     if !listing(s) {
@@ -288,17 +302,17 @@ fn item(text: &[u8], s: Stand, bodies: &mut [u16; 500]) -> Stand
     let b = text[to];
     if b == 32 {
         put_body(&mut *bodies, wide(s.held), Atom(n.value));
-        return added(s, n.value, s.k, 3, to + 1);
+        return added(s, n.value, s.k, AT_SPACE, to + 1);
     }
     if b == 41 {
         put_body(&mut *bodies, wide(s.held), Atom(n.value));
-        return added(s, n.value, s.k + 2, 0, to + 1);
+        return added(s, n.value, s.k + 2, AT_PLACE, to + 1);
     }
     s
 }
 
 // The atoms of a list, and its closing bracket.
-fn items(text: &[u8], s: Stand, bodies: &mut [u16; 500]) -> Stand
+fn items(text: &[u8], s: Stand, bodies: &mut [u16; BODIES]) -> Stand
     ensures { λ r. ⌜ GoesBodies s (now (bodies .entry)) r (now (bodies .exit)) (now (text .entry)) ⌝ }
 {
     let mut p = s;
@@ -313,10 +327,10 @@ fn items(text: &[u8], s: Stand, bodies: &mut [u16; 500]) -> Stand
 }
 
 // The bytes between the two lists.
-fn between(text: &[u8], s: Stand, starts: &mut [u16; 1001]) -> Stand
+fn between(text: &[u8], s: Stand, starts: &mut [u16; STARTS]) -> Stand
     ensures { λ r. ⌜ GoesStarts s (now (starts .entry)) r (now (starts .exit)) (now (text .entry)) ⌝ }
 {
-    if !ready(s, 21) {
+    if !ready(s, FORM_BETWEEN) {
         return s;
     }
     let at = s.at;
@@ -325,21 +339,21 @@ fn between(text: &[u8], s: Stand, starts: &mut [u16; 1001]) -> Stand
     }
     starts[2 * wide(s.rules) + 1] = s.held;
     Stand {
-        k: 23,
+        k: FORM_NEGATIVE,
         at: at + 2,
         rules: s.rules,
         held: s.held,
         prev: 0,
         atoms: s.atoms,
-        mode: 0,
+        mode: AT_PLACE,
     }
 }
 
 // The end of a rule line.
-fn shut(text: &[u8], s: Stand, starts: &mut [u16; 1001]) -> Stand
+fn shut(text: &[u8], s: Stand, starts: &mut [u16; STARTS]) -> Stand
     ensures { λ r. ⌜ GoesStarts s (now (starts .entry)) r (now (starts .exit)) (now (text .entry)) ⌝ }
 {
-    if !ready(s, 25) {
+    if !ready(s, FORM_CLOSE) {
         return s;
     }
     let at = s.at;
@@ -348,13 +362,13 @@ fn shut(text: &[u8], s: Stand, starts: &mut [u16; 1001]) -> Stand
     }
     starts[2 * wide(s.rules) + 2] = s.held;
     Stand {
-        k: 10,
+        k: FORM_RULE,
         at: at + 2,
         rules: s.rules + 1,
         held: s.held,
         prev: 0,
         atoms: s.atoms,
-        mode: 0,
+        mode: AT_PLACE,
     }
 }
 
@@ -362,27 +376,27 @@ fn shut(text: &[u8], s: Stand, starts: &mut [u16; 1001]) -> Stand
 fn rule(
     text: &[u8],
     s: Stand,
-    heads: &mut [u16; 500],
-    starts: &mut [u16; 1001],
-    bodies: &mut [u16; 500],
+    heads: &mut [u16; HEADS],
+    starts: &mut [u16; STARTS],
+    bodies: &mut [u16; BODIES],
 ) -> Stand
     ensures { λ r. ⌜ readOn r (now (heads .exit)) (now (starts .exit)) (now (bodies .exit)) (now (text .entry)) ≡ readOn s (now (heads .entry)) (now (starts .entry)) (now (bodies .entry)) (now (text .entry)) ⌝ }
 {
     let a = begun(text, s);
-    if a.k != 16 {
+    if a.k != FORM_HEAD {
         return a;
     }
     let b = headed(text, a, &mut *heads);
-    if b.k != 19 {
+    if b.k != FORM_POSITIVE {
         return b;
     }
     let c = closed(text, b);
     let d = items(text, c, &mut *bodies);
-    if d.k != 21 {
+    if d.k != FORM_BETWEEN {
         return d;
     }
     let e = between(text, d, &mut *starts);
-    if e.k != 23 {
+    if e.k != FORM_NEGATIVE {
         return e;
     }
     let f = closed(text, e);
@@ -394,9 +408,9 @@ fn rule(
 pub fn lines(
     text: &[u8],
     s: Stand,
-    heads: &mut [u16; 500],
-    starts: &mut [u16; 1001],
-    bodies: &mut [u16; 500],
+    heads: &mut [u16; HEADS],
+    starts: &mut [u16; STARTS],
+    bodies: &mut [u16; BODIES],
 ) -> Stand
     ensures { λ r. ⌜ readOn r (now (heads .exit)) (now (starts .exit)) (now (bodies .exit)) (now (text .entry)) ≡ readOn s (now (heads .entry)) (now (starts .entry)) (now (bodies .entry)) (now (text .entry)) ⌝ }
 {

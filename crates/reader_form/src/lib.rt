@@ -4,8 +4,70 @@ ghost use Prim.Native.Nat.{_<_};
 ghost use lib.ListN.{getD};
 ghost use Rattle.reader_form.specs.Automaton.{formAt, digitTest, literalOf, leaveOf, digitOf, itemOf, actAt, stepOf};
 
-// Place k of the form, what is at hand there, and what the last byte does. `mode` is 0 at place k itself, 1 in the number 0 there, 2 in
-// another number, 3 after a list's space, and 4 past any text of the form.
+// The place of the number of atoms.
+pub const FORM_ATOMS: usize = 7;
+
+// The place where a rule line begins, and where a text may end.
+pub const FORM_RULE: usize = 10;
+
+// The place of a head.
+pub const FORM_HEAD: usize = 16;
+
+// The place of a positive list.
+pub const FORM_POSITIVE: usize = 19;
+
+// The place of the space between the two lists.
+pub const FORM_BETWEEN: usize = 21;
+
+// The place of a negative list.
+pub const FORM_NEGATIVE: usize = 23;
+
+// The place of the last bracket of a rule line.
+pub const FORM_CLOSE: usize = 25;
+
+// The place of the byte 10 that ends a rule line.
+pub const FORM_LINE_END: usize = 26;
+
+// How many bytes the form has.
+pub const FORM_LENGTH: usize = 27;
+
+// Mode: at the place itself.
+pub const AT_PLACE: u8 = 0;
+
+// Mode: in the number 0.
+pub const IN_ZERO: u8 = 1;
+
+// Mode: in a number that does not begin with 0.
+pub const IN_NUMBER: u8 = 2;
+
+// Mode: after a list's space.
+pub const AT_SPACE: u8 = 3;
+
+// Mode: past any text of the form.
+pub const DEAD: u8 = 4;
+
+// Action of a byte that does nothing.
+pub const ACT_NONE: u8 = 0;
+
+// Action of the first digit of a number.
+pub const ACT_BEGIN: u8 = 1;
+
+// Action of a further digit of a number.
+pub const ACT_GO: u8 = 2;
+
+// Action of the byte after a number.
+pub const ACT_END: u8 = 3;
+
+// Action of the first byte of a rule line.
+pub const ACT_RULE: u8 = 4;
+
+// Action of the byte after a positive list.
+pub const ACT_LIST: u8 = 5;
+
+// Action of the byte that ends a rule line.
+pub const ACT_LINE: u8 = 6;
+
+// Place k of the form, how far it is read there, and what the last byte does.
 pub struct Place {
     pub k: usize,
     pub mode: u8,
@@ -46,28 +108,28 @@ fn literal(k: usize, b: u8, act: u8) -> Place
     if b != c {
         return Place {
             k: k,
-            mode: 4,
-            act: 0,
+            mode: DEAD,
+            act: ACT_NONE,
         };
     }
     if c == 10 {
         return Place {
-            k: 10,
-            mode: 0,
+            k: FORM_RULE,
+            mode: AT_PLACE,
             act: act,
         };
     }
-    if k < 27 {
+    if k < FORM_LENGTH {
         return Place {
             k: k + 1,
-            mode: 0,
+            mode: AT_PLACE,
             act: act,
         };
     }
     Place {
         k: k,
-        mode: 4,
-        act: 0,
+        mode: DEAD,
+        act: ACT_NONE,
     }
 }
 
@@ -76,65 +138,65 @@ fn leave(k: usize, c: u8, mode: u8, b: u8) -> Place
     requires { ⌜ k < 27 ⌝ }
     ensures { λ r. ⌜ r ≡ leaveOf k c mode b ⌝ }
 {
-    if mode == 0 {
+    if mode == AT_PLACE {
         if c == 42 {
-            return literal(k + 1, b, 0);
+            return literal(k + 1, b, ACT_NONE);
         }
         return Place {
             k: k,
-            mode: 4,
-            act: 0,
+            mode: DEAD,
+            act: ACT_NONE,
         };
     }
-    if mode == 3 {
+    if mode == AT_SPACE {
         return Place {
             k: k,
-            mode: 4,
-            act: 0,
+            mode: DEAD,
+            act: ACT_NONE,
         };
     }
     if c != 42 {
-        return literal(k + 1, b, 3);
+        return literal(k + 1, b, ACT_END);
     }
     if b == 32 {
         return Place {
             k: k,
-            mode: 3,
-            act: 3,
+            mode: AT_SPACE,
+            act: ACT_END,
         };
     }
-    literal(k + 1, b, 3)
+    literal(k + 1, b, ACT_END)
 }
 
 // A digit b in the numbers of place k.
 fn digit(k: usize, mode: u8, b: u8) -> Place
     ensures { λ r. ⌜ r ≡ digitOf k mode b ⌝ }
 {
-    if mode == 1 {
+    if mode == IN_ZERO {
         return Place {
             k: k,
-            mode: 4,
-            act: 0,
+            mode: DEAD,
+            act: ACT_NONE,
         };
     }
-    if mode == 2 {
+    if mode == IN_NUMBER {
         return Place {
             k: k,
-            mode: 2,
-            act: 2,
+            mode: IN_NUMBER,
+            act: ACT_GO,
         };
     }
     if b == 48 {
         return Place {
             k: k,
-            mode: 1,
-            act: 1,
+            mode: IN_ZERO,
+            act: ACT_BEGIN,
         };
     }
     Place {
         k: k,
-        mode: 2,
-        act: 1,
+        mode: IN_NUMBER,
+        act: ACT_BEGIN,
     }
 }
 
@@ -153,16 +215,16 @@ fn item(k: usize, c: u8, mode: u8, b: u8) -> Place
 fn act_at(k: usize) -> u8
     ensures { λ r. ⌜ r ≡ actAt k ⌝ }
 {
-    if k == 10 {
-        return 4;
+    if k == FORM_RULE {
+        return ACT_RULE;
     }
-    if k == 21 {
-        return 5;
+    if k == FORM_BETWEEN {
+        return ACT_LIST;
     }
-    if k == 26 {
-        return 6;
+    if k == FORM_LINE_END {
+        return ACT_LINE;
     }
-    0
+    ACT_NONE
 }
 
 // Byte b, from place k with `mode` at hand.

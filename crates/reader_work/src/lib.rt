@@ -1,13 +1,29 @@
 // What the reader keeps while it reads a program text, and what each byte does to it (document 01, rows 3 to 7).
 use numbers::Atom;
+use numbers::BODIES;
+use numbers::HEADS;
+use numbers::MAX_ATOMS;
+use numbers::MAX_BODY_ATOMS;
+use numbers::MAX_RULES;
 use numbers::Rule;
+use numbers::STARTS;
 use numbers::wide;
+use reader_form::ACT_BEGIN;
+use reader_form::ACT_END;
+use reader_form::ACT_GO;
+use reader_form::ACT_LIST;
+use reader_form::ACT_RULE;
+use reader_form::FORM_ATOMS;
+use reader_form::FORM_HEAD;
 ghost use Prim.Native.Nat.{_-_, _≤_, _<_};
 ghost use mathlib.Core.Path.{_≡_};
 ghost use lib.ListN.{set};
 ghost use Rattle.reader_work.specs.Work.{refusedOf, withPrev, grownOf, valueOf, beginOf, atomsEnded, headEnded, headStored, bodyEnded, bodyStored};
 ghost use Rattle.reader_work.specs.Work.{openedOf, startStored, ruleShut, endedOf, endedHeads, endedBodies, bracketOf, bracketStarts};
 ghost use Rattle.reader_work.specs.Work.{workOf, workHeads, workStarts, workBodies};
+
+// The number, from 0, of the last rule that is stored.
+const LAST_RULE: u16 = MAX_RULES - 1;
 
 // What is read so far: the number of atoms, the rules and body atoms stored, the list's last number, and the first refusal with its spot
 // (number 0 while there is none).
@@ -21,7 +37,7 @@ pub struct Counts {
 }
 
 // Stores the head of rule r, and body atom j, from 0.
-pub fn put_head(heads: &mut [u16; 500], r: Rule, a: Atom)
+pub fn put_head(heads: &mut [u16; HEADS], r: Rule, a: Atom)
     requires { ⌜ (0 < r .0) × (r .0 ≤ 500) ⌝ }
     ensures { λ u. ⌜ now (heads .exit) ≡ set (now (heads .entry)) (r .0 - 1) (a .0) ⌝ }
 {
@@ -29,7 +45,7 @@ pub fn put_head(heads: &mut [u16; 500], r: Rule, a: Atom)
     heads[i] = a.0;
 }
 
-pub fn put_body(bodies: &mut [u16; 500], j: usize, a: Atom)
+pub fn put_body(bodies: &mut [u16; BODIES], j: usize, a: Atom)
     requires { ⌜ j < 500 ⌝ }
     ensures { λ u. ⌜ now (bodies .exit) ≡ set (now (bodies .entry)) j (a .0) ⌝ }
 {
@@ -68,14 +84,14 @@ fn grown(value: u16, b: u8) -> u16
     v
 }
 
-// The number at hand after byte b with action `act`: 1 begins it, 2 goes on; there is none otherwise.
+// The number at hand after byte b with action `act`, which begins it or goes on; there is none otherwise.
 pub fn value_after(act: u8, value: u16, b: u8) -> u16
     ensures { λ r. ⌜ r ≡ valueOf act value b ⌝ }
 {
-    if act == 1 {
+    if act == ACT_BEGIN {
         return grown(0, b);
     }
-    if act == 2 {
+    if act == ACT_GO {
         return grown(value, b);
     }
     0
@@ -85,10 +101,10 @@ pub fn value_after(act: u8, value: u16, b: u8) -> u16
 pub fn begin_after(act: u8, begin: usize, i: usize) -> usize
     ensures { λ r. ⌜ r ≡ beginOf act begin i ⌝ }
 {
-    if act == 1 {
+    if act == ACT_BEGIN {
         return i;
     }
-    if act == 2 {
+    if act == ACT_GO {
         return begin;
     }
     0
@@ -98,7 +114,7 @@ pub fn begin_after(act: u8, begin: usize, i: usize) -> usize
 fn atoms_ended(value: u16, begin: usize, c: Counts) -> Counts
     ensures { λ r. ⌜ r ≡ atomsEnded value begin c ⌝ }
 {
-    if 126 < value {
+    if MAX_ATOMS < value {
         return refused(c, 3, begin);
     }
     Counts {
@@ -126,7 +142,7 @@ fn list_begun(c: Counts) -> Counts
 }
 
 // A head is read.
-fn head_ended(value: u16, begin: usize, c: Counts, heads: &mut [u16; 500]) -> Counts
+fn head_ended(value: u16, begin: usize, c: Counts, heads: &mut [u16; HEADS]) -> Counts
     ensures { λ r. ⌜ (r ≡ headEnded value begin c) × (now (heads .exit) ≡ headStored value c (now (heads .entry))) ⌝ }
 {
     if value == 0 {
@@ -135,7 +151,7 @@ fn head_ended(value: u16, begin: usize, c: Counts, heads: &mut [u16; 500]) -> Co
     if c.atoms < value {
         return refused(c, 4, begin);
     }
-    if c.rules < 500 {
+    if c.rules < MAX_RULES {
         put_head(&mut *heads, Rule(c.rules + 1), Atom(value));
         return list_begun(c);
     }
@@ -143,7 +159,7 @@ fn head_ended(value: u16, begin: usize, c: Counts, heads: &mut [u16; 500]) -> Co
 }
 
 // A body atom is read.
-fn body_ended(value: u16, begin: usize, c: Counts, bodies: &mut [u16; 500]) -> Counts
+fn body_ended(value: u16, begin: usize, c: Counts, bodies: &mut [u16; BODIES]) -> Counts
     ensures { λ r. ⌜ (r ≡ bodyEnded value begin c) × (now (bodies .exit) ≡ bodyStored value c (now (bodies .entry))) ⌝ }
 {
     if value == 0 {
@@ -155,7 +171,7 @@ fn body_ended(value: u16, begin: usize, c: Counts, bodies: &mut [u16; 500]) -> C
     if value <= c.prev {
         return refused(c, 5, begin);
     }
-    if c.held < 500 {
+    if c.held < MAX_BODY_ATOMS {
         put_body(&mut *bodies, wide(c.held), Atom(value));
         return Counts {
             atoms: c.atoms,
@@ -173,17 +189,17 @@ fn body_ended(value: u16, begin: usize, c: Counts, bodies: &mut [u16; 500]) -> C
 fn opened(i: usize, c: Counts) -> Counts
     ensures { λ r. ⌜ r ≡ openedOf i c ⌝ }
 {
-    if c.rules < 500 {
+    if c.rules < MAX_RULES {
         return c;
     }
     refused(c, 6, i)
 }
 
 // Stores the end of list j of the rule at hand, 1 for the positive one and 2 for the negative.
-fn list_shut(j: usize, c: Counts, starts: &mut [u16; 1001])
+fn list_shut(j: usize, c: Counts, starts: &mut [u16; STARTS])
     ensures { λ r. ⌜ now (starts .exit) ≡ startStored j c (now (starts .entry)) ⌝ }
 {
-    if 499 < c.rules {
+    if LAST_RULE < c.rules {
         return;
     }
     if j < 3 {
@@ -196,7 +212,7 @@ fn list_shut(j: usize, c: Counts, starts: &mut [u16; 1001])
 fn rule_shut(c: Counts) -> Counts
     ensures { λ r. ⌜ r ≡ ruleShut c ⌝ }
 {
-    if c.rules < 500 {
+    if c.rules < MAX_RULES {
         return Counts {
             atoms: c.atoms,
             rules: c.rules + 1,
@@ -215,28 +231,28 @@ fn number_ended(
     value: u16,
     begin: usize,
     c: Counts,
-    heads: &mut [u16; 500],
-    bodies: &mut [u16; 500],
+    heads: &mut [u16; HEADS],
+    bodies: &mut [u16; BODIES],
 ) -> Counts
     ensures { λ r. ⌜ (r ≡ endedOf k value begin c) × ((now (heads .exit) ≡ endedHeads k value c (now (heads .entry))) × (now (bodies .exit) ≡ endedBodies k value c (now (bodies .entry)))) ⌝ }
 {
-    if k == 7 {
+    if k == FORM_ATOMS {
         return atoms_ended(value, begin, c);
     }
-    if k == 16 {
+    if k == FORM_HEAD {
         return head_ended(value, begin, c, &mut *heads);
     }
     body_ended(value, begin, c, &mut *bodies)
 }
 
 // A list or a line begins or ends at byte i.
-fn bracket(act: u8, i: usize, c: Counts, starts: &mut [u16; 1001]) -> Counts
+fn bracket(act: u8, i: usize, c: Counts, starts: &mut [u16; STARTS]) -> Counts
     ensures { λ r. ⌜ (r ≡ bracketOf act i c) × (now (starts .exit) ≡ bracketStarts act c (now (starts .entry))) ⌝ }
 {
-    if act == 4 {
+    if act == ACT_RULE {
         return opened(i, c);
     }
-    if act == 5 {
+    if act == ACT_LIST {
         list_shut(1, c, &mut *starts);
         return list_begun(c);
     }
@@ -252,19 +268,19 @@ pub fn work(
     begin: usize,
     i: usize,
     c: Counts,
-    heads: &mut [u16; 500],
-    starts: &mut [u16; 1001],
-    bodies: &mut [u16; 500],
+    heads: &mut [u16; HEADS],
+    starts: &mut [u16; STARTS],
+    bodies: &mut [u16; BODIES],
 ) -> Counts
     ensures { λ r. ⌜ (r ≡ workOf act k value begin i c) × ((now (heads .exit) ≡ workHeads act k value c (now (heads .entry))) × ((now (starts .exit) ≡ workStarts act c (now (starts .entry))) × (now (bodies .exit) ≡ workBodies act k value c (now (bodies .entry))))) ⌝ }
 {
-    if act < 3 {
+    if act < ACT_END {
         return c;
     }
     if c.number != 0 {
         return c;
     }
-    if act == 3 {
+    if act == ACT_END {
         return number_ended(k, value, begin, c, &mut *heads, &mut *bodies);
     }
     bracket(act, i, c, &mut *starts)
