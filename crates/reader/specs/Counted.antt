@@ -5,9 +5,10 @@ use Prim.Native.Nat.{ℕ}
 use mathlib.Core.Bool.{cond}
 use mathlib.Core.List.{List}
 use lib.Dec.{ltb}
+use Rattle.text.specs.Limits.{maxText}
 use Rattle.reader.specs.declared.Reading.{Reading}
 use Rattle.refusals.specs.declared.TextRefusal.the-variants.{Overlong}
 use Rattle.reader.specs.Verdict.{refuseOf, readOf}
 
 unfoldable pub countedOf : List ℕ → ℕ → Reading
-countedOf front total = cond (ltb 65536 total) (refuseOf (Overlong total)) (readOf front)
+countedOf front total = cond (ltb maxText total) (refuseOf (Overlong total)) (readOf front)

@@ -6,6 +6,7 @@ use mathlib.Core.Bool.{cond}
 use mathlib.Core.List.{List}
 use lib.Dec.{ltb, eqb}
 use lib.ListN.{length, replicate}
+use Rattle.text.specs.Limits.{maxText}
 use Rattle.program.specs.declared.Program.{Program}
 use Rattle.program.specs.Arrays.{emptyProgram}
 use Rattle.refusals.specs.declared.TextRefusal.{TextRefusal}
@@ -39,4 +40,4 @@ abbrev pub start : State
 start = started (replicate 500 0) (replicate 1001 0) (replicate 500 0)
 
 unfoldable pub readOf : List ℕ → Reading
-readOf t = cond (ltb 65536 (length t)) (refuseOf (Overlong (length t))) (finished (readFrom start 0 t))
+readOf t = cond (ltb maxText (length t)) (refuseOf (Overlong (length t))) (finished (readFrom start 0 t))

@@ -14,7 +14,8 @@ use mathlib.Core.Bool.{Bool, true, false, cond}
 use mathlib.Core.List.{List, [], _∷_}
 use lib.Dec.{ltb, leb, eqb}
 use lib.ListN.{length, getD, drop}
-use Rattle.reader_form.specs.Automaton.{digitTest}
+use Rattle.text.specs.Limits.{maxRules, maxBodyAtoms}
+use Rattle.reader_form.specs.Automaton.{formPositive, formNegative, digitTest}
 use Rattle.reader_fast.specs.declared.Stand.{Stand}
 use Rattle.reader_fast.specs.declared.Numeral.{Numeral}
 use Rattle.reader_work.specs.Reading.{State, readFrom}
@@ -76,11 +77,11 @@ numeralAt t i =
 
 -- at place k itself, with fewer than 500 rules
 unfoldable pub readyAt : Stand → ℕ → Bool
-readyAt s k = cond (eqb (s .k) k) (cond (eqb (s .mode) 0) (ltb (s .rules) 500) false) false
+readyAt s k = cond (eqb (s .k) k) (cond (eqb (s .mode) 0) (ltb (s .rules) maxRules) false) false
 
 -- the places of the two lists
 unfoldable pub listAt : ℕ → Bool
-listAt k = cond (eqb k 19) true (eqb k 23)
+listAt k = cond (eqb k formPositive) true (eqb k formNegative)
 
 -- in a list, at its first number or after a space
 unfoldable pub listingAt : Stand → Bool
@@ -88,7 +89,7 @@ listingAt s = cond (listAt (s .k)) (cond (eqb (s .mode) 0) true (eqb (s .mode) 3
 
 -- an atom above the list's last one, with room for it
 unfoldable pub fitsAt : Stand → ℕ → Bool
-fitsAt s value = cond (ltb (s .atoms) value) false (cond (leb value (s .prev)) false (ltb (s .held) 500))
+fitsAt s value = cond (ltb (s .atoms) value) false (cond (leb value (s .prev)) false (ltb (s .held) maxBodyAtoms))
 
 abbrev pub addedTo : Stand → ℕ → ℕ → ℕ → ℕ → Stand
 addedTo s value k mode at = record { k = k; at = at; rules = s .rules; held = s .held + 1; prev = value; atoms = s .atoms; mode = mode }

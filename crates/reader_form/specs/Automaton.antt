@@ -15,6 +15,31 @@ formBytes =
     40 ∷ 97 ∷ 116 ∷ 111 ∷ 109 ∷ 115 ∷ 32 ∷ 35 ∷ 41 ∷ 10
     ∷ 40 ∷ 114 ∷ 117 ∷ 108 ∷ 101 ∷ 32 ∷ 35 ∷ 32 ∷ 40 ∷ 42 ∷ 41 ∷ 32 ∷ 40 ∷ 42 ∷ 41 ∷ 41 ∷ 10 ∷ []
 
+-- the places of the number of atoms, a rule line, its head, its positive list, the space after that, its negative list and its line end
+abbrev pub formAtoms : ℕ
+formAtoms = 7
+
+abbrev pub formRule : ℕ
+formRule = 10
+
+abbrev pub formHead : ℕ
+formHead = 16
+
+abbrev pub formPositive : ℕ
+formPositive = 19
+
+abbrev pub formBetween : ℕ
+formBetween = 21
+
+abbrev pub formNegative : ℕ
+formNegative = 23
+
+abbrev pub formLineEnd : ℕ
+formLineEnd = 26
+
+abbrev pub formLength : ℕ
+formLength = 27
+
 unfoldable pub formAt : ℕ → ℕ
 formAt k = getD formBytes k 0
 
@@ -27,7 +52,7 @@ placed k mode act = record { k = k; mode = mode; act = act }
 unfoldable pub literalOf : ℕ → ℕ → ℕ → Place
 literalOf k b act =
     cond (eqb b (formAt k))
-    (cond (eqb (formAt k) 10) (placed 10 0 act) (cond (ltb k 27) (placed (k + 1) 0 act) (placed k 4 0)))
+    (cond (eqb (formAt k) 10) (placed formRule 0 act) (cond (ltb k formLength) (placed (k + 1) 0 act) (placed k 4 0)))
     (placed k 4 0)
 
 unfoldable pub leaveOf : ℕ → ℕ → ℕ → ℕ → Place
@@ -41,7 +66,7 @@ digitOf k mode b =
     cond (eqb mode 1) (placed k 4 0) (cond (eqb mode 2) (placed k 2 2) (cond (eqb b 48) (placed k 1 1) (placed k 2 1)))
 
 unfoldable pub actAt : ℕ → ℕ
-actAt k = cond (eqb k 10) 4 (cond (eqb k 21) 5 (cond (eqb k 26) 6 0))
+actAt k = cond (eqb k formRule) 4 (cond (eqb k formBetween) 5 (cond (eqb k formLineEnd) 6 0))
 
 unfoldable pub itemOf : ℕ → ℕ → ℕ → ℕ → Place
 itemOf k c mode b = cond (digitTest b) (digitOf k mode b) (leaveOf k c mode b)

@@ -8,7 +8,7 @@ use mathlib.Core.Path.{_≡_}
 use mathlib.Core.Bool.{Bool, cond}
 use mathlib.Core.List.{List, [], _∷_}
 use lib.Dec.{eqb}
-use Rattle.reader_form.specs.Automaton.{stepOf}
+use Rattle.reader_form.specs.Automaton.{formRule, stepOf}
 use Rattle.reader_work.specs.declared.Counts.{Counts}
 use Rattle.reader_work.specs.Work.{refusedOf, valueOf, beginOf, workOf, workHeads, workStarts, workBodies}
 
@@ -51,7 +51,7 @@ advance s i b =
     }
 
 unfoldable pub ended : State → ℕ → State
-ended s i = cond (eqb (s .k) 10) (cond (eqb (s .mode) 0) s (malformed s i)) (malformed s i)
+ended s i = cond (eqb (s .k) formRule) (cond (eqb (s .mode) 0) s (malformed s i)) (malformed s i)
 
 unfoldable pub readFrom : State → ℕ → List ℕ → State
 readFrom s i [] = ended s i

@@ -8,6 +8,8 @@ use mathlib.Core.Bool.{cond}
 use mathlib.Core.List.{List}
 use lib.Dec.{ltb, leb, eqb}
 use lib.ListN.{set}
+use Rattle.text.specs.Limits.{maxAtoms, maxRules, maxBodyAtoms}
+use Rattle.reader_form.specs.Automaton.{formAtoms, formHead}
 use Rattle.reader_work.specs.declared.Counts.{Counts}
 
 abbrev pub refusedOf : Counts → ℕ → ℕ → Counts
@@ -29,7 +31,7 @@ beginOf act begin i = cond (eqb act 1) i (cond (eqb act 2) begin 0)
 -- row 3: N above 126
 unfoldable pub atomsEnded : ℕ → ℕ → Counts → Counts
 atomsEnded value begin c =
-    cond (ltb 126 value) (refusedOf c 3 begin)
+    cond (ltb maxAtoms value) (refusedOf c 3 begin)
     (record { atoms = value; rules = c .rules; held = c .held; prev = c .prev; number = c .number; spot = c .spot })
 
 -- row 4: 0 or above N
@@ -38,7 +40,7 @@ headEnded value begin c = cond (eqb value 0) (refusedOf c 4 begin) (cond (ltb (c
 
 unfoldable pub headStored : ℕ → Counts → List ℕ → List ℕ
 headStored value c heads =
-    cond (eqb value 0) heads (cond (ltb (c .atoms) value) heads (cond (ltb (c .rules) 500) (set heads (c .rules) value) heads))
+    cond (eqb value 0) heads (cond (ltb (c .atoms) value) heads (cond (ltb (c .rules) maxRules) (set heads (c .rules) value) heads))
 
 -- rows 4, 5 and 7: not an atom, not above its list neighbour before, body atom 501
 unfoldable pub bodyEnded : ℕ → ℕ → Counts → Counts
@@ -46,35 +48,35 @@ bodyEnded value begin c =
     cond (eqb value 0) (refusedOf c 4 begin)
     (cond (ltb (c .atoms) value) (refusedOf c 4 begin)
     (cond (leb value (c .prev)) (refusedOf c 5 begin)
-    (cond (ltb (c .held) 500)
+    (cond (ltb (c .held) maxBodyAtoms)
     (record { atoms = c .atoms; rules = c .rules; held = c .held + 1; prev = value; number = c .number; spot = c .spot })
     (refusedOf c 7 begin))))
 
 unfoldable pub bodyStored : ℕ → Counts → List ℕ → List ℕ
 bodyStored value c bodies =
-    cond (eqb value 0) bodies (cond (ltb (c .atoms) value) bodies (cond (leb value (c .prev)) bodies (cond (ltb (c .held) 500) (set bodies (c .held) value) bodies)))
+    cond (eqb value 0) bodies (cond (ltb (c .atoms) value) bodies (cond (leb value (c .prev)) bodies (cond (ltb (c .held) maxBodyAtoms) (set bodies (c .held) value) bodies)))
 
 -- row 6: rule 501
 unfoldable pub openedOf : ℕ → Counts → Counts
-openedOf i c = cond (ltb (c .rules) 500) c (refusedOf c 6 i)
+openedOf i c = cond (ltb (c .rules) maxRules) c (refusedOf c 6 i)
 
 unfoldable pub startStored : ℕ → Counts → List ℕ → List ℕ
 startStored j c starts = cond (ltb 499 (c .rules)) starts (cond (ltb j 3) (set starts (2 * c .rules + j) (c .held)) starts)
 
 unfoldable pub ruleShut : Counts → Counts
 ruleShut c =
-    cond (ltb (c .rules) 500)
+    cond (ltb (c .rules) maxRules)
     (record { atoms = c .atoms; rules = c .rules + 1; held = c .held; prev = 0; number = c .number; spot = c .spot }) c
 
--- the number at place k is read: 7 is N, 16 a head, the others are body atoms
+-- the number at place k is read: N, a head or a body atom
 unfoldable pub endedOf : ℕ → ℕ → ℕ → Counts → Counts
-endedOf k value begin c = cond (eqb k 7) (atomsEnded value begin c) (cond (eqb k 16) (headEnded value begin c) (bodyEnded value begin c))
+endedOf k value begin c = cond (eqb k formAtoms) (atomsEnded value begin c) (cond (eqb k formHead) (headEnded value begin c) (bodyEnded value begin c))
 
 unfoldable pub endedHeads : ℕ → ℕ → Counts → List ℕ → List ℕ
-endedHeads k value c heads = cond (eqb k 7) heads (cond (eqb k 16) (headStored value c heads) heads)
+endedHeads k value c heads = cond (eqb k formAtoms) heads (cond (eqb k formHead) (headStored value c heads) heads)
 
 unfoldable pub endedBodies : ℕ → ℕ → Counts → List ℕ → List ℕ
-endedBodies k value c bodies = cond (eqb k 7) bodies (cond (eqb k 16) bodies (bodyStored value c bodies))
+endedBodies k value c bodies = cond (eqb k formAtoms) bodies (cond (eqb k formHead) bodies (bodyStored value c bodies))
 
 -- actions 4, 5 and 6: a rule line begins, its positive list ends, the line ends
 unfoldable pub bracketOf : ℕ → ℕ → Counts → Counts
