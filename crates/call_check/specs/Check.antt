@@ -22,6 +22,7 @@ use Rattle.lists.specs.Lists.{highest}
 use Rattle.meaning.specs.Program.{Program}
 use Rattle.encoding.specs.Width.{width}
 use Rattle.encoding.specs.Clauses.{sizes}
+use Rattle.text.specs.Limits.{maxText}
 use Rattle.reader.specs.declared.Reading.{Reading}
 use Rattle.reader.specs.declared.ReadVerdict.{ReadVerdict}
 use Rattle.reader.specs.declared.ReadVerdict.the-variants.{Accepted, Refused as TextRefused}
@@ -87,7 +88,7 @@ formResult P t NoModel = refuse NoModelOffered
 formResult P t (FormModel e) = assignedResult P t e
 
 abbrev pub answerResult : Program → List ℕ → ℕ → Result CheckRefusal
-answerResult P t k = cond (ltb 65536 k) (refuse (OverlongAnswer k)) (formResult P t (formOf t))
+answerResult P t k = cond (ltb maxText k) (refuse (OverlongAnswer k)) (formResult P t (formOf t))
 
 abbrev pub checkResult : Program → List ℕ → ℕ → ℕ → ℕ → Result CheckRefusal
 checkResult P t k a l =

@@ -28,7 +28,7 @@ use Rattle.encoding.specs.Literal.{Literal, Clause, Assignment, valueOf, clause
 use Rattle.encoding.specs.Fill.{counter}
 use Rattle.encoding.specs.Clauses.{sizes, clauses}
 use Rattle.reader_laws.specs.Row.{Row, rank}
-use Rattle.text.specs.Limits.{Admitted}
+use Rattle.text.specs.Limits.{maxText, Admitted}
 use Rattle.answer_form.specs.Answer.{Comment, Line, Status, Answer, proper, answerText, OfStatus, Malformed}
 use Rattle.answer_form.specs.Reading.{Spotted, spotsOf}
 use Rattle.answer_values.specs.Assign.{variableAt, spotAt, unnamedCount}
@@ -75,7 +75,7 @@ pub data CheckRow (t u : List ℕ) (a l : ℕ) : (place row spot : ℕ) → Type
   of-text : {r s : ℕ} → Row t r s → CheckRow t u a l (rank r) r s
   short-assignment : (P : Program) → Admitted t P → a < varTotal P → CheckRow t u a l 3 8 (varTotal P)
   short-levels : (P : Program) → Admitted t P → l < P .atoms → CheckRow t u a l 4 8 (P .atoms)
-  overlong-answer : 65536 < length u → CheckRow t u a l 5 10 (length u)
+  overlong-answer : maxText < length u → CheckRow t u a l 5 10 (length u)
   malformed-answer : {s : ℕ} → Malformed u s → CheckRow t u a l 6 11 s
   no-model-offered : {x : Status} → OfStatus u x → CheckRow t u a l 7 12 0
   stray-variable : (P : Program) → Admitted t P → (xs : List Spotted) → Offers u xs → (i : ℕ) → i < length xs → varTotal P < variableAt xs i
@@ -110,7 +110,7 @@ pub record Shows (t u : List ℕ) (a l : ℕ) (P : Program) (xs : List Spotted) 
   pub each-true : EachTrue P xs
   pub room : varTotal P ≤ a
   pub levels-room : P .atoms ≤ l
-  pub not-overlong : length u ≤ 65536
+  pub not-overlong : length u ≤ maxText
 
 pub record ModelWritten (t u b l : List ℕ) (P : Program) (xs : List Spotted) (k h c : ℕ) : Type 0 where
   pub count-is : k ≡ trueNumber P xs

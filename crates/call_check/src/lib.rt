@@ -12,6 +12,7 @@ use clause_tables::Totals;
 use clause_tabling::pairs_of;
 use clause_tabling::totals_of;
 use program::Program;
+use reader::MAX_TEXT;
 use reader::ReadVerdict;
 use reader::Reading;
 use reader::read;
@@ -147,7 +148,7 @@ fn check_in<'a>(
     if levels.len() < n {
         return CheckVerdict::Refused(CheckRefusal::ShortBuffer(n));
     }
-    if 65536 < total {
+    if MAX_TEXT < total {
         return CheckVerdict::Refused(CheckRefusal::OverlongAnswer(total));
     }
     let mut values = [2u8; 9890];

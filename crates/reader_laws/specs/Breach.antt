@@ -15,6 +15,7 @@ use lib.Dec.{ltb, leb, eqb}
 use lib.ListN.{length, getD}
 use Rattle.meaning.specs.Program.{Rule, Program}
 use Rattle.text.specs.Decimal.{decimal}
+use Rattle.text.specs.Limits.{maxAtoms, maxRules, maxBodyAtoms}
 use Rattle.reader_laws.specs.Judge.{positiveSpot, negativeSpot, ruleEnd}
 
 pub data Event : Type 0 where
@@ -58,12 +59,12 @@ events P = atomsRead (P .atoms) 7 ∷ rulesEvents (P .rules) 0 (7 + length (deci
 -- ---- the rows
 
 pub data Breached (N : ℕ) : Event → ℕ → Type 0 where
-  too-many-atoms : {x s : ℕ} → 126 < x → Breached N (atomsRead x s) 3
+  too-many-atoms : {x s : ℕ} → maxAtoms < x → Breached N (atomsRead x s) 3
   unknown-head : {x s : ℕ} → (x ≡ 0) ⊎ (N < x) → Breached N (headRead x s) 4
   unknown-atom : {x s : ℕ} {ys : List ℕ} {j : ℕ} → (x ≡ 0) ⊎ (N < x) → Breached N (bodyRead x s ys j) 4
   unordered : {x s y j : ℕ} {ys : List ℕ} → x ≤ y → Breached N (bodyRead x s (y ∷ ys) j) 5
-  too-many-rules : {s : ℕ} → Breached N (ruleOpened 500 s) 6
-  bodies-full : {x s : ℕ} {ys : List ℕ} → Breached N (bodyRead x s ys 500) 7
+  too-many-rules : {s : ℕ} → Breached N (ruleOpened maxRules s) 6
+  bodies-full : {x s : ℕ} {ys : List ℕ} → Breached N (bodyRead x s ys maxBodyAtoms) 7
 
 -- what stands at a place that is no event's
 abbrev pub noEvent : Event
@@ -89,10 +90,10 @@ abbrev pub whenMet : Bool → ℕ → List ℕ
 whenMet b k = cond b (k ∷ []) []
 
 abbrev pub rowsOf : ℕ → Event → List ℕ
-rowsOf N (atomsRead x s) = whenMet (ltb 126 x) 3
-rowsOf N (ruleOpened i s) = whenMet (eqb i 500) 6
+rowsOf N (atomsRead x s) = whenMet (ltb maxAtoms x) 3
+rowsOf N (ruleOpened i s) = whenMet (eqb i maxRules) 6
 rowsOf N (headRead x s) = whenMet (unknown N x) 4
-rowsOf N (bodyRead x s ys j) = whenMet (unknown N x) 4 ++ (whenMet (notAbove x ys) 5 ++ whenMet (eqb j 500) 7)
+rowsOf N (bodyRead x s ys j) = whenMet (unknown N x) 4 ++ (whenMet (notAbove x ys) 5 ++ whenMet (eqb j maxBodyAtoms) 7)
 
 pub record Hit : Type 0 where
   pub row : ℕ

@@ -12,6 +12,7 @@ use lib.Dec.{eqb}
 use lib.ListN.{length}
 use Rattle.meaning.specs.Program.{Program}
 use Rattle.text.specs.Text.{textOf, Malformed}
+use Rattle.text.specs.Limits.{maxText}
 use Rattle.refusals.specs.declared.TextRefusal.{TextRefusal}
 use Rattle.reader.specs.declared.ReadVerdict.the-variants.{Refused}
 use Rattle.reader.specs.Verdict.{readOf}
@@ -19,7 +20,7 @@ use Rattle.refusals.specs.Numbers.{textNumber, textSpot}
 use Rattle.reader_laws.specs.Breach.{Breach}
 
 pub data Row (t : List ℕ) : ℕ → ℕ → Type 0 where
-  overlong : 65536 < length t → Row t 1 (length t)
+  overlong : maxText < length t → Row t 1 (length t)
   malformed : {s : ℕ} → Malformed t s → Row t 2 s
   breach : {k s : ℕ} (P : Program) → t ≡ textOf P → Breach P k s → Row t k s
 
