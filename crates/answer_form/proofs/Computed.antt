@@ -17,8 +17,8 @@ use Rattle.text.specs.Decimal.{decimal}
 use Rattle.reader_form.specs.Automaton.{digitTest}
 use Rattle.answer_form.specs.Machine.{acceptedBy, readBy}
 use Rattle.answer_form.specs.Answer.{Line, Status, Answer, proper, satisfiableText, statusText, answerText}
-use Rattle.answer_form.specs.Reading.{Found, common, firstLine, statusFrom, statusOf, Next, digitsValue, behindDigits, minusFrom, literalFrom, seekFrom, nextLiteral, Close, closeFrom, closeOf, Spotted, spotsOf}
-use Rattle.answer_form.specs.Automaton.{statusBytes, statusAt, statusNext, statusTurn, statusStep, seekStep, literalStep, endStep, stepOf, mayEnd, accepts, leaves}
+use Rattle.answer_form.specs.Pieces.{Found, common, firstLine, statusFrom, statusOf, Next, digitsValue, behindDigits, minusFrom, literalFrom, seekFrom, nextLiteral, Close, closeFrom, closeOf, Spotted, spotsOf}
+use Rattle.answer_form.specs.Automaton.{statusBytes, statusAt, statusNext, statusTurn, statusStep, seekStep, literalStep, endStep, answerStep, mayEnd, answerAccepts, answerLeaves}
 
 -- document 01's answer; one with c lines before, between and after, and v lines without literals; the other two statuses
 abbrev samples : List Answer
@@ -37,27 +37,27 @@ pub answers-proper : all proper samples ≡ true
 unfolding proper ascii
 answers-proper = refl
 
-pub texts-accepted : all (λ s. accepts 0 (ascii s)) (
+pub texts-accepted : all (λ s. answerAccepts 0 (ascii s)) (
     "s SATISFIABLE\nv 1 2 3 4 -5 -6 7 0\n" ∷ "s SATISFIABLE\nv 0\n" ∷ "s SATISFIABLE\nv\nv\nv 10\nv -203 4\nv\nv 0\n"
     ∷ "c\ncnf s UNKNOWN\ns SATISFIABLE\nc v 0\nv 1\nc\nv -2 0\nc s\nc\n" ∷ "c \r\ns SATISFIABLE\nv 0\n"
     ∷ "s UNSATISFIABLE\n" ∷ "s UNKNOWN\n" ∷ "c\ns UNKNOWN\n\nv 01 \r-- s" ∷ "s UNSATISFIABLE\nc unended" ∷ []
     ) ≡ true
-unfolding acceptedBy ascii stepOf statusStep statusAt statusBytes statusNext statusTurn seekStep literalStep endStep digitTest mayEnd
+unfolding acceptedBy ascii answerStep statusStep statusAt statusBytes statusNext statusTurn seekStep literalStep endStep digitTest mayEnd
 texts-accepted = refl
 
 -- the spot of a text that is not accepted; 999 for one that is
 abbrev spotOf : List ℕ → ℕ
-spotOf t = cond (accepts 0 t) 999 (leaves 0 t)
+spotOf t = cond (answerAccepts 0 t) 999 (answerLeaves 0 t)
 
 -- the status line, from its first byte on
 pub status-left : map (λ s. spotOf (ascii s)) (
     "" ∷ "c" ∷ "c\n" ∷ "c unended" ∷ "\n" ∷ "v 0\n" ∷ "c\nv 0\n" ∷ "s" ∷ "s SAT\n" ∷ "s  SATISFIABLE\n" ∷ "s SATISFIABLE" ∷ "s SATISFIABLE\r\n" ∷ "s UNSAT\n" ∷ "s UNKNOWN"
     ∷ "s UNKNOWN \n" ∷ "s UX" ∷ "S" ∷ []
     ) ≡ 0 ∷ 1 ∷ 2 ∷ 9 ∷ 0 ∷ 0 ∷ 2 ∷ 1 ∷ 5 ∷ 2 ∷ 13 ∷ 13 ∷ 7 ∷ 9 ∷ 9 ∷ 3 ∷ 0 ∷ []
-unfolding acceptedBy readBy ascii stepOf statusStep statusAt statusBytes statusNext statusTurn seekStep literalStep endStep digitTest mayEnd
+unfolding acceptedBy readBy ascii answerStep statusStep statusAt statusBytes statusNext statusTurn seekStep literalStep endStep digitTest mayEnd
 status-left = refl
 
--- behind "s SATISFIABLE" and its byte 10, which are 14 bytes
+-- after "s SATISFIABLE" and its byte 10, which are 14 bytes
 pub lines-left : map (λ s. spotOf (ascii "s SATISFIABLE\n" ++ ascii s)) (
     -- no literal 0; a c line that is not ended; a second status line; an empty line; another letter
     "" ∷ "v 1 2\n" ∷ "v 1" ∷ "v" ∷ "c" ∷ "s SATISFIABLE\n" ∷ "\n" ∷ "x"
@@ -71,7 +71,7 @@ pub lines-left : map (λ s. spotOf (ascii "s SATISFIABLE\n" ++ ascii s)) (
     ∷ 17 ∷ 17 ∷ 16 ∷ 17 ∷ 17 ∷ 17 ∷ 17
     ∷ 19 ∷ 17 ∷ 18 ∷ 18 ∷ 18 ∷ 19 ∷ 17
     ∷ 16 ∷ 15 ∷ 16 ∷ 18 ∷ 19 ∷ 17 ∷ 15 ∷ []
-unfolding acceptedBy readBy ascii stepOf statusStep statusAt statusBytes statusNext statusTurn seekStep literalStep endStep digitTest mayEnd
+unfolding acceptedBy readBy ascii answerStep statusStep statusAt statusBytes statusNext statusTurn seekStep literalStep endStep digitTest mayEnd
 lines-left = refl
 
 -- ---- piece by piece
@@ -97,7 +97,7 @@ pub positions-read : map (nextLiteral (ascii "s SATISFIABLE\nv 1 2 3 4 -5 -6 7 0
 unfolding nextLiteral seekFrom seekStep literalFrom minusFrom digitsValue behindDigits digitTest ascii
 positions-read = refl
 
--- behind literal 0
+-- after literal 0
 pub ends-read : map (λ s. closeOf (ascii s) 0) ("\n" ∷ "\nc x\nc\n" ∷ "" ∷ "1\n" ∷ " 2\n" ∷ "\r\n" ∷ "\nv 0\n" ∷ "\n\n" ∷ "\nc" ∷ [])
     ≡ Close.fine ∷ Close.fine ∷ Close.left 0 ∷ Close.left 0 ∷ Close.left 0 ∷ Close.left 0 ∷ Close.left 1 ∷ Close.left 1 ∷ Close.left 2 ∷ []
 unfolding closeOf closeFrom endStep ascii

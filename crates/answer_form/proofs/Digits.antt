@@ -20,7 +20,7 @@ use Literal.{var, −_}
 use Rattle.digits.specs.Bytes.{literalText}
 use Rattle.reader_form.specs.Automaton.{digitTest}
 use Rattle.answer_form.specs.Answer.{named}
-use Rattle.answer_form.specs.Reading.{digitsValue, cappedValue, behindDigits}
+use Rattle.answer_form.specs.Pieces.{digitsValue, cappedValue, behindDigits}
 use Rattle.answer_form.proofs.Steps.{digit-is}
 
 pub data Stops : List ℕ → Type 0 where

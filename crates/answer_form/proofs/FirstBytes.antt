@@ -16,9 +16,9 @@ use Rattle.text.specs.Decimal.{decimal}
 use Rattle.text.proofs.Standing.{behind, next, fresh, whole, Each, none, also, each-append, each-at}
 use Rattle.digits.specs.Bytes.{literalText}
 use Rattle.answer_form.specs.Answer.{Comment, Line, Answer, commentText, commentsText, spacedText, linesText, satisfiableText, answerText}
-use Rattle.answer_form.specs.Reading.{Spotted, spacedSpots, lineSpots, statusEnd, spotsOf, LiteralAt}
+use Rattle.answer_form.specs.Pieces.{Spotted, spacedSpots, lineSpots, statusEnd, spotsOf, LiteralAt}
 
--- a space, or what comes behind all literals
+-- a space, or what comes after all literals
 stops : (ls : List Literal) (w : List ℕ) → So (separates (getD w 0 0)) → So (separates (getD (spacedText ls ++ w) 0 0))
 stops [] w p = p
 stops (l ∷ ls) w p = refl
@@ -44,7 +44,7 @@ module _ (t : List ℕ) where
       (lines-at ls (i + length (spacedText vs) + 2) w
       (ap (λ (k : ℕ). drop k t) k ∙ next t (i + 1 + length (spacedText vs)) 10 v (behind t (i + 1) (spacedText vs) (10 ∷ v) f)))
 
--- the bytes behind the status line
+-- the bytes after the status line
 model-lines : (before : List Comment) (lines : List Line) (last : List Literal) (after : List Comment)
     → drop (statusEnd before + 1) (answerText (Answer.model before lines last after))
     ≡ linesText lines ++ ((118 ∷ (spacedText last ++ (32 ∷ 48 ∷ 10 ∷ []))) ++ commentsText after)

@@ -7,7 +7,7 @@
 -- Unique: a text is that of one answer
 -- Passing: the next literal and the end, read piece by piece, beside the automaton
 -- StatusLaws: the status line, beside the automaton and in printed answers
--- ReadingLaws: reading literal by literal
+-- PieceLaws: reading literal by literal
 -- Whole: what a text is, by what is read of it
 -- FirstBytes: what the text has at the spots of literals
 -- Turns: the same functions by the index of a byte, for loops
@@ -21,7 +21,7 @@ pub mod Digits
 pub mod Unique
 pub mod Passing
 pub mod StatusLaws
-pub mod ReadingLaws
+pub mod PieceLaws
 pub mod Whole
 pub mod FirstBytes
 pub mod Turns

@@ -1,7 +1,7 @@
 -- Any automaton of which each live state has an ending, and whose dead state has none: where a text leaves it.
 --   accepted-append     the bytes of two texts, one after the other
---   Ended q t           some bytes behind t are accepted
---   ended               so it is where any numbers behind t are accepted
+--   Ended q t           some bytes after t are accepted
+--   ended               so it is where any numbers after t are accepted
 --   LeftAt q t n        n bytes of t are read before no ending is accepted
 --   left                a text that is not accepted is left where `readBy` says
 -- Assumes nothing.
@@ -28,7 +28,7 @@ module _ (step : ℕ → ℕ → ℕ) (final : ℕ → Bool) where
   accepted-append q [] u = refl
   accepted-append q (b ∷ t) u = accepted-append (step q b) t u
 
-  -- some bytes behind t are accepted
+  -- some bytes after t are accepted
   pub record Ended (q : ℕ) (t : List ℕ) : Type 0 where
     pub ending : List ℕ
     pub bytes : So (areBytes ending)

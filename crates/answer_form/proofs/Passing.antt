@@ -1,6 +1,6 @@
 -- The pieces of specs/Reading.antt, beside the automaton.
 --   Passes q u r n    n bytes of u lead from state q to state r
---   Fails q u n       u is not accepted from state q and leaves the form behind n bytes
+--   Fails q u n       u is not accepted from state q and leaves the form after n bytes
 --   Heard q i u x     x is what `seekFrom`, `literalFrom` or `minusFrom` may say of u in state q
 --   Closed q i u c    the same for `closeFrom`
 --   next-heard, close-heard   `nextLiteral` and `closeOf` say what the automaton does
@@ -20,27 +20,27 @@ use Rattle.encoding.specs.Literal.{Literal}
 use Literal.{var, −_}
 use Rattle.answer_form.specs.Machine.{acceptedBy, readBy}
 use Rattle.answer_form.specs.Answer.{named}
-use Rattle.answer_form.specs.Automaton.{seekStep, literalStep, endStep, stepOf, mayEnd, accepts, leaves}
-use Rattle.answer_form.specs.Reading.{Next, digitsValue, behindDigits, minusFrom, literalFrom, seekFrom, nextLiteral, Close, closeFrom, closeOf}
+use Rattle.answer_form.specs.Automaton.{seekStep, literalStep, endStep, answerStep, mayEnd, answerAccepts, answerLeaves}
+use Rattle.answer_form.specs.Pieces.{Next, digitsValue, behindDigits, minusFrom, literalFrom, seekFrom, nextLiteral, Close, closeFrom, closeOf}
 use Rattle.answer_form.proofs.Machine.{dead-rejects}
 use Rattle.answer_form.proofs.Steps.{step-dead, step-space, step-minus, step-digits, step-behind}
 
 pub record Passes (q : ℕ) (u : List ℕ) (r n : ℕ) : Type 0 where
   pub within : n ≤ length u
-  pub accept : accepts q u ≡ accepts r (drop n u)
-  pub leave : leaves q u ≡ n + leaves r (drop n u)
+  pub accept : answerAccepts q u ≡ answerAccepts r (drop n u)
+  pub leave : answerLeaves q u ≡ n + answerLeaves r (drop n u)
 
 pub record Fails (q : ℕ) (u : List ℕ) (n : ℕ) : Type 0 where
-  pub reject : accepts q u ≡ false
-  pub leave : leaves q u ≡ n
+  pub reject : answerAccepts q u ≡ false
+  pub leave : answerLeaves q u ≡ n
 
--- more bytes, of the text behind
+-- more bytes, of the text that follows
 pub pass-then : (q r s n m : ℕ) (u : List ℕ) → Passes q u r n → Passes r (drop n u) s m → Passes q u s (n + m)
 pass-then q r s n m u p o =
     record {
       within = omega (arith, p .within, o .within, length-drop n u);
-      accept = p .accept ∙ o .accept ∙ ap (accepts s) (drop-drop m n u);
-      leave = p .leave ∙ ap (λ (k : ℕ). n + k) (o .leave) ∙ sym (add-assoc n m (leaves s (drop m (drop n u)))) ∙ ap (λ (z : List ℕ). n + m + leaves s z) (drop-drop m n u);
+      accept = p .accept ∙ o .accept ∙ ap (answerAccepts s) (drop-drop m n u);
+      leave = p .leave ∙ ap (λ (k : ℕ). n + k) (o .leave) ∙ sym (add-assoc n m (answerLeaves s (drop m (drop n u)))) ∙ ap (λ (z : List ℕ). n + m + answerLeaves s z) (drop-drop m n u);
     }
 
 pub fail-then : (q r n m : ℕ) (u : List ℕ) → Passes q u r n → Fails r (drop n u) m → Fails q u (n + m)
@@ -48,32 +48,32 @@ fail-then q r n m u p f = record { reject = p .accept ∙ f .reject; leave = p .
 
 -- ---- one byte
 
-leaves-on : (q b r : ℕ) (u : List ℕ) → stepOf q b ≡ r → eqb r 43 ≡ false → leaves q (b ∷ u) ≡ suc (leaves r u)
+leaves-on : (q b r : ℕ) (u : List ℕ) → answerStep q b ≡ r → eqb r 43 ≡ false → answerLeaves q (b ∷ u) ≡ suc (answerLeaves r u)
 unfolding readBy
-leaves-on q b r u e n = ap (λ (p : ℕ). cond (eqb p 43) 0 (suc (leaves p u))) e ∙ rw n
+leaves-on q b r u e n = ap (λ (p : ℕ). cond (eqb p 43) 0 (suc (answerLeaves p u))) e ∙ rw n
 
-accepts-on : (q b r : ℕ) (u : List ℕ) → stepOf q b ≡ r → accepts q (b ∷ u) ≡ accepts r u
+accepts-on : (q b r : ℕ) (u : List ℕ) → answerStep q b ≡ r → answerAccepts q (b ∷ u) ≡ answerAccepts r u
 unfolding acceptedBy
-accepts-on q b r u e = ap (λ (p : ℕ). accepts p u) e
+accepts-on q b r u e = ap (λ (p : ℕ). answerAccepts p u) e
 
 pub pass-none : (q : ℕ) (u : List ℕ) → Passes q u q 0
-pass-none q u = record { within = omega arith; accept = refl; leave = sym (zero-add (leaves q u)) }
+pass-none q u = record { within = omega arith; accept = refl; leave = sym (zero-add (answerLeaves q u)) }
 
-pub pass-byte : (q b r s n : ℕ) (u : List ℕ) → stepOf q b ≡ r → eqb r 43 ≡ false → Passes r u s n → Passes q (b ∷ u) s (suc n)
+pub pass-byte : (q b r s n : ℕ) (u : List ℕ) → answerStep q b ≡ r → eqb r 43 ≡ false → Passes r u s n → Passes q (b ∷ u) s (suc n)
 pass-byte q b r s n u e l p =
     record {
       within = suc-le-suc (p .within);
       accept = accepts-on q b r u e ∙ p .accept;
-      leave = leaves-on q b r u e l ∙ ap suc (p .leave) ∙ sym (suc-add n (leaves s (drop n u)));
+      leave = leaves-on q b r u e l ∙ ap suc (p .leave) ∙ sym (suc-add n (answerLeaves s (drop n u)));
     }
 
-pub fail-byte : (q b r n : ℕ) (u : List ℕ) → stepOf q b ≡ r → eqb r 43 ≡ false → Fails r u n → Fails q (b ∷ u) (suc n)
+pub fail-byte : (q b r n : ℕ) (u : List ℕ) → answerStep q b ≡ r → eqb r 43 ≡ false → Fails r u n → Fails q (b ∷ u) (suc n)
 fail-byte q b r n u e l f = record { reject = accepts-on q b r u e ∙ f .reject; leave = leaves-on q b r u e l ∙ ap suc (f .leave) }
 
-pub fail-here : (q b : ℕ) (u : List ℕ) → stepOf q b ≡ 43 → Fails q (b ∷ u) 0
+pub fail-here : (q b : ℕ) (u : List ℕ) → answerStep q b ≡ 43 → Fails q (b ∷ u) 0
 unfolding readBy mayEnd
 fail-here q b u e =
-    record { reject = accepts-on q b 43 u e ∙ dead-rejects stepOf mayEnd 43 step-dead refl u; leave = ap (λ (p : ℕ). cond (eqb p 43) 0 (suc (leaves p u))) e }
+    record { reject = accepts-on q b 43 u e ∙ dead-rejects answerStep mayEnd 43 step-dead refl u; leave = ap (λ (p : ℕ). cond (eqb p 43) 0 (suc (answerLeaves p u))) e }
 
 pub fail-end : (q : ℕ) → mayEnd q ≡ false → Fails q [] 0
 unfolding acceptedBy readBy
@@ -86,12 +86,12 @@ pub data Heard (q i : ℕ) (u : List ℕ) : Next → Type 0 where
   a-zero : (behind n : ℕ) → behind ≡ i + n → Passes q u 39 n → Heard q i u (Next.last behind)
   is-left : (spot n : ℕ) → spot ≡ i + n → Fails q u n → Heard q i u (Next.left spot)
 
-heard-on : (q i b r : ℕ) (u : List ℕ) (x : Next) → stepOf q b ≡ r → eqb r 43 ≡ false → Heard r (i + 1) u x → Heard q i (b ∷ u) x
+heard-on : (q i b r : ℕ) (u : List ℕ) (x : Next) → answerStep q b ≡ r → eqb r 43 ≡ false → Heard r (i + 1) u x → Heard q i (b ∷ u) x
 heard-on q i b r u x e l (a-literal m f g n p h k j s) = a-literal m f g (suc n) p (omega (arith, h)) k (omega (arith, j)) (pass-byte q b r 35 n u e l s)
 heard-on q i b r u x e l (a-zero g n j s) = a-zero g (suc n) (omega (arith, j)) (pass-byte q b r 39 n u e l s)
 heard-on q i b r u x e l (is-left g n j s) = is-left g (suc n) (omega (arith, j)) (fail-byte q b r n u e l s)
 
-left-here : (q i b : ℕ) (u : List ℕ) → stepOf q b ≡ 43 → Heard q i (b ∷ u) (Next.left i)
+left-here : (q i b : ℕ) (u : List ℕ) → answerStep q b ≡ 43 → Heard q i (b ∷ u) (Next.left i)
 left-here q i b u e = is-left i 0 (omega arith) (fail-here q b u e)
 
 left-end : (q i : ℕ) → mayEnd q ≡ false → Heard q i [] (Next.left i)
@@ -99,7 +99,7 @@ left-end q i e = is-left i 0 (omega arith) (fail-end q e)
 
 -- ---- digits
 
--- behind its digits, a literal is followed as v is
+-- after its digits, a literal is followed as v is
 digits-passed : (u : List ℕ) (i : ℕ) → (n : ℕ) × (behindDigits i u ≡ i + n) × Passes 38 u 35 n
 unfolding behindDigits mayEnd acceptedBy readBy
 digits-passed [] i = (0, omega arith, record { within = omega arith; accept = refl; leave = refl })
@@ -112,8 +112,8 @@ digits-passed (b ∷ u) i = go (digitTest b) refl (digits-passed u (i + 1))
       omega arith,
       record {
         within = omega arith;
-        accept = ap (λ (p : ℕ). accepts p u) (step-behind b e);
-        leave = ap (λ (p : ℕ). cond (eqb p 43) 0 (suc (leaves p u))) (step-behind b e) ∙ sym (zero-add (leaves 35 (b ∷ u)));
+        accept = ap (λ (p : ℕ). answerAccepts p u) (step-behind b e);
+        leave = ap (λ (p : ℕ). cond (eqb p 43) 0 (suc (answerLeaves p u))) (step-behind b e) ∙ sym (zero-add (answerLeaves 35 (b ∷ u)));
       },
     )
 
@@ -140,7 +140,7 @@ unfolding behindDigits
 behind-first b u i e = rw e
 
 -- the digits of a literal, from the state before them
-digits-heard : (q i first b : ℕ) (u : List ℕ) → first ≤ i → stepOf q b ≡ 38 → digitTest b ≡ true
+digits-heard : (q i first b : ℕ) (u : List ℕ) → first ≤ i → answerStep q b ≡ 38 → digitTest b ≡ true
     → (n : ℕ) × (behindDigits i (b ∷ u) ≡ i + n) × (first < behindDigits i (b ∷ u)) × Passes q (b ∷ u) 35 n
 digits-heard q i first b u k e d =
     let r = digits-passed u (i + 1) in
@@ -151,7 +151,7 @@ digits-heard q i first b u k e d =
 
 -- the index of the minus is i
 minus-heard : (u : List ℕ) (i : ℕ) → Heard 36 i (45 ∷ u) (minusFrom (i + 1) u)
-unfolding minusFrom stepOf literalStep mayEnd
+unfolding minusFrom answerStep literalStep mayEnd
 minus-heard [] i = is-left (i + 1) 1 refl (fail-byte 36 45 37 0 [] refl refl (fail-end 37 refl))
 minus-heard (b ∷ u) i = go (eqb b 48) refl (digitTest b) refl
   where
@@ -187,8 +187,8 @@ pub data Between : ℕ → Type 0 where
   note : Between 34
   line : Between 35
 
-between-step : (q b : ℕ) → Between q → stepOf q b ≡ seekStep q b
-unfolding stepOf
+between-step : (q b : ℕ) → Between q → answerStep q b ≡ seekStep q b
+unfolding answerStep
 between-step q b start = refl
 between-step q b note = refl
 between-step q b line = refl
@@ -238,10 +238,10 @@ next-heard t p = seek-heard (drop p t) 35 p line
 -- ---- after literal 0
 
 pub data Closed (q i : ℕ) (u : List ℕ) : Close → Type 0 where
-  is-fine : accepts q u ≡ true → Closed q i u Close.fine
+  is-fine : answerAccepts q u ≡ true → Closed q i u Close.fine
   is-left : (spot n : ℕ) → spot ≡ i + n → Fails q u n → Closed q i u (Close.left spot)
 
-closed-on : (q i b r : ℕ) (u : List ℕ) (c : Close) → stepOf q b ≡ r → eqb r 43 ≡ false → Closed r (i + 1) u c → Closed q i (b ∷ u) c
+closed-on : (q i b r : ℕ) (u : List ℕ) (c : Close) → answerStep q b ≡ r → eqb r 43 ≡ false → Closed r (i + 1) u c → Closed q i (b ∷ u) c
 closed-on q i b r u c e l (is-fine a) = is-fine (accepts-on q b r u e ∙ a)
 closed-on q i b r u c e l (Closed.is-left g n j f) = Closed.is-left g (suc n) (omega (arith, j)) (fail-byte q b r n u e l f)
 
@@ -250,8 +250,8 @@ data Ending : ℕ → Type 0 where
   start : Ending 40
   note : Ending 41
 
-ending-step : (q b : ℕ) → Ending q → stepOf q b ≡ endStep q b
-unfolding stepOf
+ending-step : (q b : ℕ) → Ending q → answerStep q b ≡ endStep q b
+unfolding answerStep
 ending-step q b behind = refl
 ending-step q b Ending.start = refl
 ending-step q b Ending.note = refl

@@ -24,8 +24,8 @@ use Rattle.text.specs.Decimal.{decimal}
 use Rattle.text.proofs.Decimals.{decimal-small, decimal-large}
 use Rattle.reader_form.specs.Automaton.{digitTest}
 use Rattle.answer_form.specs.Machine.{acceptedBy}
-use Rattle.answer_form.specs.Answer.{Comment, Line, Status, Answer, oneLine, named, lineProper, proper, commentText, commentsText, spacedText, linesText, satisfiableText, statusText, answerText, HasForm}
-use Rattle.answer_form.specs.Automaton.{statusBytes, statusAt, statusNext, statusTurn, statusStep, stepOf, mayEnd, accepts}
+use Rattle.answer_form.specs.Answer.{Comment, Line, Status, Answer, oneLine, named, lineProper, proper, commentText, commentsText, spacedText, linesText, satisfiableText, statusText, answerText, HasAnswerForm}
+use Rattle.answer_form.specs.Automaton.{statusBytes, statusAt, statusNext, statusTurn, statusStep, answerStep, mayEnd, answerAccepts}
 use Rattle.answer_form.proofs.Machine.{dead-rejects}
 use Rattle.answer_form.proofs.Steps.{Remark, remark-before, remark-between, remark-after, step-status, step-line, step-between, step-space, step-minus, step-digits, step-zero, step-after, step-dead}
 use Rattle.answer_form.proofs.Accepted.{comment-then}
@@ -53,7 +53,7 @@ pub record Body (t : List ℕ) : Type 0 where
   pub last-named : So (all named last)
   pub one-line : So (all oneLine after)
 
--- how a v line goes on behind its literals
+-- how a v line goes on after its literals
 pub data LineEnd : List ℕ → Type 0 where
   ended : {t : List ℕ} → Body t → LineEnd (10 ∷ t)
   zeroed : {t : List ℕ} → After t → LineEnd (32 ∷ 48 ∷ 10 ∷ t)
@@ -90,44 +90,44 @@ prefixOf zero = []
 prefixOf (suc q) = cond (eqb q 13) (ascii "s U") (cond (eqb q 26) (ascii "s UNK") (prefixOf q ++ (statusAt q ∷ [])))
 
 record Rests (t : List ℕ) : Type 0 where
-  status : (q : ℕ) → q < 32 → accepts q t ≡ true → HasForm (prefixOf q ++ t)
-  noted-before : accepts 32 t ≡ true → Noted HasForm t
-  body : accepts 33 t ≡ true → Body t
-  noted-between : accepts 34 t ≡ true → Noted Body t
-  in-line : accepts 35 t ≡ true → InLine t
-  spaced : accepts 36 t ≡ true → Spaced t
-  unsigned : accepts 37 t ≡ true → Unsigned t
-  digits : accepts 38 t ≡ true → Digits t
-  ended : accepts 39 t ≡ true → (u : List ℕ) × (t ≡ 10 ∷ u) × After u
-  after : accepts 40 t ≡ true → After t
-  noted-after : accepts 41 t ≡ true → Noted After t
+  status : (q : ℕ) → q < 32 → answerAccepts q t ≡ true → HasAnswerForm (prefixOf q ++ t)
+  noted-before : answerAccepts 32 t ≡ true → Noted HasAnswerForm t
+  body : answerAccepts 33 t ≡ true → Body t
+  noted-between : answerAccepts 34 t ≡ true → Noted Body t
+  in-line : answerAccepts 35 t ≡ true → InLine t
+  spaced : answerAccepts 36 t ≡ true → Spaced t
+  unsigned : answerAccepts 37 t ≡ true → Unsigned t
+  digits : answerAccepts 38 t ≡ true → Digits t
+  ended : answerAccepts 39 t ≡ true → (u : List ℕ) × (t ≡ 10 ∷ u) × After u
+  after : answerAccepts 40 t ≡ true → After t
+  noted-after : answerAccepts 41 t ≡ true → Noted After t
 
 -- ---- one byte before
 
 -- no text is accepted from the dead state
-dead : (t : List ℕ) → accepts 43 t ≡ true → ⊥
+dead : (t : List ℕ) → answerAccepts 43 t ≡ true → ⊥
 unfolding mayEnd
-dead t a = false≢true (sym (dead-rejects stepOf mayEnd 43 step-dead refl t) ∙ a)
+dead t a = false≢true (sym (dead-rejects answerStep mayEnd 43 step-dead refl t) ∙ a)
 
 -- a byte that leads to r
-moved : (q b r : ℕ) (t : List ℕ) → stepOf q b ≡ r → accepts q (b ∷ t) ≡ true → accepts r t ≡ true
+moved : (q b r : ℕ) (t : List ℕ) → answerStep q b ≡ r → answerAccepts q (b ∷ t) ≡ true → answerAccepts r t ≡ true
 unfolding acceptedBy
-moved q b r t e a = subst (λ (p : ℕ). accepts p t ≡ true) e a
+moved q b r t e a = subst (λ (p : ℕ). answerAccepts p t ≡ true) e a
 
-noted-back : (P : List ℕ → Type 0) (q r : ℕ) → Remark q r → (b : ℕ) (t : List ℕ) → (accepts r t ≡ true → P t) → (accepts q t ≡ true → Noted P t)
-    → accepts q (b ∷ t) ≡ true → Noted P (b ∷ t)
+noted-back : (P : List ℕ → Type 0) (q r : ℕ) → Remark q r → (b : ℕ) (t : List ℕ) → (answerAccepts r t ≡ true → P t) → (answerAccepts q t ≡ true → Noted P t)
+    → answerAccepts q (b ∷ t) ≡ true → Noted P (b ∷ t)
 noted-back P q r m b t f g a = go (eqb b 10) refl (moved q b (cond (eqb b 10) r q) t (m .steps b) a)
   where
-    go : (c : Bool) → eqb b 10 ≡ c → accepts (cond c r q) t ≡ true → Noted P (b ∷ t)
+    go : (c : Bool) → eqb b 10 ≡ c → answerAccepts (cond c r q) t ≡ true → Noted P (b ∷ t)
     go true e a = record { note = []; rest = t; is = ap (λ (x : ℕ). x ∷ t) (eqb-true b 10 e); one-line = refl; then = f a }
     go false e a =
         let n = g a in
         record { note = b ∷ n .note; rest = n .rest; is = ap (λ (u : List ℕ). b ∷ u) (n .is); one-line = rw e (n .one-line); then = n .then }
 
-after-back : (b : ℕ) (t : List ℕ) → (accepts 41 t ≡ true → Noted After t) → accepts 40 (b ∷ t) ≡ true → After (b ∷ t)
+after-back : (b : ℕ) (t : List ℕ) → (answerAccepts 41 t ≡ true → Noted After t) → answerAccepts 40 (b ∷ t) ≡ true → After (b ∷ t)
 after-back b t f a = go (eqb b 99) refl (moved 40 b _ t (step-after b) a)
   where
-    go : (c : Bool) → eqb b 99 ≡ c → accepts (cond c 41 43) t ≡ true → After (b ∷ t)
+    go : (c : Bool) → eqb b 99 ≡ c → answerAccepts (cond c 41 43) t ≡ true → After (b ∷ t)
     go true e a =
         let n = f a in
         let r = n .then in
@@ -138,10 +138,10 @@ after-back b t f a = go (eqb b 99) refl (moved 40 b _ t (step-after b) a)
         }
     go false e a = absurd (dead t a)
 
-ended-back : (b : ℕ) (t : List ℕ) → (accepts 40 t ≡ true → After t) → accepts 39 (b ∷ t) ≡ true → (u : List ℕ) × (b ∷ t ≡ 10 ∷ u) × After u
+ended-back : (b : ℕ) (t : List ℕ) → (answerAccepts 40 t ≡ true → After t) → answerAccepts 39 (b ∷ t) ≡ true → (u : List ℕ) × (b ∷ t ≡ 10 ∷ u) × After u
 ended-back b t f a = go (eqb b 10) refl (moved 39 b _ t (step-zero b) a)
   where
-    go : (c : Bool) → eqb b 10 ≡ c → accepts (cond c 40 43) t ≡ true → (u : List ℕ) × (b ∷ t ≡ 10 ∷ u) × After u
+    go : (c : Bool) → eqb b 10 ≡ c → answerAccepts (cond c 40 43) t ≡ true → (u : List ℕ) × (b ∷ t ≡ 10 ∷ u) × After u
     go true e a = (t, ap (λ (x : ℕ). x ∷ t) (eqb-true b 10 e), f a)
     go false e a = absurd (dead t a)
 
@@ -158,11 +158,11 @@ space-before t (another l u e p i) =
     }
 space-before t (zero-end {t = u} f) = record { literals = []; rest = 32 ∷ 48 ∷ 10 ∷ u; is = refl; all-named = refl; then = LineEnd.zeroed f }
 
-between-back : (b : ℕ) (t : List ℕ) → (accepts 36 t ≡ true → Spaced t) → (accepts 33 t ≡ true → Body t)
-    → accepts (cond (eqb b 32) 36 (cond (eqb b 10) 33 43)) t ≡ true → InLine (b ∷ t)
+between-back : (b : ℕ) (t : List ℕ) → (answerAccepts 36 t ≡ true → Spaced t) → (answerAccepts 33 t ≡ true → Body t)
+    → answerAccepts (cond (eqb b 32) 36 (cond (eqb b 10) 33 43)) t ≡ true → InLine (b ∷ t)
 between-back b t f g a = go (eqb b 32) refl (eqb b 10) refl a
   where
-    go : (c : Bool) → eqb b 32 ≡ c → (d : Bool) → eqb b 10 ≡ d → accepts (cond c 36 (cond d 33 43)) t ≡ true → InLine (b ∷ t)
+    go : (c : Bool) → eqb b 32 ≡ c → (d : Bool) → eqb b 10 ≡ d → answerAccepts (cond c 36 (cond d 33 43)) t ≡ true → InLine (b ∷ t)
     go true e d h a = subst (λ (x : ℕ). InLine (x ∷ t)) (sym (eqb-true b 32 e)) (space-before t (f a))
     go false e true h a = record { literals = []; rest = b ∷ t; is = refl; all-named = refl; then = subst (λ (x : ℕ). LineEnd (x ∷ t)) (sym (eqb-true b 10 h)) (LineEnd.ended (g a)) }
     go false e false h a = absurd (dead t a)
@@ -194,17 +194,17 @@ more-digits x z (b ∷ ds) p =
       r .2,
     )
 
-digits-back : (b : ℕ) (t : List ℕ) → (accepts 38 t ≡ true → Digits t) → (accepts 36 t ≡ true → Spaced t) → (accepts 33 t ≡ true → Body t)
-    → accepts 38 (b ∷ t) ≡ true → Digits (b ∷ t)
+digits-back : (b : ℕ) (t : List ℕ) → (answerAccepts 38 t ≡ true → Digits t) → (answerAccepts 36 t ≡ true → Spaced t) → (answerAccepts 33 t ≡ true → Body t)
+    → answerAccepts 38 (b ∷ t) ≡ true → Digits (b ∷ t)
 digits-back b t f g h a = go (digitTest b) refl (moved 38 b _ t (step-digits b) a)
   where
-    go : (c : Bool) → digitTest b ≡ c → accepts (cond c 38 (cond (eqb b 32) 36 (cond (eqb b 10) 33 43))) t ≡ true → Digits (b ∷ t)
+    go : (c : Bool) → digitTest b ≡ c → answerAccepts (cond c 38 (cond (eqb b 32) 36 (cond (eqb b 10) 33 43))) t ≡ true → Digits (b ∷ t)
     go true e a =
         let d = f a in
         record { digits = b ∷ d .digits; rest = d .rest; is = ap (λ (u : List ℕ). b ∷ u) (d .is); all-digits = and-in e (d .all-digits); then = d .then }
     go false e a = record { digits = []; rest = b ∷ t; is = refl; all-digits = refl; then = between-back b t g h a }
 
--- a first digit that is not 0, and the digits behind it
+-- a first digit that is not 0, and the digits after it
 number-of : (b : ℕ) (t : List ℕ) → eqb b 48 ≡ false → digitTest b ≡ true → Digits t → Unsigned (b ∷ t)
 number-of b t n e d =
     let q = digit-of b e in
@@ -223,10 +223,10 @@ number-of b t n e d =
     nonzero zero f = absurd (eqb-false b 48 n f)
     nonzero (suc d) f = omega arith
 
-unsigned-back : (b : ℕ) (t : List ℕ) → (accepts 38 t ≡ true → Digits t) → accepts 37 (b ∷ t) ≡ true → Unsigned (b ∷ t)
+unsigned-back : (b : ℕ) (t : List ℕ) → (answerAccepts 38 t ≡ true → Digits t) → answerAccepts 37 (b ∷ t) ≡ true → Unsigned (b ∷ t)
 unsigned-back b t f a = go (eqb b 48) refl (digitTest b) refl (moved 37 b _ t (step-minus b) a)
   where
-    go : (c : Bool) → eqb b 48 ≡ c → (d : Bool) → digitTest b ≡ d → accepts (cond c 43 (cond d 38 43)) t ≡ true → Unsigned (b ∷ t)
+    go : (c : Bool) → eqb b 48 ≡ c → (d : Bool) → digitTest b ≡ d → answerAccepts (cond c 43 (cond d 38 43)) t ≡ true → Unsigned (b ∷ t)
     go true e d h a = absurd (dead t a)
     go false e true h a = number-of b t e h (f a)
     go false e false h a = absurd (dead t a)
@@ -241,11 +241,11 @@ negative t u = go (u .variable) (u .is) (u .positive)
 positive : (t : List ℕ) → Unsigned t → Spaced t
 positive t u = another (var (u .variable)) (u .rest) (u .is) (lt-ltb 0 (u .variable) (u .positive)) (u .then)
 
-spaced-back : (b : ℕ) (t : List ℕ) → (accepts 37 t ≡ true → Unsigned t) → (accepts 39 t ≡ true → (u : List ℕ) × (t ≡ 10 ∷ u) × After u) → (accepts 38 t ≡ true → Digits t)
-    → accepts 36 (b ∷ t) ≡ true → Spaced (b ∷ t)
+spaced-back : (b : ℕ) (t : List ℕ) → (answerAccepts 37 t ≡ true → Unsigned t) → (answerAccepts 39 t ≡ true → (u : List ℕ) × (t ≡ 10 ∷ u) × After u) → (answerAccepts 38 t ≡ true → Digits t)
+    → answerAccepts 36 (b ∷ t) ≡ true → Spaced (b ∷ t)
 spaced-back b t f g h a = go (eqb b 45) refl (eqb b 48) refl (digitTest b) refl (moved 36 b _ t (step-space b) a)
   where
-    go : (x : Bool) → eqb b 45 ≡ x → (y : Bool) → eqb b 48 ≡ y → (z : Bool) → digitTest b ≡ z → accepts (cond x 37 (cond y 39 (cond z 38 43))) t ≡ true → Spaced (b ∷ t)
+    go : (x : Bool) → eqb b 45 ≡ x → (y : Bool) → eqb b 48 ≡ y → (z : Bool) → digitTest b ≡ z → answerAccepts (cond x 37 (cond y 39 (cond z 38 43))) t ≡ true → Spaced (b ∷ t)
     go true p y q z r a = subst (λ (c : ℕ). Spaced (c ∷ t)) (sym (eqb-true b 45 p)) (negative t (f a))
     go false p true q z r a = let e = g a in subst Spaced (sym (ap₂ _∷_ (eqb-true b 48 q) (e .1))) (zero-end (e .2))
     go false p false q true r a = positive (b ∷ t) (number-of b t q r (h a))
@@ -299,17 +299,17 @@ comment-before t n =
       one-line = d .one-line;
     }
 
-body-back : (b : ℕ) (t : List ℕ) → (accepts 34 t ≡ true → Noted Body t) → (accepts 35 t ≡ true → InLine t) → accepts 33 (b ∷ t) ≡ true → Body (b ∷ t)
+body-back : (b : ℕ) (t : List ℕ) → (answerAccepts 34 t ≡ true → Noted Body t) → (answerAccepts 35 t ≡ true → InLine t) → answerAccepts 33 (b ∷ t) ≡ true → Body (b ∷ t)
 body-back b t f g a = go (eqb b 99) refl (eqb b 118) refl (moved 33 b _ t (step-line b) a)
   where
-    go : (x : Bool) → eqb b 99 ≡ x → (y : Bool) → eqb b 118 ≡ y → accepts (cond x 34 (cond y 35 43)) t ≡ true → Body (b ∷ t)
+    go : (x : Bool) → eqb b 99 ≡ x → (y : Bool) → eqb b 118 ≡ y → answerAccepts (cond x 34 (cond y 35 43)) t ≡ true → Body (b ∷ t)
     go true p y q a = subst (λ (c : ℕ). Body (c ∷ t)) (sym (eqb-true b 99 p)) (comment-before t (f a))
     go false p true q a = subst (λ (c : ℕ). Body (c ∷ t)) (sym (eqb-true b 118 q)) (values-before t (g a))
     go false p false q a = absurd (dead t a)
 
 -- ---- status lines
 
-satisfiable-form : (t : List ℕ) → Body t → HasForm (satisfiableText ++ t)
+satisfiable-form : (t : List ℕ) → Body t → HasAnswerForm (satisfiableText ++ t)
 unfolding proper answerText
 satisfiable-form t d =
     record {
@@ -318,18 +318,18 @@ satisfiable-form t d =
       its-text = ap (λ (u : List ℕ). satisfiableText ++ u) (d .is);
     }
 
-status-form : (s : Status) (t : List ℕ) → HasForm (statusText s ++ t)
+status-form : (s : Status) (t : List ℕ) → HasAnswerForm (statusText s ++ t)
 unfolding proper answerText
 status-form s t = record { answer = Answer.noModel [] s t; is-proper = refl; its-text = refl }
 
-comment-form : (t : List ℕ) → Noted HasForm t → HasForm (99 ∷ t)
+comment-form : (t : List ℕ) → Noted HasAnswerForm t → HasAnswerForm (99 ∷ t)
 unfolding proper answerText
 comment-form t n = go (n .then .answer) (n .then .is-proper) (n .then .its-text)
   where
     start : t ≡ n .note ++ (10 ∷ n .rest)
     start = n .is
 
-    go : (a : Answer) → So (proper a) → n .rest ≡ answerText a → HasForm (99 ∷ t)
+    go : (a : Answer) → So (proper a) → n .rest ≡ answerText a → HasAnswerForm (99 ∷ t)
     go (Answer.model before lines last after) p e =
         record {
           answer = Answer.model (n .note ∷ before) lines last after;
@@ -345,60 +345,60 @@ comment-form t n = go (n .then .answer) (n .then .is-proper) (n .then .its-text)
               ∙ sym (append-assoc (commentText (n .note)) (commentsText before) _);
         }
 
--- the byte that the status line at hand goes on with
-status-on : (q : ℕ) (t : List ℕ) → q < 32 → (accepts 33 t ≡ true → Body t) → ((q : ℕ) → q < 32 → accepts q t ≡ true → HasForm (prefixOf q ++ t))
-    → accepts (statusNext q) t ≡ true → HasForm (prefixOf q ++ (statusAt q ∷ t))
+-- the byte that the status line goes on with
+status-on : (q : ℕ) (t : List ℕ) → q < 32 → (answerAccepts 33 t ≡ true → Body t) → ((q : ℕ) → q < 32 → answerAccepts q t ≡ true → HasAnswerForm (prefixOf q ++ t))
+    → answerAccepts (statusNext q) t ≡ true → HasAnswerForm (prefixOf q ++ (statusAt q ∷ t))
 unfolding prefixOf statusAt statusBytes statusNext ascii satisfiableText statusText
 status-on q t h f g a = go (eqb q 13) refl (eqb q 26) refl (eqb q 31) refl a
   where
-    go : (x : Bool) → eqb q 13 ≡ x → (y : Bool) → eqb q 26 ≡ y → (z : Bool) → eqb q 31 ≡ z → accepts (cond x 33 (cond y 42 (cond z 42 (suc q)))) t ≡ true
-        → HasForm (prefixOf q ++ (statusAt q ∷ t))
-    go true d y e z k a = subst (λ (p : ℕ). HasForm (prefixOf p ++ (statusAt p ∷ t))) (sym (eqb-true q 13 d)) (satisfiable-form t (f a))
-    go false d true e z k a = subst (λ (p : ℕ). HasForm (prefixOf p ++ (statusAt p ∷ t))) (sym (eqb-true q 26 e)) (status-form Status.unsatisfiable t)
-    go false d false e true k a = subst (λ (p : ℕ). HasForm (prefixOf p ++ (statusAt p ∷ t))) (sym (eqb-true q 31 k)) (status-form Status.unknown t)
+    go : (x : Bool) → eqb q 13 ≡ x → (y : Bool) → eqb q 26 ≡ y → (z : Bool) → eqb q 31 ≡ z → answerAccepts (cond x 33 (cond y 42 (cond z 42 (suc q)))) t ≡ true
+        → HasAnswerForm (prefixOf q ++ (statusAt q ∷ t))
+    go true d y e z k a = subst (λ (p : ℕ). HasAnswerForm (prefixOf p ++ (statusAt p ∷ t))) (sym (eqb-true q 13 d)) (satisfiable-form t (f a))
+    go false d true e z k a = subst (λ (p : ℕ). HasAnswerForm (prefixOf p ++ (statusAt p ∷ t))) (sym (eqb-true q 26 e)) (status-form Status.unsatisfiable t)
+    go false d false e true k a = subst (λ (p : ℕ). HasAnswerForm (prefixOf p ++ (statusAt p ∷ t))) (sym (eqb-true q 31 k)) (status-form Status.unknown t)
     go false d false e false k a =
-        subst HasForm (rw (d, e) (append-assoc (prefixOf q) (statusAt q ∷ []) t)) (g (suc q) (below q h (eqb-false q 31 k)) a)
+        subst HasAnswerForm (rw (d, e) (append-assoc (prefixOf q) (statusAt q ∷ []) t)) (g (suc q) (below q h (eqb-false q 31 k)) a)
       where
         below : (q : ℕ) → q < 32 → (q ≡ 31 → ⊥) → suc q < 32
         below q h n = omega (arith, h, n)
 
 -- another byte: a comment, or another status line
-status-turns : (q b : ℕ) (t : List ℕ) → (accepts 32 t ≡ true → Noted HasForm t) → ((q : ℕ) → q < 32 → accepts q t ≡ true → HasForm (prefixOf q ++ t))
-    → accepts (statusTurn q b) t ≡ true → HasForm (prefixOf q ++ (b ∷ t))
+status-turns : (q b : ℕ) (t : List ℕ) → (answerAccepts 32 t ≡ true → Noted HasAnswerForm t) → ((q : ℕ) → q < 32 → answerAccepts q t ≡ true → HasAnswerForm (prefixOf q ++ t))
+    → answerAccepts (statusTurn q b) t ≡ true → HasAnswerForm (prefixOf q ++ (b ∷ t))
 unfolding prefixOf statusAt statusBytes statusTurn ascii
 status-turns q b t f g a = go (eqb q 0) refl (eqb q 2) refl (eqb q 15) refl a
   where
     go : (x : Bool) → eqb q 0 ≡ x → (y : Bool) → eqb q 2 ≡ y → (z : Bool) → eqb q 15 ≡ z
-        → accepts (cond x (cond (eqb b 99) 32 43) (cond y (cond (eqb b 85) 14 43) (cond z (cond (eqb b 75) 27 43) 43))) t ≡ true → HasForm (prefixOf q ++ (b ∷ t))
-    go true d y e z k a = subst (λ (p : ℕ). HasForm (prefixOf p ++ (b ∷ t))) (sym (eqb-true q 0 d)) (which (eqb b 99) refl a)
+        → answerAccepts (cond x (cond (eqb b 99) 32 43) (cond y (cond (eqb b 85) 14 43) (cond z (cond (eqb b 75) 27 43) 43))) t ≡ true → HasAnswerForm (prefixOf q ++ (b ∷ t))
+    go true d y e z k a = subst (λ (p : ℕ). HasAnswerForm (prefixOf p ++ (b ∷ t))) (sym (eqb-true q 0 d)) (which (eqb b 99) refl a)
       where
-        which : (c : Bool) → eqb b 99 ≡ c → accepts (cond c 32 43) t ≡ true → HasForm (b ∷ t)
-        which true e a = subst (λ (c : ℕ). HasForm (c ∷ t)) (sym (eqb-true b 99 e)) (comment-form t (f a))
+        which : (c : Bool) → eqb b 99 ≡ c → answerAccepts (cond c 32 43) t ≡ true → HasAnswerForm (b ∷ t)
+        which true e a = subst (λ (c : ℕ). HasAnswerForm (c ∷ t)) (sym (eqb-true b 99 e)) (comment-form t (f a))
         which false e a = absurd (dead t a)
-    go false d true e z k a = subst (λ (p : ℕ). HasForm (prefixOf p ++ (b ∷ t))) (sym (eqb-true q 2 e)) (which (eqb b 85) refl a)
+    go false d true e z k a = subst (λ (p : ℕ). HasAnswerForm (prefixOf p ++ (b ∷ t))) (sym (eqb-true q 2 e)) (which (eqb b 85) refl a)
       where
-        which : (c : Bool) → eqb b 85 ≡ c → accepts (cond c 14 43) t ≡ true → HasForm (115 ∷ 32 ∷ b ∷ t)
-        which true e a = subst (λ (c : ℕ). HasForm (115 ∷ 32 ∷ c ∷ t)) (sym (eqb-true b 85 e)) (g 14 (omega arith) a)
+        which : (c : Bool) → eqb b 85 ≡ c → answerAccepts (cond c 14 43) t ≡ true → HasAnswerForm (115 ∷ 32 ∷ b ∷ t)
+        which true e a = subst (λ (c : ℕ). HasAnswerForm (115 ∷ 32 ∷ c ∷ t)) (sym (eqb-true b 85 e)) (g 14 (omega arith) a)
         which false e a = absurd (dead t a)
-    go false d false e true k a = subst (λ (p : ℕ). HasForm (prefixOf p ++ (b ∷ t))) (sym (eqb-true q 15 k)) (which (eqb b 75) refl a)
+    go false d false e true k a = subst (λ (p : ℕ). HasAnswerForm (prefixOf p ++ (b ∷ t))) (sym (eqb-true q 15 k)) (which (eqb b 75) refl a)
       where
-        which : (c : Bool) → eqb b 75 ≡ c → accepts (cond c 27 43) t ≡ true → HasForm (115 ∷ 32 ∷ 85 ∷ 78 ∷ b ∷ t)
-        which true e a = subst (λ (c : ℕ). HasForm (115 ∷ 32 ∷ 85 ∷ 78 ∷ c ∷ t)) (sym (eqb-true b 75 e)) (g 27 (omega arith) a)
+        which : (c : Bool) → eqb b 75 ≡ c → answerAccepts (cond c 27 43) t ≡ true → HasAnswerForm (115 ∷ 32 ∷ 85 ∷ 78 ∷ b ∷ t)
+        which true e a = subst (λ (c : ℕ). HasAnswerForm (115 ∷ 32 ∷ 85 ∷ 78 ∷ c ∷ t)) (sym (eqb-true b 75 e)) (g 27 (omega arith) a)
         which false e a = absurd (dead t a)
     go false d false e false k a = absurd (dead t a)
 
-status-back : (b : ℕ) (t : List ℕ) → Rests t → (q : ℕ) → q < 32 → accepts q (b ∷ t) ≡ true → HasForm (prefixOf q ++ (b ∷ t))
+status-back : (b : ℕ) (t : List ℕ) → Rests t → (q : ℕ) → q < 32 → answerAccepts q (b ∷ t) ≡ true → HasAnswerForm (prefixOf q ++ (b ∷ t))
 unfolding statusStep
 status-back b t r q h a = go (eqb b (statusAt q)) refl (moved q b _ t (step-status q b h) a)
   where
-    go : (c : Bool) → eqb b (statusAt q) ≡ c → accepts (cond c (statusNext q) (statusTurn q b)) t ≡ true → HasForm (prefixOf q ++ (b ∷ t))
-    go true e a = subst (λ (c : ℕ). HasForm (prefixOf q ++ (c ∷ t))) (sym (eqb-true b (statusAt q) e)) (status-on q t h (r .body) (r .status) a)
+    go : (c : Bool) → eqb b (statusAt q) ≡ c → answerAccepts (cond c (statusNext q) (statusTurn q b)) t ≡ true → HasAnswerForm (prefixOf q ++ (b ∷ t))
+    go true e a = subst (λ (c : ℕ). HasAnswerForm (prefixOf q ++ (c ∷ t))) (sym (eqb-true b (statusAt q) e)) (status-on q t h (r .body) (r .status) a)
     go false e a = status-turns q b t (r .noted-before) (r .status) a
 
 -- ---- all bytes
 
 -- where the text may not end
-not-ended : {A : Type 0} (q : ℕ) → mayEnd q ≡ false → accepts q [] ≡ true → A
+not-ended : {A : Type 0} (q : ℕ) → mayEnd q ≡ false → answerAccepts q [] ≡ true → A
 unfolding acceptedBy
 not-ended q e a = absurd (false≢true (sym e ∙ a))
 
@@ -426,7 +426,7 @@ rests (b ∷ t) =
     let r = rests t in
     record {
       status = status-back b t r;
-      noted-before = noted-back HasForm 32 0 remark-before b t (start r) (r .noted-before);
+      noted-before = noted-back HasAnswerForm 32 0 remark-before b t (start r) (r .noted-before);
       body = body-back b t (r .noted-between) (r .in-line);
       noted-between = noted-back Body 34 33 remark-between b t (r .body) (r .noted-between);
       in-line = λ a. between-back b t (r .spaced) (r .body) (moved 35 b _ t (step-between b) a);
@@ -438,9 +438,9 @@ rests (b ∷ t) =
       noted-after = noted-back After 41 40 remark-after b t (r .after) (r .noted-after);
     }
   where
-    start : Rests t → accepts 0 t ≡ true → HasForm t
+    start : Rests t → answerAccepts 0 t ≡ true → HasAnswerForm t
     start r a = r .status 0 (omega arith) a
 
-pub sound : (t : List ℕ) → accepts 0 t ≡ true → HasForm t
+pub sound : (t : List ℕ) → answerAccepts 0 t ≡ true → HasAnswerForm t
 unfolding prefixOf
 sound t a = rests t .status 0 (omega arith) a

@@ -22,49 +22,49 @@ use Rattle.text.specs.Bytes.{areBytes}
 use Rattle.text.proofs.Spots as Spots
 use Rattle.reader_form.specs.Automaton.{digitTest}
 use Rattle.answer_form.specs.Machine.{acceptedBy}
-use Rattle.answer_form.specs.Answer.{HasForm, Viable, Malformed}
-use Rattle.answer_form.specs.Automaton.{statusBytes, statusAt, statusNext, statusTurn, statusStep, seekStep, literalStep, endStep, stepOf, mayEnd, accepts, leaves, lateEnds, endOf}
+use Rattle.answer_form.specs.Answer.{HasAnswerForm, AnswerViable, AnswerMalformed}
+use Rattle.answer_form.specs.Automaton.{statusBytes, statusAt, statusNext, statusTurn, statusStep, seekStep, literalStep, endStep, answerStep, mayEnd, answerAccepts, answerLeaves, lateEnds, answerEnd}
 use Rattle.answer_form.proofs.Machine.{Ended, ended, left}
 use Rattle.answer_form.proofs.Steps.{step-dead, step-within}
 use Rattle.answer_form.proofs.Accepted.{form-accepted}
 use Rattle.answer_form.proofs.Sound.{sound}
 
 -- the endings of all states, computed once: they are accepted, and made of bytes
-endings : allTo 43 (λ q. accepts (pred q) (endOf (pred q)) && areBytes (endOf (pred q))) ≡ true
-unfolding acceptedBy endOf lateEnds ascii stepOf statusStep statusAt statusBytes statusNext statusTurn seekStep literalStep endStep digitTest mayEnd
+endings : allTo 43 (λ q. answerAccepts (pred q) (answerEnd (pred q)) && areBytes (answerEnd (pred q))) ≡ true
+unfolding acceptedBy answerEnd lateEnds ascii answerStep statusStep statusAt statusBytes statusNext statusTurn seekStep literalStep endStep digitTest mayEnd
 endings = refl
 
-pub ends : (q : ℕ) → q < 43 → Ended stepOf mayEnd q []
+pub ends : (q : ℕ) → q < 43 → Ended answerStep mayEnd q []
 ends q h =
-    let t = allTo-at 43 (λ q. accepts (pred q) (endOf (pred q)) && areBytes (endOf (pred q))) endings q h in
-    let e = endOf q in
-    record { ending = e; bytes = and-right (accepts q e) (areBytes e) t; gives = and-left (accepts q e) (areBytes e) t }
+    let t = allTo-at 43 (λ q. answerAccepts (pred q) (answerEnd (pred q)) && areBytes (answerEnd (pred q))) endings q h in
+    let e = answerEnd q in
+    record { ending = e; bytes = and-right (answerAccepts q e) (areBytes e) t; gives = and-left (answerAccepts q e) (areBytes e) t }
 
-lively : (q b : ℕ) → q < 43 → eqb (stepOf q b) 43 ≡ false → stepOf q b < 43
-lively q b h n = omega (arith, step-within q b, eqb-false (stepOf q b) 43 n)
+lively : (q b : ℕ) → q < 43 → eqb (answerStep q b) 43 ≡ false → answerStep q b < 43
+lively q b h n = omega (arith, step-within q b, eqb-false (answerStep q b) 43 n)
 
-viable-of : (t : List ℕ) → Ended stepOf mayEnd 0 t → Viable t
+viable-of : (t : List ℕ) → Ended answerStep mayEnd 0 t → AnswerViable t
 viable-of t e = record { ending = e .ending; bytes = e .bytes; gives = sound _ (e .gives) }
 
-pub viable-part : (t u : List ℕ) → HasForm (t ++ u) → Viable t
+pub viable-part : (t u : List ℕ) → HasAnswerForm (t ++ u) → AnswerViable t
 unfolding mayEnd
-viable-part t u f = viable-of t (ended stepOf mayEnd 43 step-dead refl (λ q. q < 43) lively ends t u 0 (omega arith) (form-accepted (t ++ u) f))
+viable-part t u f = viable-of t (ended answerStep mayEnd 43 step-dead refl (λ q. q < 43) lively ends t u 0 (omega arith) (form-accepted (t ++ u) f))
 
-pub rejected-malformed : (t : List ℕ) → accepts 0 t ≡ false → Malformed t (leaves 0 t)
+pub rejected-malformed : (t : List ℕ) → answerAccepts 0 t ≡ false → AnswerMalformed t (answerLeaves 0 t)
 unfolding mayEnd
 rejected-malformed t e =
-    let l = left stepOf mayEnd 43 step-dead refl (λ q. q < 43) lively ends t 0 (omega arith) e in
-    Spots.left-malformed HasForm (accepts 0) form-accepted t (leaves 0 t) e (l .within) (viable-of (take (leaves 0 t) t) (l .before)) (l .gone)
+    let l = left answerStep mayEnd 43 step-dead refl (λ q. q < 43) lively ends t 0 (omega arith) e in
+    Spots.left-malformed HasAnswerForm (answerAccepts 0) form-accepted t (answerLeaves 0 t) e (l .within) (viable-of (take (answerLeaves 0 t) t) (l .before)) (l .gone)
 
-pub spot-unique : (t : List ℕ) (s u : ℕ) → Malformed t s → Malformed t u → s ≡ u
-spot-unique = Spots.spot-unique HasForm viable-part
+pub spot-unique : (t : List ℕ) (s u : ℕ) → AnswerMalformed t s → AnswerMalformed t u → s ≡ u
+spot-unique = Spots.spot-unique HasAnswerForm viable-part
 
-pub form-not-malformed : (t : List ℕ) (s : ℕ) → HasForm t → Malformed t s → ⊥
-form-not-malformed = Spots.form-not-malformed HasForm viable-part
+pub form-not-malformed : (t : List ℕ) (s : ℕ) → HasAnswerForm t → AnswerMalformed t s → ⊥
+form-not-malformed = Spots.form-not-malformed HasAnswerForm viable-part
 
-pub formless-malformed : (t : List ℕ) → (HasForm t → ⊥) → (s : ℕ) × Malformed t s
-formless-malformed t f = go (accepts 0 t) refl
+pub formless-malformed : (t : List ℕ) → (HasAnswerForm t → ⊥) → (s : ℕ) × AnswerMalformed t s
+formless-malformed t f = go (answerAccepts 0 t) refl
   where
-    go : (d : Bool) → accepts 0 t ≡ d → (s : ℕ) × Malformed t s
+    go : (d : Bool) → answerAccepts 0 t ≡ d → (s : ℕ) × AnswerMalformed t s
     go true e = absurd (f (sound t e))
-    go false e = (leaves 0 t, rejected-malformed t e)
+    go false e = (answerLeaves 0 t, rejected-malformed t e)

@@ -1,5 +1,5 @@
 -- The status line of specs/Reading.antt, beside the automaton and in printed answers.
---   Told i u x         x is what `statusFrom` may say of u behind c lines
+--   Told i u x         x is what `statusFrom` may say of u after c lines
 --   status-told        `statusOf` says what the automaton does
 --   status-model, status-none   the status of a printed answer
 -- Assumes nothing.
@@ -19,8 +19,8 @@ use Rattle.lists.proofs.Bools.{and-left, and-right}
 use Rattle.encoding.specs.Literal.{Literal}
 use Rattle.answer_form.specs.Answer.{Comment, Line, Status, Answer, oneLine, commentText, commentsText, satisfiableText, statusText, answerText}
 use Rattle.answer_form.specs.Machine.{acceptedBy, readBy}
-use Rattle.answer_form.specs.Automaton.{statusBytes, statusAt, statusNext, statusTurn, statusStep, seekStep, stepOf, mayEnd, accepts}
-use Rattle.answer_form.specs.Reading.{Found, common, firstLine, statusFrom, statusOf, statusEnd}
+use Rattle.answer_form.specs.Automaton.{statusBytes, statusAt, statusNext, statusTurn, statusStep, seekStep, answerStep, mayEnd, answerAccepts}
+use Rattle.answer_form.specs.Pieces.{Found, common, firstLine, statusFrom, statusOf, statusEnd}
 use Rattle.answer_form.proofs.Steps.{remark-before}
 use Rattle.answer_form.proofs.Accepted.{comment-then, rest-read}
 use Rattle.answer_form.proofs.Unique.{Bare, satisfiable-bare, status-bare}
@@ -31,7 +31,7 @@ use Rattle.answer_form.proofs.Passing.{Passes, Fails, pass-then, fail-t
 -- from state q the bytes w, and no others, lead to state r
 data Spells : ℕ → List ℕ → ℕ → Type 0 where
   done : {q : ℕ} → Spells q [] q
-  then : {q c r s : ℕ} {w : List ℕ} → ((b : ℕ) → stepOf q b ≡ cond (eqb b c) r 43) → eqb r 43 ≡ false → mayEnd q ≡ false → Spells r w s → Spells q (c ∷ w) s
+  then : {q c r s : ℕ} {w : List ℕ} → ((b : ℕ) → answerStep q b ≡ cond (eqb b c) r 43) → eqb r 43 ≡ false → mayEnd q ≡ false → Spells r w s → Spells q (c ∷ w) s
 
 data Match (q : ℕ) (u w : List ℕ) (r : ℕ) : Type 0 where
   whole : common u w ≡ length w → Passes q u r (length w) → Match q u w r
@@ -49,19 +49,19 @@ spelled q r w (then {c = c} {r = p} {w = v} e l n s) (b ∷ u) = go (eqb b c) re
     go false f m = part (rw f (omega arith)) (rw f (fail-here q b u (e b ∙ rw f)))
 
 satisfiable-tail : Spells 3 (ascii "ATISFIABLE\n") 33
-unfolding ascii stepOf statusStep statusAt statusBytes statusNext statusTurn mayEnd
+unfolding ascii answerStep statusStep statusAt statusBytes statusNext statusTurn mayEnd
 satisfiable-tail =
     then (λ b. refl) refl refl (then (λ b. refl) refl refl (then (λ b. refl) refl refl (then (λ b. refl) refl refl (then (λ b. refl) refl refl (then (λ b. refl) refl refl
     (then (λ b. refl) refl refl (then (λ b. refl) refl refl (then (λ b. refl) refl refl (then (λ b. refl) refl refl (then (λ b. refl) refl refl done))))))))))
 
 unsatisfiable-tail : Spells 16 (ascii "ATISFIABLE\n") 42
-unfolding ascii stepOf statusStep statusAt statusBytes statusNext statusTurn mayEnd
+unfolding ascii answerStep statusStep statusAt statusBytes statusNext statusTurn mayEnd
 unsatisfiable-tail =
     then (λ b. refl) refl refl (then (λ b. refl) refl refl (then (λ b. refl) refl refl (then (λ b. refl) refl refl (then (λ b. refl) refl refl (then (λ b. refl) refl refl
     (then (λ b. refl) refl refl (then (λ b. refl) refl refl (then (λ b. refl) refl refl (then (λ b. refl) refl refl (then (λ b. refl) refl refl done))))))))))
 
 unknown-tail : Spells 27 (ascii "NOWN\n") 42
-unfolding ascii stepOf statusStep statusAt statusBytes statusNext statusTurn mayEnd
+unfolding ascii answerStep statusStep statusAt statusBytes statusNext statusTurn mayEnd
 unknown-tail = then (λ b. refl) refl refl (then (λ b. refl) refl refl (then (λ b. refl) refl refl (then (λ b. refl) refl refl (then (λ b. refl) refl refl done))))
 
 -- ---- three strings at once
@@ -69,19 +69,19 @@ unknown-tail = then (λ b. refl) refl refl (then (λ b. refl) refl refl (then (�
 -- what is left of the three status lines has A, B and C bytes, of which u has a, b and c at its front
 data Verdict (q : ℕ) (u : List ℕ) (A B C a b c : ℕ) : Type 0 where
   model : a ≡ A → Passes q u 33 A → Verdict q u A B C a b c
-  second : a < A → b ≡ B → accepts q u ≡ true → Verdict q u A B C a b c
-  third : a < A → b < B → c ≡ C → accepts q u ≡ true → Verdict q u A B C a b c
+  second : a < A → b ≡ B → answerAccepts q u ≡ true → Verdict q u A B C a b c
+  third : a < A → b < B → c ≡ C → answerAccepts q u ≡ true → Verdict q u A B C a b c
   none : a < A → b < B → c < C → Fails q u (max a (max b c)) → Verdict q u A B C a b c
 
-accepts-first : (q x r : ℕ) (u : List ℕ) → stepOf q x ≡ r → accepts r u ≡ true → accepts q (x ∷ u) ≡ true
+accepts-first : (q x r : ℕ) (u : List ℕ) → answerStep q x ≡ r → answerAccepts r u ≡ true → answerAccepts q (x ∷ u) ≡ true
 unfolding acceptedBy
-accepts-first q x r u e a = subst (λ (p : ℕ). accepts p u ≡ true) (sym e) a
+accepts-first q x r u e a = subst (λ (p : ℕ). answerAccepts p u ≡ true) (sym e) a
 
 fails-at : (q n m : ℕ) (u : List ℕ) → n ≡ m → Fails q u n → Fails q u m
 fails-at q n m u e f = subst (λ (k : ℕ). Fails q u k) e f
 
 -- a byte of all three
-all-three : (q x r : ℕ) (u : List ℕ) (A B C a b c : ℕ) → stepOf q x ≡ r → eqb r 43 ≡ false → Verdict r u A B C a b c → Verdict q (x ∷ u) (suc A) (suc B) (suc C) (suc a) (suc b) (suc c)
+all-three : (q x r : ℕ) (u : List ℕ) (A B C a b c : ℕ) → answerStep q x ≡ r → eqb r 43 ≡ false → Verdict r u A B C a b c → Verdict q (x ∷ u) (suc A) (suc B) (suc C) (suc a) (suc b) (suc c)
 all-three q x r u A B C a b c e l (model f p) = model (ap suc f) (pass-byte q x r 33 A u e l p)
 all-three q x r u A B C a b c e l (second f g p) = second (omega (arith, f)) (ap suc g) (accepts-first q x r u e p)
 all-three q x r u A B C a b c e l (third f g h p) = third (omega (arith, f)) (omega (arith, g)) (ap suc h) (accepts-first q x r u e p)
@@ -89,7 +89,7 @@ all-three q x r u A B C a b c e l (none f g h p) =
     none (omega (arith, f)) (omega (arith, g)) (omega (arith, h)) (fails-at q _ _ (x ∷ u) (omega arith) (fail-byte q x r (max a (max b c)) u e l p))
 
 -- a byte of the second and the third
-last-two : (q x r : ℕ) (u : List ℕ) (A B C b c : ℕ) → 0 < A → stepOf q x ≡ r → eqb r 43 ≡ false → Verdict r u A B C 0 b c → Verdict q (x ∷ u) A (suc B) (suc C) 0 (suc b) (suc c)
+last-two : (q x r : ℕ) (u : List ℕ) (A B C b c : ℕ) → 0 < A → answerStep q x ≡ r → eqb r 43 ≡ false → Verdict r u A B C 0 b c → Verdict q (x ∷ u) A (suc B) (suc C) 0 (suc b) (suc c)
 last-two q x r u A B C b c z e l (model f p) = absurd (omega (arith, z, f))
 last-two q x r u A B C b c z e l (second f g p) = second z (ap suc g) (accepts-first q x r u e p)
 last-two q x r u A B C b c z e l (third f g h p) = third z (omega (arith, g)) (ap suc h) (accepts-first q x r u e p)
@@ -97,14 +97,14 @@ last-two q x r u A B C b c z e l (none f g h p) =
     none z (omega (arith, g)) (omega (arith, h)) (fails-at q _ _ (x ∷ u) (omega arith) (fail-byte q x r (max 0 (max b c)) u e l p))
 
 -- a byte of none, or no byte
-none-here : (q b : ℕ) (u : List ℕ) (A B C : ℕ) → 0 < A → 0 < B → 0 < C → stepOf q b ≡ 43 → Verdict q (b ∷ u) A B C 0 0 0
+none-here : (q b : ℕ) (u : List ℕ) (A B C : ℕ) → 0 < A → 0 < B → 0 < C → answerStep q b ≡ 43 → Verdict q (b ∷ u) A B C 0 0 0
 none-here q b u A B C x y z e = none x y z (fail-here q b u e)
 
 none-end : (q A B C : ℕ) → 0 < A → 0 < B → 0 < C → mayEnd q ≡ false → Verdict q [] A B C 0 0 0
 none-end q A B C x y z e = none x y z (fail-end q e)
 
 -- a state past another status accepts
-passed-accepts : (q n : ℕ) (u : List ℕ) → Passes q u 42 n → accepts q u ≡ true
+passed-accepts : (q n : ℕ) (u : List ℕ) → Passes q u 42 n → answerAccepts q u ≡ true
 passed-accepts q n u p = p .accept ∙ rest-read (drop n u)
 
 -- after "s UN"
@@ -112,7 +112,7 @@ abbrev AtFifteen : List ℕ → Type 0
 AtFifteen u = Verdict 15 u 12 12 6 0 (common u (ascii "SATISFIABLE\n")) (common u (ascii "KNOWN\n"))
 
 at-fifteen : (u : List ℕ) → AtFifteen u
-unfolding common ascii stepOf statusStep statusAt statusBytes statusNext statusTurn mayEnd
+unfolding common ascii answerStep statusStep statusAt statusBytes statusNext statusTurn mayEnd
 at-fifteen [] = none-end 15 12 12 6 (omega arith) (omega arith) (omega arith) refl
 at-fifteen (b ∷ u) = go (eqb b 83) refl (eqb b 75) refl
   where
@@ -134,7 +134,7 @@ abbrev AtFourteen : List ℕ → Type 0
 AtFourteen u = Verdict 14 u 12 13 7 0 (common u (ascii "NSATISFIABLE\n")) (common u (ascii "NKNOWN\n"))
 
 at-fourteen : (u : List ℕ) → AtFourteen u
-unfolding common ascii stepOf statusStep statusAt statusBytes statusNext statusTurn mayEnd
+unfolding common ascii answerStep statusStep statusAt statusBytes statusNext statusTurn mayEnd
 at-fourteen [] = none-end 14 12 13 7 (omega arith) (omega arith) (omega arith) refl
 at-fourteen (b ∷ u) = go (eqb b 78) refl
   where
@@ -149,7 +149,7 @@ abbrev AtTwo : List ℕ → Type 0
 AtTwo u = Verdict 2 u 12 14 8 (common u (ascii "SATISFIABLE\n")) (common u (ascii "UNSATISFIABLE\n")) (common u (ascii "UNKNOWN\n"))
 
 at-two : (u : List ℕ) → AtTwo u
-unfolding common ascii stepOf statusStep statusAt statusBytes statusNext statusTurn mayEnd
+unfolding common ascii answerStep statusStep statusAt statusBytes statusNext statusTurn mayEnd
 at-two [] = none-end 2 12 14 8 (omega arith) (omega arith) (omega arith) refl
 at-two (b ∷ u) = go (eqb b 83) refl (eqb b 85) refl
   where
@@ -169,7 +169,7 @@ abbrev AtOne : List ℕ → Type 0
 AtOne u = Verdict 1 u 13 15 9 (common u (ascii " SATISFIABLE\n")) (common u (ascii " UNSATISFIABLE\n")) (common u (ascii " UNKNOWN\n"))
 
 at-one : (u : List ℕ) → AtOne u
-unfolding common ascii stepOf statusStep statusAt statusBytes statusNext statusTurn mayEnd
+unfolding common ascii answerStep statusStep statusAt statusBytes statusNext statusTurn mayEnd
 at-one [] = none-end 1 13 15 9 (omega arith) (omega arith) (omega arith) refl
 at-one (b ∷ u) = go (eqb b 32) refl
   where
@@ -182,7 +182,7 @@ abbrev AtStart : List ℕ → Type 0
 AtStart u = Verdict 0 u 14 16 10 (common u satisfiableText) (common u (statusText Status.unsatisfiable)) (common u (statusText Status.unknown))
 
 at-start : (u : List ℕ) → Bare u → AtStart u
-unfolding common ascii stepOf statusStep statusAt statusBytes statusNext statusTurn mayEnd satisfiableText statusText
+unfolding common ascii answerStep statusStep statusAt statusBytes statusNext statusTurn mayEnd satisfiableText statusText
 at-start u Bare.nothing = none-end 0 14 16 10 (omega arith) (omega arith) (omega arith) refl
 at-start v (Bare.byte {b = b} {u = u} n) = go (eqb b 115) refl
   where
@@ -194,7 +194,7 @@ at-start v (Bare.byte {b = b} {u = u} n) = go (eqb b 115) refl
 
 pub data Told (i : ℕ) (u : List ℕ) : Found → Type 0 where
   a-model : (lineEnd n : ℕ) → lineEnd ≡ i + n → Passes 0 u 35 n → Told i u (Found.satisfiable lineEnd)
-  another : (s : Status) → accepts 0 u ≡ true → Told i u (Found.other s)
+  another : (s : Status) → answerAccepts 0 u ≡ true → Told i u (Found.other s)
   is-left : (spot n : ℕ) → spot ≡ i + n → Fails 0 u n → Told i u (Found.left spot)
 
 common-whole : (u w : List ℕ) → common u w ≡ length w → u ≡ w ++ drop (length w) u
@@ -209,16 +209,16 @@ common-whole (b ∷ u) (c ∷ w) e = go (eqb b c) refl e (common-whole u w)
 
 -- the line end of "s SATISFIABLE" is read as one of a v line
 line-end : (v : List ℕ) → Passes 0 (satisfiableText ++ v) 33 14 → Passes 0 (satisfiableText ++ v) 35 13
-unfolding satisfiableText ascii acceptedBy readBy stepOf seekStep
+unfolding satisfiableText ascii acceptedBy readBy answerStep seekStep
 line-end v p = record { within = omega (arith, p .within); accept = p .accept; leave = p .leave ∙ omega arith }
 
 whole-model : (u : List ℕ) → common u satisfiableText ≡ 14 → u ≡ satisfiableText ++ drop 14 u
 unfolding satisfiableText ascii
 whole-model u f = common-whole u satisfiableText f
 
-comment-start : (b : ℕ) → eqb b 99 ≡ true → stepOf 0 b ≡ 32
-unfolding stepOf statusStep statusAt statusBytes statusTurn ascii
-comment-start b e = ap (stepOf 0) (eqb-true b 99 e)
+comment-start : (b : ℕ) → eqb b 99 ≡ true → answerStep 0 b ≡ 32
+unfolding answerStep statusStep statusAt statusBytes statusTurn ascii
+comment-start b e = ap (answerStep 0) (eqb-true b 99 e)
 
 pub status-from : (i : ℕ) (u : List ℕ) → Bare u → Told i u (statusFrom i u)
 unfolding statusFrom
@@ -257,7 +257,7 @@ record Reached (q i : ℕ) (u : List ℕ) : Type 0 where
   passes : Passes q u 0 count
   bare : Bare (drop count u)
 
-reached-on : (q i b r : ℕ) (u : List ℕ) → stepOf q b ≡ r → eqb r 43 ≡ false → firstLine q i (b ∷ u) ≡ firstLine r (i + 1) u → Reached r (i + 1) u → Reached q i (b ∷ u)
+reached-on : (q i b r : ℕ) (u : List ℕ) → answerStep q b ≡ r → eqb r 43 ≡ false → firstLine q i (b ∷ u) ≡ firstLine r (i + 1) u → Reached r (i + 1) u → Reached q i (b ∷ u)
 reached-on q i b r u e l f p =
     record { count = suc (p .count); index = f ∙ p .index ∙ omega arith; passes = pass-byte q b r 0 (p .count) u e l (p .passes); bare = p .bare }
 

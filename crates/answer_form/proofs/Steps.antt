@@ -1,7 +1,7 @@
 -- What a byte does in each state, and which state a byte can lead to.
 --   step-status .. step-dead   each state's step
---   Remark q r        q is within a c line, and r is the line's start behind it
---   step-behind       behind a literal a byte that is no digit does what it does behind v
+--   Remark q r        q is within a c line, and r is the line's start after it
+--   step-behind       after a literal a byte that is no digit does what it does after v
 --   Opens q           in state q a digit from 1 to 9 begins a literal
 --   step-within       there are the states 0 to 43
 -- Assumes nothing.
@@ -12,67 +12,67 @@ use mathlib.Core.Bool.{Bool, true, false, cond}
 use lib.Dec.{ltb, eqb}
 use borrow.Author.Tests.{lt-ltb, le-ltb, ne-eqb, ltb-true}
 use Rattle.reader_form.specs.Automaton.{digitTest}
-use Rattle.answer_form.specs.Automaton.{statusAt, statusNext, statusTurn, statusStep, seekStep, literalStep, endStep, stepOf}
+use Rattle.answer_form.specs.Automaton.{statusAt, statusNext, statusTurn, statusStep, seekStep, literalStep, endStep, answerStep}
 
-pub step-status : (q b : ℕ) → q < 32 → stepOf q b ≡ statusStep q b
-unfolding stepOf
+pub step-status : (q b : ℕ) → q < 32 → answerStep q b ≡ statusStep q b
+unfolding answerStep
 step-status q b h = rw (lt-ltb q 32 h)
 
 -- a c line, from which byte 10 leads to state r
 pub record Remark (q r : ℕ) : Type 0 where
-  pub steps : (b : ℕ) → stepOf q b ≡ cond (eqb b 10) r q
+  pub steps : (b : ℕ) → answerStep q b ≡ cond (eqb b 10) r q
 
 pub remark-before : Remark 32 0
-unfolding stepOf seekStep literalStep endStep
+unfolding answerStep seekStep literalStep endStep
 remark-before = record { steps = λ b. refl }
 
 pub remark-between : Remark 34 33
-unfolding stepOf seekStep literalStep endStep
+unfolding answerStep seekStep literalStep endStep
 remark-between = record { steps = λ b. refl }
 
 pub remark-after : Remark 41 40
-unfolding stepOf seekStep literalStep endStep
+unfolding answerStep seekStep literalStep endStep
 remark-after = record { steps = λ b. refl }
 
-pub step-line : (b : ℕ) → stepOf 33 b ≡ cond (eqb b 99) 34 (cond (eqb b 118) 35 43)
-unfolding stepOf seekStep literalStep endStep
+pub step-line : (b : ℕ) → answerStep 33 b ≡ cond (eqb b 99) 34 (cond (eqb b 118) 35 43)
+unfolding answerStep seekStep literalStep endStep
 step-line b = refl
 
-pub step-between : (b : ℕ) → stepOf 35 b ≡ cond (eqb b 32) 36 (cond (eqb b 10) 33 43)
-unfolding stepOf seekStep literalStep
+pub step-between : (b : ℕ) → answerStep 35 b ≡ cond (eqb b 32) 36 (cond (eqb b 10) 33 43)
+unfolding answerStep seekStep literalStep
 step-between b = refl
 
-pub step-space : (b : ℕ) → stepOf 36 b ≡ cond (eqb b 45) 37 (cond (eqb b 48) 39 (cond (digitTest b) 38 43))
-unfolding stepOf seekStep literalStep endStep
+pub step-space : (b : ℕ) → answerStep 36 b ≡ cond (eqb b 45) 37 (cond (eqb b 48) 39 (cond (digitTest b) 38 43))
+unfolding answerStep seekStep literalStep endStep
 step-space b = refl
 
-pub step-minus : (b : ℕ) → stepOf 37 b ≡ cond (eqb b 48) 43 (cond (digitTest b) 38 43)
-unfolding stepOf seekStep literalStep endStep
+pub step-minus : (b : ℕ) → answerStep 37 b ≡ cond (eqb b 48) 43 (cond (digitTest b) 38 43)
+unfolding answerStep seekStep literalStep endStep
 step-minus b = refl
 
-pub step-digits : (b : ℕ) → stepOf 38 b ≡ cond (digitTest b) 38 (cond (eqb b 32) 36 (cond (eqb b 10) 33 43))
-unfolding stepOf seekStep literalStep
+pub step-digits : (b : ℕ) → answerStep 38 b ≡ cond (digitTest b) 38 (cond (eqb b 32) 36 (cond (eqb b 10) 33 43))
+unfolding answerStep seekStep literalStep
 step-digits b = refl
 
-pub step-zero : (b : ℕ) → stepOf 39 b ≡ cond (eqb b 10) 40 43
-unfolding stepOf seekStep literalStep endStep
+pub step-zero : (b : ℕ) → answerStep 39 b ≡ cond (eqb b 10) 40 43
+unfolding answerStep seekStep literalStep endStep
 step-zero b = refl
 
-pub step-after : (b : ℕ) → stepOf 40 b ≡ cond (eqb b 99) 41 43
-unfolding stepOf seekStep literalStep endStep
+pub step-after : (b : ℕ) → answerStep 40 b ≡ cond (eqb b 99) 41 43
+unfolding answerStep seekStep literalStep endStep
 step-after b = refl
 
-pub step-rest : (b : ℕ) → stepOf 42 b ≡ 42
-unfolding stepOf seekStep literalStep endStep
+pub step-rest : (b : ℕ) → answerStep 42 b ≡ 42
+unfolding answerStep seekStep literalStep endStep
 step-rest b = refl
 
-pub step-dead : (b : ℕ) → stepOf 43 b ≡ 43
-unfolding stepOf seekStep literalStep endStep
+pub step-dead : (b : ℕ) → answerStep 43 b ≡ 43
+unfolding answerStep seekStep literalStep endStep
 step-dead b = refl
 
--- behind a literal, a byte that is no digit does what it does behind v
-pub step-behind : (b : ℕ) → digitTest b ≡ false → stepOf 38 b ≡ stepOf 35 b
-unfolding stepOf seekStep literalStep endStep
+-- after a literal, a byte that is no digit does what it does after v
+pub step-behind : (b : ℕ) → digitTest b ≡ false → answerStep 38 b ≡ answerStep 35 b
+unfolding answerStep seekStep literalStep endStep
 step-behind b n = rw n
 
 -- ---- digits
@@ -81,12 +81,12 @@ pub digit-is : (d : ℕ) → d < 10 → digitTest (48 + d) ≡ true
 unfolding digitTest
 digit-is d h = rw (le-ltb (48 + d) 48 (omega arith), lt-ltb (48 + d) 58 (omega arith))
 
-pub step-digit : (d : ℕ) → d < 10 → stepOf 38 (48 + d) ≡ 38
+pub step-digit : (d : ℕ) → d < 10 → answerStep 38 (48 + d) ≡ 38
 step-digit d h = step-digits (48 + d) ∙ rw (digit-is d h)
 
 -- the first digit of a literal that is not 0, after a space or a minus
 pub record Opens (q : ℕ) : Type 0 where
-  pub opens : (d : ℕ) → 0 < d → d < 10 → stepOf q (48 + d) ≡ 38
+  pub opens : (d : ℕ) → 0 < d → d < 10 → answerStep q (48 + d) ≡ 38
 
 pub space-opens : Opens 36
 space-opens = record { opens = λ d z h. step-space (48 + d) ∙ rw (ne-eqb (48 + d) 45 (λ e. omega (arith, e)), ne-eqb (48 + d) 48 (λ e. omega (arith, e, z)), digit-is d h) }
@@ -100,8 +100,8 @@ pick : (c : Bool) {x y : ℕ} → x ≤ 43 → y ≤ 43 → cond c x y ≤ 43
 pick true h k = h
 pick false h k = k
 
-pub step-within : (q b : ℕ) → stepOf q b ≤ 43
-unfolding stepOf statusStep statusNext statusTurn seekStep literalStep endStep
+pub step-within : (q b : ℕ) → answerStep q b ≤ 43
+unfolding answerStep statusStep statusNext statusTurn seekStep literalStep endStep
 step-within q b = go (ltb q 32) refl
   where
     lit : (x : ℕ) → ltb x 44 ≡ true → x ≤ 43

@@ -1,7 +1,7 @@
 -- The functions of specs/Reading.antt by the index of a byte: one turn of a loop over t, and its end.
---   byte-at                     the byte at i and those behind it
---   first-, value-, capped-, behind-, seek-, close- with turn and stop   each function at i, within the text and behind it
---   common-turn, common-stop, common-short   `common` at i, within both strings, behind the fixed one, behind the text
+--   byte-at                     the byte at i and those after it
+--   first-, value-, capped-, behind-, seek-, close- with turn and stop   each function at i, within the text and after it
+--   common-turn, common-stop, common-short   `common` at i, within both strings, after the fixed one, after the text
 -- Assumes nothing.
 use Prim.Native.Nat.{ℕ, suc, _+_, _*_, _-_, _≤_, _<_, min}
 use native.Mathlib.Numerals.{add-one}
@@ -13,10 +13,10 @@ use lib.ListN.{length, getD, drop, drop-of-length-le}
 use lib.Seq.{drop-cons}
 use Rattle.reader_form.specs.Automaton.{digitTest}
 use Rattle.answer_form.specs.Automaton.{seekStep, endStep}
-use Rattle.answer_form.specs.Reading.{common, firstLine, Next, digitsValue, cappedValue, behindDigits, literalFrom, seekFrom, Close, closeFrom}
+use Rattle.answer_form.specs.Pieces.{common, firstLine, Next, digitsValue, cappedValue, behindDigits, literalFrom, seekFrom, Close, closeFrom}
 
 module _ (t : List ℕ) (i : ℕ) where
-  -- the byte at i and those behind it
+  -- the byte at i and those after it
   pub byte-at : i < length t → drop i t ≡ getD t i 0 ∷ drop (i + 1) t
   byte-at h = drop-cons t i 0 h ∙ ap (λ (k : ℕ). getD t i 0 ∷ drop k t) (sym (add-one i))
 

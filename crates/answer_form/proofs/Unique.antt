@@ -58,7 +58,7 @@ comments-cancel (bs ∷ bss) (cs ∷ css) u v p q x y e =
 
 -- ---- literals
 
--- how a v line goes on behind its literals
+-- how a v line goes on after its literals
 pub data Tail : List ℕ → Type 0 where
   line-end : {u : List ℕ} → Tail (10 ∷ u)
   zero-end : {u : List ℕ} → Tail (32 ∷ 48 ∷ 10 ∷ u)

@@ -2,7 +2,7 @@
 --   OfModel t xs          t is the text of a proper answer with status SATISFIABLE whose literals stand as in xs
 --   status-left           a text that leaves the form up to its status line is malformed there
 --   status-other          a text with another status line is that of an answer with it
---   literals-left         a text that leaves the form behind "s SATISFIABLE" is malformed there
+--   literals-left         a text that leaves the form after "s SATISFIABLE" is malformed there
 --   literals-fine         a text that is read to its end is that of one answer, with the literals that are read
 --   status-within         the status line ends within the text
 --   whole                 each text is one of these
@@ -17,13 +17,13 @@ use lib.ListN.{length, drop}
 use Rattle.lists.specs.Lists.{all}
 use Rattle.lists.proofs.Bools.{and-left}
 use Rattle.encoding.specs.Literal.{Literal}
-use Rattle.answer_form.specs.Answer.{Comment, Line, Status, Answer, oneLine, proper, answerText, HasForm, OfStatus, Malformed}
-use Rattle.answer_form.specs.Reading.{Found, statusOf, Close, Spotted, Reads, statusEnd, spotsOf}
+use Rattle.answer_form.specs.Answer.{Comment, Line, Status, Answer, oneLine, proper, answerText, HasAnswerForm, OfStatus, AnswerMalformed}
+use Rattle.answer_form.specs.Pieces.{Found, statusOf, Close, Spotted, Reads, statusEnd, spotsOf}
 use Rattle.answer_form.proofs.Sound.{sound}
 use Rattle.answer_form.proofs.Spot.{rejected-malformed}
 use Rattle.answer_form.proofs.Passing.{Passes, Fails, fail-then, Closed}
 use Rattle.answer_form.proofs.StatusLaws.{Told, status-told, status-model, status-none}
-use Rattle.answer_form.proofs.ReadingLaws.{reads-closed, reads-total, reads-unique, reads-model}
+use Rattle.answer_form.proofs.PieceLaws.{reads-closed, reads-total, reads-unique, reads-model}
 
 pub record OfModel (t : List ℕ) (xs : List Spotted) : Type 0 where
   pub before : List Comment
@@ -55,14 +55,14 @@ module _ (t : List ℕ) where
   told-as : (x : Found) → statusOf t ≡ x → Told 0 t x
   told-as x e = subst (λ (y : Found). Told 0 t y) e (status-told t)
 
-  -- a text that is rejected behind n bytes
-  malformed-at : (s n : ℕ) → s ≡ 0 + n → Fails 0 t n → Malformed t s
-  malformed-at s n e f = subst (λ (k : ℕ). Malformed t k) (f .leave ∙ sym (zero-add n) ∙ sym e) (rejected-malformed t (f .reject))
+  -- a text that is rejected after n bytes
+  malformed-at : (s n : ℕ) → s ≡ 0 + n → Fails 0 t n → AnswerMalformed t s
+  malformed-at s n e f = subst (λ (k : ℕ). AnswerMalformed t k) (f .leave ∙ sym (zero-add n) ∙ sym e) (rejected-malformed t (f .reject))
 
-  pub status-left : (s : ℕ) → statusOf t ≡ Found.left s → Malformed t s
+  pub status-left : (s : ℕ) → statusOf t ≡ Found.left s → AnswerMalformed t s
   status-left s e = go (told-as (Found.left s) e)
     where
-      go : Told 0 t (Found.left s) → Malformed t s
+      go : Told 0 t (Found.left s) → AnswerMalformed t s
       go (Told.is-left k n f x) = malformed-at s n f x
 
   pub status-within : (e : ℕ) → statusOf t ≡ Found.satisfiable e → e ≤ length t
@@ -78,14 +78,14 @@ module _ (t : List ℕ) where
       go : Told 0 t (Found.satisfiable e) → Passes 0 t 35 e
       go (Told.a-model k n h p) = subst (λ (j : ℕ). Passes 0 t 35 j) (sym (h ∙ zero-add n)) p
 
-  pub literals-left : (e s : ℕ) (xs : List Spotted) → statusOf t ≡ Found.satisfiable e → Reads t e xs (Close.left s) → Malformed t s
+  pub literals-left : (e s : ℕ) (xs : List Spotted) → statusOf t ≡ Found.satisfiable e → Reads t e xs (Close.left s) → AnswerMalformed t s
   literals-left e s xs f r = go (reads-closed t r)
     where
-      go : Closed 35 e (drop e t) (Close.left s) → Malformed t s
+      go : Closed 35 e (drop e t) (Close.left s) → AnswerMalformed t s
       go (Closed.is-left k n h x) = malformed-at s (e + n) (omega (arith, h)) (fail-then 0 35 e n t (from-line-end e f) x)
 
   -- an accepted text, by its status
-  accepted-model : (e : ℕ) → statusOf t ≡ Found.satisfiable e → (xs : List Spotted) → Reads t e xs Close.fine → HasForm t → OfModel t xs
+  accepted-model : (e : ℕ) → statusOf t ≡ Found.satisfiable e → (xs : List Spotted) → Reads t e xs Close.fine → HasAnswerForm t → OfModel t xs
   unfolding proper kind lineEndOf
   accepted-model e f xs r h = go (h .answer) (h .is-proper) (h .its-text)
     where
@@ -112,7 +112,7 @@ module _ (t : List ℕ) where
       go : Closed 35 e (drop e t) Close.fine → OfModel t xs
       go (Closed.is-fine a) = accepted-model e f xs r (sound t (from-line-end e f .accept ∙ a))
 
-  accepted-other : (s : Status) → statusOf t ≡ Found.other s → HasForm t → OfStatus t s
+  accepted-other : (s : Status) → statusOf t ≡ Found.other s → HasAnswerForm t → OfStatus t s
   unfolding proper kind statusIn
   accepted-other s f h = go (h .answer) (h .is-proper) (h .its-text)
     where
@@ -134,8 +134,8 @@ module _ (t : List ℕ) where
 pub data Outcome (t : List ℕ) : Type 0 where
   a-model : (e : ℕ) (xs : List Spotted) → statusOf t ≡ Found.satisfiable e → Reads t e xs Close.fine → OfModel t xs → Outcome t
   no-model : (s : Status) → statusOf t ≡ Found.other s → OfStatus t s → Outcome t
-  left-before : (s : ℕ) → statusOf t ≡ Found.left s → Malformed t s → Outcome t
-  left-behind : (e s : ℕ) (xs : List Spotted) → statusOf t ≡ Found.satisfiable e → Reads t e xs (Close.left s) → Malformed t s → Outcome t
+  left-before : (s : ℕ) → statusOf t ≡ Found.left s → AnswerMalformed t s → Outcome t
+  left-behind : (e s : ℕ) (xs : List Spotted) → statusOf t ≡ Found.satisfiable e → Reads t e xs (Close.left s) → AnswerMalformed t s → Outcome t
 
 pub whole : (t : List ℕ) → Outcome t
 whole t = go (statusOf t) refl

@@ -1,14 +1,14 @@
 -- Solver answers (document 01, "Solver answer"), as bytes. The form is the set of texts that `answerText` gives for some answer; no reader enters
 -- its definition.
---   Line              a line between the status line and the last v line: c or v
---   Answer            with the status SATISFIABLE, or with another one and any bytes past its line end
---   Proper a          no comment holds byte 10, and no literal but the last is 0
---   answerText a      its bytes
---   literalsOf a      its literals but the last 0, in order
---   HasForm t         t is the text of some proper answer
---   OfStatus t s      t is that of one with the status s, another than SATISFIABLE
---   Viable t          some ending of t, a list of bytes, gives the form
---   Malformed t s     s is the first byte after which no ending gives the form, or the length if the text stops short
+--   Line                  a line between the status line and the last v line: c or v
+--   Answer                with the status SATISFIABLE, or with another one and any bytes past its line end
+--   Proper a              no comment holds byte 10, and no literal but the last is 0
+--   answerText a          its bytes
+--   literalsOf a          its literals but the last 0, in order
+--   HasAnswerForm t       t is the text of some proper answer
+--   OfStatus t s          t is that of one with the status s, another than SATISFIABLE
+--   AnswerViable t        some ending of t, a list of bytes, gives the form
+--   AnswerMalformed t s   s is the first byte after which no ending gives the form, or the length if the text stops short
 -- Assumes nothing.
 use Prim.Native.Nat.{ℕ}
 use mathlib.Core.Path.{_≡_}
@@ -101,7 +101,7 @@ literalsOf (noModel before status rest) = []
 
 -- ---- the form
 
-pub record HasForm (t : List ℕ) : Type 0 where
+pub record HasAnswerForm (t : List ℕ) : Type 0 where
   pub answer : Answer
   pub is-proper : So (proper answer)
   pub its-text : t ≡ answerText answer
@@ -113,8 +113,8 @@ pub record OfStatus (t : List ℕ) (s : Status) : Type 0 where
   pub is-proper : So (proper (Answer.noModel before s rest))
   pub its-text : t ≡ answerText (Answer.noModel before s rest)
 
-abbrev pub Viable : List ℕ → Type 0
-Viable t = ViableIn HasForm t
+abbrev pub AnswerViable : List ℕ → Type 0
+AnswerViable t = ViableIn HasAnswerForm t
 
-abbrev pub Malformed : List ℕ → ℕ → Type 0
-Malformed t s = MalformedIn HasForm t s
+abbrev pub AnswerMalformed : List ℕ → ℕ → Type 0
+AnswerMalformed t s = MalformedIn HasAnswerForm t s

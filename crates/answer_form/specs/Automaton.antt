@@ -1,10 +1,10 @@
 -- One byte of a solver answer, from a state (document 01, "Solver answer").
---   statusBytes     the three status lines, each from the byte on at which it differs from those before it
---   stepOf q b      the state after byte b
---   mayEnd q        the text may end in state q
---   accepts q t     from state q the bytes t end where a text may end
---   leaves q t      how many bytes of t are read from state q before no ending gives the form; all of them where t stops short
---   endOf q         an ending from state q
+--   statusBytes         the three status lines, each from the byte on at which it differs from those before it
+--   answerStep q b      the state after byte b
+--   mayEnd q            the text may end in state q
+--   answerAccepts q t   from state q the bytes t end where a text may end
+--   answerLeaves q t    how many bytes of t are read from state q before no ending gives the form; all of them where t stops short
+--   answerEnd q         an ending from state q
 -- States:
 --   0 to 31         before byte q of `statusBytes`: 0 is a line's start before the status, 14 is after "s U", 27 after "s UNK"
 --   32              in a c line before the status
@@ -32,7 +32,7 @@ statusBytes = ascii "s SATISFIABLE\nNSATISFIABLE\nNOWN\n"
 unfoldable pub statusAt : ℕ → ℕ
 statusAt q = getD statusBytes q 0
 
--- the state behind byte q of `statusBytes`
+-- the state after byte q of `statusBytes`
 unfoldable pub statusNext : ℕ → ℕ
 statusNext q = cond (eqb q 13) 33 (cond (eqb q 26) 42 (cond (eqb q 31) 42 (suc q)))
 
@@ -44,7 +44,7 @@ statusTurn q b =
 unfoldable pub statusStep : ℕ → ℕ → ℕ
 statusStep q b = cond (eqb b (statusAt q)) (statusNext q) (statusTurn q b)
 
--- between literals: at a line's start, in a c line, or behind v or a literal
+-- between literals: at a line's start, in a c line, or after v or a literal
 unfoldable pub seekStep : ℕ → ℕ → ℕ
 seekStep q b =
     cond (eqb q 33) (cond (eqb b 99) 34 (cond (eqb b 118) 35 43))
@@ -60,8 +60,8 @@ literalStep q b =
 unfoldable pub endStep : ℕ → ℕ → ℕ
 endStep q b = cond (eqb q 39) (cond (eqb b 10) 40 43) (cond (eqb q 40) (cond (eqb b 99) 41 43) (cond (eqb b 10) 40 41))
 
-unfoldable pub stepOf : ℕ → ℕ → ℕ
-stepOf q b =
+unfoldable pub answerStep : ℕ → ℕ → ℕ
+answerStep q b =
     cond (ltb q 32) (statusStep q b)
     (cond (eqb q 32) (cond (eqb b 10) 0 32)
     (cond (ltb q 36) (seekStep q b)
@@ -72,18 +72,18 @@ stepOf q b =
 unfoldable pub mayEnd : ℕ → Bool
 mayEnd q = eqb q 40 || eqb q 42
 
-abbrev pub accepts : ℕ → List ℕ → Bool
-accepts q t = acceptedBy stepOf mayEnd q t
+abbrev pub answerAccepts : ℕ → List ℕ → Bool
+answerAccepts q t = acceptedBy answerStep mayEnd q t
 
-abbrev pub leaves : ℕ → List ℕ → ℕ
-leaves q t = readBy stepOf 43 q t
+abbrev pub answerLeaves : ℕ → List ℕ → ℕ
+answerLeaves q t = readBy answerStep 43 q t
 
 -- the endings from states 32 to 42
 unfoldable pub lateEnds : List (List ℕ)
 lateEnds = map ascii ("\ns UNKNOWN\n" ∷ "v 0\n" ∷ "\nv 0\n" ∷ " 0\n" ∷ "0\n" ∷ "1 0\n" ∷ " 0\n" ∷ "\n" ∷ "" ∷ "\n" ∷ "" ∷ [])
 
-unfoldable pub endOf : ℕ → List ℕ
-endOf q =
+unfoldable pub answerEnd : ℕ → List ℕ
+answerEnd q =
     cond (ltb q 14) (drop q (ascii "s SATISFIABLE\nv 0\n"))
     (cond (ltb q 27) (drop (q - 14) (ascii "NSATISFIABLE\n"))
     (cond (ltb q 32) (drop (q - 27) (ascii "NOWN\n")) (getD lateEnds (q - 32) [])))

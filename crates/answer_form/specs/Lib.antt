@@ -1,4 +1,4 @@
 pub mod Answer
 pub mod Machine
 pub mod Automaton
-pub mod Reading
+pub mod Pieces

@@ -12,7 +12,7 @@ use Rattle.reader_form.specs.Automaton.{digitTest}
 use Rattle.encoding.specs.Literal.{valueOf}
 use Rattle.answer_form.specs.Answer.{satisfiableText, answerText}
 use Rattle.answer_form.specs.Automaton.{seekStep}
-use Rattle.answer_form.specs.Reading.{digitsValue, behindDigits, minusFrom, literalFrom, seekFrom, nextLiteral}
+use Rattle.answer_form.specs.Pieces.{digitsValue, behindDigits, minusFrom, literalFrom, seekFrom, nextLiteral}
 use Rattle.answer_values.specs.Assign.{literalsWithin, literalsFrom}
 use Rattle.answer_offers.specs.Offered.{valueBytes, literalsFor, offeredText, valuesOf}
 

@@ -23,12 +23,12 @@ use Rattle.encoding.specs.Literal.{Literal, literalNumber, variable, Assignment
 use Literal.{var, −_}
 use Rattle.digits.specs.Bytes.{literalText, literalsText}
 use Rattle.digits.proofs.Lengths.{word-length, literal-fits, literals-fit}
-use Rattle.answer_form.specs.Answer.{named, proper, spacedText, satisfiableText, answerText, literalsOf, HasForm}
-use Rattle.answer_form.specs.Reading.{Spotted, spotsOf}
-use Rattle.answer_form.proofs.ReadingLaws.{reads-model, literalsAt, spots-literals}
+use Rattle.answer_form.specs.Answer.{named, proper, spacedText, satisfiableText, answerText, literalsOf, HasAnswerForm}
+use Rattle.answer_form.specs.Pieces.{Spotted, spotsOf}
+use Rattle.answer_form.proofs.PieceLaws.{reads-model, literalsAt, spots-literals}
 use Rattle.answer_reader.specs.declared.Formed.the-variants.{Model}
 use Rattle.answer_reader.specs.Results.{formOf}
-use Rattle.answer_form.specs.Reading.{IsModel}
+use Rattle.answer_form.specs.Pieces.{OffersModel}
 use Rattle.answer_reader.proofs.Promised.{model-form}
 use Rattle.answer_values.specs.Assign.{literalsFrom, nobody, literalAt, variableAt, Named}
 use Rattle.answer_values.proofs.Taking.{literals-read}
@@ -55,7 +55,7 @@ number-is (var v) = refl
 number-is (− zero) = refl
 number-is (− (suc v)) = refl
 
--- one space before each literal, or behind it
+-- one space before each literal, or after it
 spaced-length : (ls : List Literal) → length (spacedText ls) ≡ length (literalsText ls)
 spaced-length [] = refl
 spaced-length (l ∷ ls) =
@@ -85,7 +85,7 @@ module _ (bs : List Bool) where
   unfolding proper
   offered-proper = and-in (all-in named (literalsFor bs) (var 0) (λ k h. lt-ltb 0 (variable (getD (literalsFor bs) k (var 0))) (omega (arith, for-variable k h)))) refl
 
-  pub offered-form : HasForm (offeredText bs)
+  pub offered-form : HasAnswerForm (offeredText bs)
   unfolding offeredText
   offered-form = record { answer = offered bs; is-proper = offered-proper; its-text = refl }
 
@@ -114,7 +114,7 @@ module _ (bs : List Bool) where
 
   -- ---- its literals
 
-  pub offered-is : IsModel (offeredText bs) 13
+  pub offered-is : OffersModel (offeredText bs) 13
   unfolding offeredText
   offered-is =
       record {

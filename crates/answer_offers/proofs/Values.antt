@@ -1,5 +1,5 @@
 -- The values that an answer's literals xs give the variables 1 to n (document 01, "Check and filling out"; document 02, Q-3).
---   any-outcome, any-bytes        the outcome and the first n bytes do not depend on the buffer; the bytes behind them stay
+--   any-outcome, any-bytes        the outcome and the first n bytes do not depend on the buffer; the bytes after them stay
 --   bytes-unique                  values are told apart by their bytes
 --   values-length, values-complete    where each literal is fit, `valuesOf n xs` is the completed assignment
 --   values-alone                  the first n bytes, completed, are these values
@@ -22,14 +22,14 @@ use Rattle.lists.proofs.Tests.{any-at, any-in}
 use Rattle.lists.proofs.Tables.{length-tab, getD-tab, getD-map}
 use Rattle.encoding.specs.Literal.{Literal, variable, Assignment, valueOf, literalTrue}
 use Literal.{var, −_}
-use Rattle.answer_form.specs.Reading.{Spotted}
-use Rattle.answer_values.specs.Assign.{valueOf as byteOf, nobody, literalAt, variableAt, Named, Unnamed, Outcome, putOutcome, putBytes, thenOutcome, thenBytes, assignedOf, assignedBytes, completedByte, completed, filledWith}
+use Rattle.answer_form.specs.Pieces.{Spotted}
+use Rattle.answer_values.specs.Assign.{literalValue as byteOf, nobody, literalAt, variableAt, Named, Unnamed, Outcome, putOutcome, putBytes, thenOutcome, thenBytes, assignedOf, assignedBytes, completedByte, completed, overwritten}
 use Rattle.answer_values.proofs.Steps.{AllNamed, byte-kept, byte-given, rest-kept}
 use Rattle.answer_values.specs.Rows.{AllFit}
 use Rattle.answer_values.proofs.Rows.{done-assigned, named-or-not}
 use Rattle.answer_offers.specs.Offered.{valueBytes, isPositive, valuesOf, LiteralsTrue, Completes}
 
--- ---- the bytes behind the first n
+-- ---- the bytes after the first n
 
 module _ (n : ℕ) (d : List ℕ) where
   put-front : (v s x : ℕ) (c : List ℕ) → 0 < v → length c ≡ n → (putOutcome n v s (c ++ d) ≡ putOutcome n v s c) × (putBytes n v x (c ++ d) ≡ putBytes n v x c ++ d)
@@ -121,12 +121,12 @@ module _ (n : ℕ) (xs : List Spotted) (named : AllNamed xs) where
   abbrev alone : List ℕ
   alone = assignedBytes n xs (replicate n 2)
 
-  pub any-outcome : (b : List ℕ) → assignedOf n xs (filledWith n 2 b) ≡ assignedOf n xs (replicate n 2)
-  unfolding filledWith
+  pub any-outcome : (b : List ℕ) → assignedOf n xs (overwritten n 2 b) ≡ assignedOf n xs (replicate n 2)
+  unfolding overwritten
   any-outcome b = front n (drop n b) xs (replicate n 2) named (length-replicate n 2) .0
 
-  pub any-bytes : (b : List ℕ) → assignedBytes n xs (filledWith n 2 b) ≡ assignedBytes n xs (replicate n 2) ++ drop n b
-  unfolding filledWith
+  pub any-bytes : (b : List ℕ) → assignedBytes n xs (overwritten n 2 b) ≡ assignedBytes n xs (replicate n 2) ++ drop n b
+  unfolding overwritten
   any-bytes b = front n (drop n b) xs (replicate n 2) named (length-replicate n 2) .1
 
   module _ (fit : AllFit n xs) where

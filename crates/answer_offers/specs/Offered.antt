@@ -20,7 +20,7 @@ use Rattle.lists.specs.Lists.{any, tab}
 use Rattle.encoding.specs.Literal.{Literal, valueOf, literalTrue}
 use Literal.{var, −_}
 use Rattle.answer_form.specs.Answer.{Answer, answerText}
-use Rattle.answer_form.specs.Reading.{Spotted}
+use Rattle.answer_form.specs.Pieces.{Spotted}
 use Rattle.answer_values.specs.Assign.{literalAt, Unnamed}
 
 abbrev pub valueBytes : List Bool → List ℕ

@@ -11,8 +11,8 @@ use Rattle.lists.specs.Ascii.{ascii}
 use Rattle.reader_form.specs.Automaton.{digitTest}
 use Rattle.answer_form.specs.Machine.{acceptedBy, readBy}
 use Rattle.answer_form.specs.Answer.{satisfiableText, statusText}
-use Rattle.answer_form.specs.Automaton.{statusBytes, statusAt, statusNext, statusTurn, statusStep, seekStep, literalStep, endStep, stepOf, mayEnd}
-use Rattle.answer_form.specs.Reading.{common, firstLine, statusFrom, statusOf, digitsValue, behindDigits, minusFrom, literalFrom, seekFrom, nextLiteral, closeFrom, closeOf}
+use Rattle.answer_form.specs.Automaton.{statusBytes, statusAt, statusNext, statusTurn, statusStep, seekStep, literalStep, endStep, answerStep, mayEnd}
+use Rattle.answer_form.specs.Pieces.{common, firstLine, statusFrom, statusOf, digitsValue, behindDigits, minusFrom, literalFrom, seekFrom, nextLiteral, closeFrom, closeOf}
 use Rattle.answer_reader.specs.declared.Found.the-variants.{Satisfiable, Other, Left as FoundLeft}
 use Rattle.answer_reader.specs.declared.Next.the-variants.{Literal as NextLiteral, Last, Left as NextLeft}
 use Rattle.answer_reader.specs.declared.Closed.the-variants.{Fine, Left as CloseLeft}
@@ -40,5 +40,5 @@ ends-given = refl
 pub forms-given : map (λ s. formOf (ascii s))
     ("s SATISFIABLE\nv 1 -2\nv 0\n" ∷ "c\ns SATISFIABLE\nv 0\nc\n" ∷ "s UNSATISFIABLE\nv" ∷ "s SATISFIABLE\nv 1\n" ∷ "s SATISFIABLE\nv 1 x" ∷ "s SAT\n" ∷ [])
     ≡ Model 13 ∷ Model 15 ∷ NoModel ∷ Malformed 18 ∷ Malformed 18 ∷ Malformed 5 ∷ []
-unfolding ascii digitTest acceptedBy readBy satisfiableText statusText statusBytes statusAt statusNext statusTurn statusStep seekStep literalStep endStep stepOf mayEnd common firstLine statusFrom statusOf formOf
+unfolding ascii digitTest acceptedBy readBy satisfiableText statusText statusBytes statusAt statusNext statusTurn statusStep seekStep literalStep endStep answerStep mayEnd common firstLine statusFrom statusOf formOf
 forms-given = refl

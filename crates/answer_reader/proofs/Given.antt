@@ -2,7 +2,7 @@
 --   found-satisfiable, found-other, found-left   the status
 --   next-named, next-last, next-left             the next literal; of a number that is handed out, some literal is the number's
 --   closed-fine, closed-left                     the end
---   next-further                                 a literal stands behind the position, within the text
+--   next-further                                 a literal stands after the position, within the text
 -- Assumes nothing.
 use Prim.Native.Nat.{ℕ, _≤_, _<_}
 use native.Mathlib.Omega.{arith}
@@ -12,7 +12,7 @@ use lib.IntN.{ℤ, pos}
 use lib.ListN.{length, length-drop, drop}
 use Rattle.encoding.specs.Literal.{Literal}
 use Rattle.answer_form.specs.Answer.{Status}
-use Rattle.answer_form.specs.Reading.{Found, Next, nextLiteral, Close}
+use Rattle.answer_form.specs.Pieces.{Found, Next, nextLiteral, Close}
 use Rattle.answer_form.proofs.Passing.{Heard, next-heard}
 use Rattle.answer_reader.specs.declared.Found.{Found as FoundAnswer}
 use Rattle.answer_reader.specs.declared.Found.the-variants.{Satisfiable, Other, Left as FoundLeft}
@@ -92,7 +92,7 @@ next-left (Next.literal l f k) s q = absurd (omega (arith, ap nextKind q))
 next-left (Next.last k) s q = absurd (omega (arith, ap nextKind q))
 next-left (Next.left k) s q = ap Next.left (ap nextEnd q)
 
--- a literal's first byte is not before the position, and the position behind it is within the text
+-- a literal's first byte is not before the position, and the position after it is within the text
 pub next-further : (t : List ℕ) (p : ℕ) (l : Literal) (f j : ℕ) → nextLiteral t p ≡ Next.literal l f j → p ≤ length t → (p ≤ f) × (f < j) × (j ≤ length t)
 next-further t p l f j e h = go (subst (λ (x : Next). Heard 35 p (drop p t) x) e (next-heard t p))
   where

@@ -17,7 +17,7 @@ use borrow.Author.Tests.{eq-eqb, ne-eqb, ltb-false, not-true, not-false}
 use Rattle.encoding.specs.Literal.{Literal, literalNumber}
 use Literal.{var, −_}
 use Rattle.reader_form.specs.Automaton.{digitTest}
-use Rattle.answer_form.specs.Reading.{Next, digitsValue, cappedValue, behindDigits, minusFrom, literalFrom}
+use Rattle.answer_form.specs.Pieces.{Next, digitsValue, cappedValue, behindDigits, minusFrom, literalFrom}
 use Rattle.answer_form.proofs.Digits.{capped-value}
 use Rattle.answer_form.proofs.Turns.{byte-at, capped-turn, capped-stop, behind-turn, behind-stop}
 use Rattle.answer_reader.specs.declared.Next.{Next as NextAnswer}
@@ -59,7 +59,7 @@ kept u = capped-value mostNumber 0 u
 pub number-small : (v : ℕ) (u : List ℕ) → v ≡ cappedValue mostNumber 0 u → v < 2 ^ 31
 number-small v u e = omega (arith, e, kept u)
 
--- ---- behind a minus
+-- ---- after a minus
 
 module _ (t : List ℕ) (i : ℕ) where
   minus-turn : (u w : List ℕ) (b : ℕ) → u ≡ b ∷ w
@@ -98,7 +98,7 @@ module _ (t : List ℕ) (i : ℕ) where
       pub minus-other : d ≡ false → NextLeft i ≡ nextFor (minusFrom i (drop i t))
       minus-other f = sym (ap nextFor (minus-is-other f))
 
--- ---- behind a space
+-- ---- after a space
 
 module _ (t : List ℕ) (i : ℕ) where
   literal-turn : (u w : List ℕ) (b : ℕ) → u ≡ b ∷ w

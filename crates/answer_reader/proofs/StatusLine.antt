@@ -11,7 +11,7 @@ use lib.Dec.{eqb}
 use lib.ListN.{length, length-drop, drop}
 use borrow.Author.Tests.{eq-eqb, ne-eqb}
 use Rattle.answer_form.specs.Answer.{Status, satisfiableText, statusText}
-use Rattle.answer_form.specs.Reading.{Found, common, firstLine, statusFrom, statusOf}
+use Rattle.answer_form.specs.Pieces.{Found, common, firstLine, statusFrom, statusOf}
 use Rattle.answer_reader.specs.declared.Found.the-variants.{Satisfiable, Other, Left as FoundLeft}
 use Rattle.answer_reader.specs.Results.{foundFor}
 

@@ -1,5 +1,5 @@
 -- One turn of each loop of src/lib.rt, and its end. A loop's invariant: what is read of the rest is what is read of the whole.
---   close-goes, close-dies, close-fine, close-short   the bytes behind literal 0
+--   close-goes, close-dies, close-fine, close-short   the bytes after literal 0
 --   first-goes, first-here, first-none                the c lines before the status
 --   common-goes, common-other, common-over, common-all   the bytes in common with a fixed string
 --   space-here                                        the next byte is a space
@@ -16,7 +16,7 @@ use lib.ListN.{length, getD, drop, drop-of-length-le}
 use lib.Seq.{drop-drop}
 use borrow.Author.Tests.{eq-eqb, ne-eqb}
 use Rattle.answer_form.specs.Automaton.{seekStep, endStep}
-use Rattle.answer_form.specs.Reading.{Close, closeFrom, firstLine, common, Next, literalFrom, seekFrom, nextLiteral}
+use Rattle.answer_form.specs.Pieces.{Close, closeFrom, firstLine, common, Next, literalFrom, seekFrom, nextLiteral}
 use Rattle.answer_form.proofs.Turns.{byte-at, close-turn, close-stop, first-turn, first-stop, common-turn, common-stop, common-short}
 use Rattle.answer_reader.specs.declared.Closed.the-variants.{Fine, Left as CloseLeft}
 use Rattle.answer_reader.specs.declared.Next.{Next as NextAnswer}

@@ -1,5 +1,5 @@
 -- The form of the whole answer: literal by literal, and by its status.
---   model-goes            behind a literal the form is what it was before it, and the position is further on
+--   model-goes            after a literal the form is what it was before it, and the position is further on
 --   model-ends, model-breaks    literal 0 and what follows it; the spot where the answer leaves the form
 --   form-satisfiable, form-other, form-left   the form by the status
 --   status-end-within     the status line ends within the answer
@@ -14,11 +14,11 @@ use lib.IntN.{ℤ}
 use lib.ListN.{length, drop}
 use lib.Seq.{drop-drop}
 use Rattle.encoding.specs.Literal.{Literal}
-use Rattle.answer_form.specs.Automaton.{accepts, leaves}
-use Rattle.answer_form.specs.Reading.{Found, statusOf, Next, nextLiteral, Close, closeOf, Reads}
+use Rattle.answer_form.specs.Automaton.{answerAccepts, answerLeaves}
+use Rattle.answer_form.specs.Pieces.{Found, statusOf, Next, nextLiteral, Close, closeOf, Reads}
 use Rattle.answer_form.proofs.Passing.{Passes, Heard, next-heard, Closed}
 use Rattle.answer_form.proofs.StatusLaws.{Told, status-told}
-use Rattle.answer_form.proofs.ReadingLaws.{reads-closed}
+use Rattle.answer_form.proofs.PieceLaws.{reads-closed}
 use Rattle.answer_form.proofs.Whole.{status-within}
 use Rattle.answer_reader.specs.declared.Found.{Found as FoundAnswer}
 use Rattle.answer_reader.specs.declared.Found.the-variants.{Satisfiable, Other, Left as FoundLeft}
@@ -34,11 +34,11 @@ use Rattle.answer_reader.specs.Results.{foundFor, nextFor, closeFor, clo
 
 module _ (t : List ℕ) where
   passed : (q r i n : ℕ) → Passes q (drop i t) r n → (e : ℕ)
-      → cond (accepts q (drop i t)) (Model e) (Malformed (i + leaves q (drop i t)))
-      ≡ cond (accepts r (drop (i + n) t)) (Model e) (Malformed (i + n + leaves r (drop (i + n) t)))
+      → cond (answerAccepts q (drop i t)) (Model e) (Malformed (i + answerLeaves q (drop i t)))
+      ≡ cond (answerAccepts r (drop (i + n) t)) (Model e) (Malformed (i + n + answerLeaves r (drop (i + n) t)))
   passed q r i n w e =
-      ap₂ (λ (x : Bool) (y : ℕ). cond x (Model e) (Malformed y)) (w .accept ∙ ap (accepts r) (drop-drop n i t))
-      (ap (λ (k : ℕ). i + k) (w .leave ∙ ap (λ (u : List ℕ). n + leaves r u) (drop-drop n i t)) ∙ sym (add-assoc i n (leaves r (drop (i + n) t))))
+      ap₂ (λ (x : Bool) (y : ℕ). cond x (Model e) (Malformed y)) (w .accept ∙ ap (answerAccepts r) (drop-drop n i t))
+      (ap (λ (k : ℕ). i + k) (w .leave ∙ ap (λ (u : List ℕ). n + answerLeaves r u) (drop-drop n i t)) ∙ sym (add-assoc i n (answerLeaves r (drop (i + n) t))))
 
   module _ (e p : ℕ) where
     model-same : (l : Literal) (f j : ℕ) → nextLiteral t p ≡ Next.literal l f j → modelFrom e j t ≡ modelFrom e p t

@@ -1,8 +1,8 @@
--- What the code answers, from the definitions of the crate answers.
+-- What the code answers, from the definitions of the crate answer_form.
 --   mostNumber        the largest magnitude of a literal that is handed out
 --   capped l          l as a signed number, of no larger magnitude
 --   foundFor, nextFor, closeFor   the answers about the status, the next literal and the end
---   spaceFrom q i t   the index behind the next space of t, whose first byte has index i, from state q on; or the spot
+--   spaceFrom q i t   the index after the next space of t, whose first byte has index i, from state q on; or the spot
 --   spaceThen t x     the next literal of t, by that
 --   noComment, commentState       before the status: byte b begins a line that is no c line; the state after byte b otherwise
 --   closedForm e c    the form of an answer whose literals begin at e, by what follows literal 0
@@ -18,8 +18,8 @@ use lib.IntN.{ℤ}
 use lib.ListN.{drop}
 use Rattle.encoding.specs.Literal.{Literal, literalNumber}
 use Literal.{var, −_}
-use Rattle.answer_form.specs.Automaton.{seekStep, accepts, leaves}
-use Rattle.answer_form.specs.Reading.{Found, Next, Close, statusOf, literalFrom}
+use Rattle.answer_form.specs.Automaton.{seekStep, answerAccepts, answerLeaves}
+use Rattle.answer_form.specs.Pieces.{Found, Next, Close, statusOf, literalFrom}
 use Rattle.answer_reader.specs.declared.Space.{Space}
 use Rattle.answer_reader.specs.declared.Space.the-variants.{Behind, Left as SpaceLeft}
 use Rattle.answer_reader.specs.declared.Found.{Found as FoundAnswer}
@@ -73,10 +73,10 @@ closedForm e Fine = Model e
 closedForm e (CloseLeft s) = Malformed s
 
 unfoldable pub modelFrom : ℕ → ℕ → List ℕ → Formed
-modelFrom e p t = cond (accepts 35 (drop p t)) (Model e) (Malformed (p + leaves 35 (drop p t)))
+modelFrom e p t = cond (answerAccepts 35 (drop p t)) (Model e) (Malformed (p + answerLeaves 35 (drop p t)))
 
 abbrev pub formFor : List ℕ → Found → Formed
-formFor t (Found.satisfiable e) = cond (accepts 0 t) (Model e) (Malformed (leaves 0 t))
+formFor t (Found.satisfiable e) = cond (answerAccepts 0 t) (Model e) (Malformed (answerLeaves 0 t))
 formFor t (Found.other s) = NoModel
 formFor t (Found.left s) = Malformed s
 

@@ -1,5 +1,5 @@
 // A solver answer, read byte by byte: its status, its literals one after the other, and what follows literal 0
-// (document 01, "Solver answer"). The definitions are those of the crate answers; states are those of its automaton.
+// (document 01, "Solver answer"). The definitions are those of the crate answer_form; states are those of its automaton.
 use clause_literals::negate;
 use reader_form::is_digit;
 ghost use Prim.Native.Nat.{_+_, _*_, _-_, _^_, _≤_, _<_, min, max};
@@ -7,7 +7,7 @@ ghost use mathlib.Core.Path.{_≡_};
 ghost use lib.ListN.{length, drop};
 ghost use Rattle.encoding.specs.Literal.{literalNumber, var, −_};
 ghost use Rattle.answer_form.specs.Automaton.{seekStep, endStep};
-ghost use Rattle.answer_form.specs.Reading.{common, firstLine, statusOf, cappedValue, behindDigits, minusFrom, literalFrom, nextLiteral, closeOf};
+ghost use Rattle.answer_form.specs.Pieces.{common, firstLine, statusOf, cappedValue, behindDigits, minusFrom, literalFrom, nextLiteral, closeOf};
 ghost use Rattle.answer_reader.specs.Results.{mostNumber, noComment, commentState, foundFor, spaceFrom, nextFor, closeFor, closedForm};
 
 // Which status, and the index of the byte 10 that ends its line; or the spot where the answer leaves the form.
@@ -17,7 +17,7 @@ pub enum Found {
     Left(usize),
 }
 
-// A literal, capped, with the index of its first byte and the position behind it; literal 0 and the index behind it; or the spot.
+// A literal, capped, with the index of its first byte and the position after it; literal 0 and the index after it; or the spot.
 pub enum Next {
     Literal(i32, usize, usize),
     Last(usize),
@@ -39,7 +39,7 @@ pub enum Formed {
 
 // ---- after literal 0
 
-// The state after byte b: behind literal 0, at a line's start or in a c line.
+// The state after byte b: after literal 0, at a line's start or in a c line.
 fn end_step(q: u8, b: u8) -> u8
     ensures { λ r. ⌜ r ≡ endStep q b ⌝ }
 {
@@ -174,7 +174,7 @@ pub fn status(answer: &[u8]) -> Found
 
 // ---- literals
 
-// Variable v as a literal.
+// Variable v as a positive literal.
 fn positive(v: u32) -> i32
     requires { ⌜ v < 2 ^ 31 ⌝ }
     ensures { λ r. ⌜ r ≡ literalNumber (var v) ⌝ }
@@ -182,7 +182,7 @@ fn positive(v: u32) -> i32
     v as i32
 }
 
-// Its negation.
+// The negation of variable v as a literal.
 fn negative(v: u32) -> i32
     requires { ⌜ v < 2 ^ 31 ⌝ }
     ensures { λ r. ⌜ r ≡ literalNumber (− v) ⌝ }
@@ -202,7 +202,7 @@ fn with_digit(v: u32, b: u8) -> u32
     2147483647
 }
 
-// A number, capped, and the index behind its digits.
+// A number, capped, and the index after its digits.
 struct Number {
     value: u32,
     behind: usize,
@@ -250,7 +250,7 @@ fn minus_at(answer: &[u8], at: usize) -> Next
     Next::Left(at)
 }
 
-// The literal behind a space.
+// The literal after a space.
 fn literal_at(answer: &[u8], at: usize) -> Next
     ensures { λ r. ⌜ r ≡ nextFor (literalFrom at (drop at (now (answer .entry)))) ⌝ }
 {
@@ -271,7 +271,7 @@ fn literal_at(answer: &[u8], at: usize) -> Next
     Next::Left(at)
 }
 
-// The state after byte b between literals: at a line's start, in a c line, or behind v or a literal.
+// The state after byte b between literals: at a line's start, in a c line, or after v or a literal.
 fn seek_step(q: u8, b: u8) -> u8
     ensures { λ r. ⌜ r ≡ seekStep q b ⌝ }
 {
@@ -299,7 +299,7 @@ fn seek_step(q: u8, b: u8) -> u8
     43
 }
 
-// The index behind the next space; or the spot.
+// The index after the next space; or the spot.
 enum Space {
     Behind(usize),
     Left(usize),

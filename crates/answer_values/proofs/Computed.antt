@@ -11,8 +11,8 @@ use mathlib.Core.List.{List, [], _∷_, map}
 use Rattle.lists.specs.Ascii.{ascii}
 use Rattle.reader_form.specs.Automaton.{digitTest}
 use Rattle.answer_form.specs.Automaton.{seekStep}
-use Rattle.answer_form.specs.Reading.{digitsValue, behindDigits, minusFrom, literalFrom, seekFrom, nextLiteral}
-use Rattle.answer_values.specs.Assign.{literalsWithin, literalsFrom, Outcome, unnamedCount, putOutcome, putBytes, assignedOf, assignedBytes, unsetCount, completed, filledWith}
+use Rattle.answer_form.specs.Pieces.{digitsValue, behindDigits, minusFrom, literalFrom, seekFrom, nextLiteral}
+use Rattle.answer_values.specs.Assign.{literalsWithin, literalsFrom, Outcome, unnamedCount, putOutcome, putBytes, assignedOf, assignedBytes, unsetCount, completed, overwritten}
 
 -- "s SATISFIABLE" has 13 bytes
 abbrev samples : List (List ℕ)
@@ -21,17 +21,17 @@ samples =
     ∷ "s SATISFIABLE\nv 1 2 2 4 0\n" ∷ "s SATISFIABLE\nv 2\nc x\nv -99999999999 2 0\n" ∷ "s SATISFIABLE\nv 0\n" ∷ [])
 
 abbrev start : List ℕ
-start = filledWith 3 2 (7 ∷ 7 ∷ 7 ∷ 8 ∷ 9 ∷ [])
+start = overwritten 3 2 (7 ∷ 7 ∷ 7 ∷ 8 ∷ 9 ∷ [])
 
 pub outcomes-read : map (λ t. assignedOf 3 (literalsFrom t 13) start) samples
     ≡ Outcome.done ∷ Outcome.done ∷ Outcome.repeated 18 ∷ Outcome.stray 18 ∷ Outcome.repeated 20 ∷ Outcome.stray 24 ∷ Outcome.done ∷ []
-unfolding ascii digitTest seekStep digitsValue behindDigits minusFrom literalFrom seekFrom nextLiteral literalsWithin literalsFrom putOutcome putBytes filledWith
+unfolding ascii digitTest seekStep digitsValue behindDigits minusFrom literalFrom seekFrom nextLiteral literalsWithin literalsFrom putOutcome putBytes overwritten
 outcomes-read = refl
 
 pub bytes-read : map (λ t. assignedBytes 3 (literalsFrom t 13) start) samples
     ≡ (1 ∷ 0 ∷ 1 ∷ 8 ∷ 9 ∷ []) ∷ (2 ∷ 0 ∷ 2 ∷ 8 ∷ 9 ∷ []) ∷ (1 ∷ 2 ∷ 2 ∷ 8 ∷ 9 ∷ []) ∷ (1 ∷ 2 ∷ 2 ∷ 8 ∷ 9 ∷ []) ∷ (1 ∷ 1 ∷ 2 ∷ 8 ∷ 9 ∷ [])
     ∷ (2 ∷ 1 ∷ 2 ∷ 8 ∷ 9 ∷ []) ∷ (2 ∷ 2 ∷ 2 ∷ 8 ∷ 9 ∷ []) ∷ []
-unfolding ascii digitTest seekStep digitsValue behindDigits minusFrom literalFrom seekFrom nextLiteral literalsWithin literalsFrom putOutcome putBytes filledWith
+unfolding ascii digitTest seekStep digitsValue behindDigits minusFrom literalFrom seekFrom nextLiteral literalsWithin literalsFrom putOutcome putBytes overwritten
 bytes-read = refl
 
 pub counts-read : map (λ t. unnamedCount 3 (literalsFrom t 13)) samples ≡ 0 ∷ 2 ∷ 2 ∷ 2 ∷ 1 ∷ 2 ∷ 3 ∷ []

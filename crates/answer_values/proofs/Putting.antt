@@ -22,7 +22,7 @@ use Rattle.clause_literals.specs.Signed.{isNegative}
 use Rattle.clause_literals.proofs.Signed.{abs-negated}
 use Rattle.answer_reader.specs.Results.{mostNumber, capped}
 use Rattle.answer_values.specs.declared.Assigned.the-variants.{Done, Stray, Repeated}
-use Rattle.answer_values.specs.Assign.{valueOf, Outcome, putOutcome, putBytes, numberValue, assignedFor}
+use Rattle.answer_values.specs.Assign.{literalValue, Outcome, putOutcome, putBytes, numberValue, assignedFor}
 
 -- ---- by its number
 
@@ -78,7 +78,7 @@ capped-positive l h = omega (arith, capped-abs l, h)
 pub capped-small : (l : Literal) → natAbs (capped l) < 2 ^ 31
 capped-small l = omega (arith, capped-abs l)
 
-capped-value : (l : Literal) → 0 < variable l → numberValue (capped l) ≡ valueOf l
+capped-value : (l : Literal) → 0 < variable l → numberValue (capped l) ≡ literalValue l
 capped-value (var v) h = refl
 capped-value (− v) h = go (min mostNumber v) (omega (arith, h))
   where
@@ -102,9 +102,9 @@ module _ (n s : ℕ) (b : List ℕ) (l : Literal) (small : n ≤ 9890) where
       (λ (h : mostNumber < variable l). far (min mostNumber (variable l)) (omega (arith, h, small)) ∙ sym (far (variable l) (omega (arith, h, small))))
       (le-or-lt (variable l) mostNumber)
 
-  pub capped-bytes : 0 < variable l → putBytes n (natAbs (capped l)) (numberValue (capped l)) b ≡ putBytes n (variable l) (valueOf l) b
+  pub capped-bytes : 0 < variable l → putBytes n (natAbs (capped l)) (numberValue (capped l)) b ≡ putBytes n (variable l) (literalValue l) b
   capped-bytes p =
       ap₂ (λ (v x : ℕ). putBytes n v x b) (capped-abs l) (capped-value l p)
-      ∙ ⊎-elim (λ (h : variable l ≤ mostNumber). ap (λ (v : ℕ). putBytes n v (valueOf l) b) (omega (arith, h)))
-      (λ (h : mostNumber < variable l). kept (min mostNumber (variable l)) (valueOf l) (omega (arith, h, small)) ∙ sym (kept (variable l) (valueOf l) (omega (arith, h, small))))
+      ∙ ⊎-elim (λ (h : variable l ≤ mostNumber). ap (λ (v : ℕ). putBytes n v (literalValue l) b) (omega (arith, h)))
+      (λ (h : mostNumber < variable l). kept (min mostNumber (variable l)) (literalValue l) (omega (arith, h, small)) ∙ sym (kept (variable l) (literalValue l) (omega (arith, h, small))))
       (le-or-lt (variable l) mostNumber)

@@ -1,5 +1,5 @@
 -- One pass over an answer: after each literal the answer so far, and the buffer.
---   next-stays, next-put         what `put_next` answers where an earlier literal was not assigned, and where each was
+--   next-stays, next-put         what `put_next_value` answers where an earlier literal was not assigned, and where each was
 --   pass-goes, pass-ends         one literal more; no more literals
 --   assumed-model                how many variables are read as false, where a model is offered and each literal is assigned
 --   read-model, read-other, read-left   the outcome and the buffer by the status
@@ -11,8 +11,8 @@ use mathlib.Core.Path.{_≡_, refl, sym, _∙_, ap, ap₂}
 use mathlib.Core.Bool.{Bool, true, false, cond}
 use mathlib.Core.List.{List, []}
 use lib.IntN.{ℤ, natAbs}
-use Rattle.answer_form.specs.Automaton.{accepts, leaves}
-use Rattle.answer_form.specs.Reading.{Found, statusOf, Spotted}
+use Rattle.answer_form.specs.Automaton.{answerAccepts, answerLeaves}
+use Rattle.answer_form.specs.Pieces.{Found, statusOf, Spotted}
 use Rattle.answer_reader.specs.declared.Found.{Found as FoundAnswer}
 use Rattle.answer_reader.specs.declared.Found.the-variants.{Satisfiable, Other, Left as FoundLeft}
 use Rattle.answer_reader.specs.declared.Formed.{Formed}
@@ -127,9 +127,9 @@ formStart (Malformed s) = s
 module _ (t : List ℕ) (e : ℕ) where
   status-is : (x : Found) → formFor t x ≡ Model e → x ≡ Found.satisfiable e
   unfolding formKind formStart
-  status-is (Found.satisfiable k) q = go (accepts 0 t) q
+  status-is (Found.satisfiable k) q = go (answerAccepts 0 t) q
     where
-      go : (d : Bool) → cond d (Model k) (Malformed (leaves 0 t)) ≡ Model e → Found.satisfiable k ≡ Found.satisfiable e
+      go : (d : Bool) → cond d (Model k) (Malformed (answerLeaves 0 t)) ≡ Model e → Found.satisfiable k ≡ Found.satisfiable e
       go true q = ap Found.satisfiable (ap formStart q)
       go false q = absurd (omega (arith, ap formKind q))
   status-is (Found.other s) q = absurd (omega (arith, ap formKind q))

@@ -30,8 +30,8 @@ use Rattle.lists.proofs.Tests.{le-or-lt, any-at, any-in}
 use Rattle.lists.proofs.Tables.{sum-ext}
 use Rattle.lists.proofs.Counting.{others}
 use Rattle.encoding.specs.Literal.{variable}
-use Rattle.answer_form.specs.Reading.{Next, nextLiteral, Spotted}
-use Rattle.answer_values.specs.Assign.{literalThen, literalsWithin, literalsFrom, valueOf, nobody, literalAt, variableAt, spotAt, Unnamed, Named, isNamed, unnamedCount, Outcome, assignedOf, assignedBytes, unsetCount, filledWith}
+use Rattle.answer_form.specs.Pieces.{Next, nextLiteral, Spotted}
+use Rattle.answer_values.specs.Assign.{literalThen, literalsWithin, literalsFrom, literalValue, nobody, literalAt, variableAt, spotAt, Unnamed, Named, isNamed, unnamedCount, Outcome, assignedOf, assignedBytes, unsetCount, overwritten}
 use Rattle.answer_values.proofs.Taking.{ahead}
 use Rattle.answer_values.specs.Rows.{Old, Fit, AllFit, StrayAt, RepeatedAt}
 use Rattle.answer_values.proofs.Steps.{AllNamed, State, Says, says, value-not-two, byte-kept, byte-given, rest-kept}
@@ -97,26 +97,26 @@ module _ (n : ℕ) (xs : List Spotted) where
 none : ℕ → Bool
 none v = false
 
-filled-byte : (n : ℕ) (b : List ℕ) (v : ℕ) → 0 < v → v ≤ n → getD (filledWith n 2 b) (v - 1) 0 ≡ 2
-unfolding filledWith
+filled-byte : (n : ℕ) (b : List ℕ) (v : ℕ) → 0 < v → v ≤ n → getD (overwritten n 2 b) (v - 1) 0 ≡ 2
+unfolding overwritten
 filled-byte n b v p h =
     let i : v - 1 < n = omega (arith, p, h) in
     List·getD-append (replicate n 2) (drop n b) 0 (v - 1) (subst (λ (k : ℕ). v - 1 < k) (sym (length-replicate n 2)) i) ∙ getD-replicate n (v - 1) 2 0 i
 
-filled-length : (n : ℕ) (b : List ℕ) → n ≤ length (filledWith n 2 b)
-unfolding filledWith
+filled-length : (n : ℕ) (b : List ℕ) → n ≤ length (overwritten n 2 b)
+unfolding overwritten
 filled-length n b = omega (arith, length-append (replicate n 2) (drop n b), length-replicate {A = ℕ} n 2)
 
-no-values : (n : ℕ) (b : List ℕ) → State n none (filledWith n 2 b)
+no-values : (n : ℕ) (b : List ℕ) → State n none (overwritten n 2 b)
 unfolding none
 no-values n b = record { room = filled-length n b; unseen = λ v p h e. filled-byte n b v p h; taken = λ v p h e q. false≢true e }
 
 -- ---- the outcome
 
 module _ (n : ℕ) (xs : List Spotted) (b : List ℕ) (named : AllNamed xs) where
-  pub meant : Meant n xs (assignedOf n xs (filledWith n 2 b))
+  pub meant : Meant n xs (assignedOf n xs (overwritten n 2 b))
   unfolding none
-  meant = go (assignedOf n xs (filledWith n 2 b)) (says n xs none (filledWith n 2 b) (no-values n b) named)
+  meant = go (assignedOf n xs (overwritten n 2 b)) (says n xs none (overwritten n 2 b) (no-values n b) named)
     where
       old : (k : ℕ) → (none (variableAt xs k) ≡ true) ⊎ Old xs k → Old xs k
       old k (inl e) = absurd (false≢true e)
@@ -129,53 +129,53 @@ module _ (n : ℕ) (xs : List Spotted) (b : List ℕ) (named : AllNamed xs) wher
       go o (Says.a-repeated k h a e f) =
           Meant.repeated-at (spotAt xs k) (record { place = k; inside = h; spot = refl; within = a; again = old k e; before = λ j q. let g = f j q in (g .0, g .2) })
 
-  meant-as : (o : Outcome) → assignedOf n xs (filledWith n 2 b) ≡ o → Meant n xs o
+  meant-as : (o : Outcome) → assignedOf n xs (overwritten n 2 b) ≡ o → Meant n xs o
   meant-as o e = subst (Meant n xs) e meant
 
-  pub assigned-stray : (s : ℕ) → assignedOf n xs (filledWith n 2 b) ≡ Outcome.stray s → StrayAt n xs s
+  pub assigned-stray : (s : ℕ) → assignedOf n xs (overwritten n 2 b) ≡ Outcome.stray s → StrayAt n xs s
   assigned-stray s e = go (meant-as (Outcome.stray s) e)
     where
       go : Meant n xs (Outcome.stray s) → StrayAt n xs s
       go (Meant.stray-at r m) = m
 
-  pub stray-assigned : (s : ℕ) → StrayAt n xs s → assignedOf n xs (filledWith n 2 b) ≡ Outcome.stray s
-  stray-assigned s m = meant-unique n xs (assignedOf n xs (filledWith n 2 b)) (Outcome.stray s) meant (Meant.stray-at s m)
+  pub stray-assigned : (s : ℕ) → StrayAt n xs s → assignedOf n xs (overwritten n 2 b) ≡ Outcome.stray s
+  stray-assigned s m = meant-unique n xs (assignedOf n xs (overwritten n 2 b)) (Outcome.stray s) meant (Meant.stray-at s m)
 
-  pub assigned-repeated : (s : ℕ) → assignedOf n xs (filledWith n 2 b) ≡ Outcome.repeated s → RepeatedAt n xs s
+  pub assigned-repeated : (s : ℕ) → assignedOf n xs (overwritten n 2 b) ≡ Outcome.repeated s → RepeatedAt n xs s
   assigned-repeated s e = go (meant-as (Outcome.repeated s) e)
     where
       go : Meant n xs (Outcome.repeated s) → RepeatedAt n xs s
       go (Meant.repeated-at r m) = m
 
-  pub repeated-assigned : (s : ℕ) → RepeatedAt n xs s → assignedOf n xs (filledWith n 2 b) ≡ Outcome.repeated s
-  repeated-assigned s m = meant-unique n xs (assignedOf n xs (filledWith n 2 b)) (Outcome.repeated s) meant (Meant.repeated-at s m)
+  pub repeated-assigned : (s : ℕ) → RepeatedAt n xs s → assignedOf n xs (overwritten n 2 b) ≡ Outcome.repeated s
+  repeated-assigned s m = meant-unique n xs (assignedOf n xs (overwritten n 2 b)) (Outcome.repeated s) meant (Meant.repeated-at s m)
 
-  pub assigned-done : assignedOf n xs (filledWith n 2 b) ≡ Outcome.done → AllFit n xs
+  pub assigned-done : assignedOf n xs (overwritten n 2 b) ≡ Outcome.done → AllFit n xs
   assigned-done e = go (meant-as Outcome.done e)
     where
       go : Meant n xs Outcome.done → AllFit n xs
       go (Meant.all-fit f) = f
 
-  pub done-assigned : AllFit n xs → assignedOf n xs (filledWith n 2 b) ≡ Outcome.done
-  done-assigned f = meant-unique n xs (assignedOf n xs (filledWith n 2 b)) Outcome.done meant (Meant.all-fit f)
+  pub done-assigned : AllFit n xs → assignedOf n xs (overwritten n 2 b) ≡ Outcome.done
+  done-assigned f = meant-unique n xs (assignedOf n xs (overwritten n 2 b)) Outcome.done meant (Meant.all-fit f)
 
   -- ---- the buffer
 
-  pub unnamed-value : (v : ℕ) → 0 < v → v ≤ n → Unnamed xs v → getD (assignedBytes n xs (filledWith n 2 b)) (v - 1) 0 ≡ 2
-  unnamed-value v p h u = byte-kept n xs (filledWith n 2 b) v named p u ∙ filled-byte n b v p h
+  pub unnamed-value : (v : ℕ) → 0 < v → v ≤ n → Unnamed xs v → getD (assignedBytes n xs (overwritten n 2 b)) (v - 1) 0 ≡ 2
+  unnamed-value v p h u = byte-kept n xs (overwritten n 2 b) v named p u ∙ filled-byte n b v p h
 
-  pub named-value : AllFit n xs → (k : ℕ) → k < length xs → getD (assignedBytes n xs (filledWith n 2 b)) (variableAt xs k - 1) 0 ≡ valueOf (literalAt xs k)
-  named-value f = byte-given n xs (filledWith n 2 b) (filled-length n b) named (done-assigned f) (λ j h. f j h .1)
+  pub named-value : AllFit n xs → (k : ℕ) → k < length xs → getD (assignedBytes n xs (overwritten n 2 b)) (variableAt xs k - 1) 0 ≡ literalValue (literalAt xs k)
+  named-value f = byte-given n xs (overwritten n 2 b) (filled-length n b) named (done-assigned f) (λ j h. f j h .1)
 
   -- filling anew leaves nothing of what was assigned, and the bytes from n on as they were
-  pub refilled : (x : ℕ) → filledWith n x (assignedBytes n xs (filledWith n 2 b)) ≡ filledWith n x b
-  unfolding filledWith
+  pub refilled : (x : ℕ) → overwritten n x (assignedBytes n xs (overwritten n 2 b)) ≡ overwritten n x b
+  unfolding overwritten
   refilled x =
       ap (λ (u : List ℕ). replicate n x ++ u)
       (rest-kept n xs (replicate n 2 ++ drop n b) named .0 ∙ drop-at (replicate n 2) (drop n b) n (length-replicate n 2))
 
-  pub assigned-length : n ≤ length b → length (assignedBytes n xs (filledWith n 2 b)) ≡ length b
-  unfolding filledWith
+  pub assigned-length : n ≤ length b → length (assignedBytes n xs (overwritten n 2 b)) ≡ length b
+  unfolding overwritten
   assigned-length h =
       rest-kept n xs (replicate n 2 ++ drop n b) named .1
       ∙ omega (arith, h, length-append (replicate n 2) (drop n b), length-replicate {A = ℕ} n 2, length-drop n b)
@@ -202,12 +202,12 @@ not-named xs v u =
     (λ e. let w = any-at (λ (x : Spotted). eqb (variable (x .literal)) v) xs nobody e in u (w .0) (w .1) (eqb-true (variableAt xs (w .0)) v (w .2)))
 
 module _ (n : ℕ) (xs : List Spotted) (named : AllNamed xs) (fit : AllFit n xs) where
-  pub unset-unnamed : (b : List ℕ) → unsetCount n (assignedBytes n xs (filledWith n 2 b)) ≡ unnamedCount n xs
+  pub unset-unnamed : (b : List ℕ) → unsetCount n (assignedBytes n xs (overwritten n 2 b)) ≡ unnamedCount n xs
   unfolding unsetCount unnamedCount
   unset-unnamed b = sum-ext n _ _ (λ i h. one (suc i) (omega arith) h)
     where
       after : List ℕ
-      after = assignedBytes n xs (filledWith n 2 b)
+      after = assignedBytes n xs (overwritten n 2 b)
 
       one : (v : ℕ) → 0 < v → v ≤ n → _≡_ {A = ℕ} (cond (eqb (getD after (v - 1) 0) 2) 1 0) (cond (isNamed xs v) 0 1)
       one v p h =
@@ -218,7 +218,7 @@ module _ (n : ℕ) (xs : List Spotted) (named : AllNamed xs) (fit : AllFit n xs)
           ap (λ (d : Bool). cond d 1 0) (eq-eqb (getD after (v - 1) 0) 2 (unnamed-value n xs b named v p h u))
           ∙ sym (ap (λ (d : Bool). cond d 0 1) (not-named xs v u))) (named-or-not xs v)
         where
-          given : (m : Named xs v) → valueOf (literalAt xs (m .0)) ≡ getD after (v - 1) 0
+          given : (m : Named xs v) → literalValue (literalAt xs (m .0)) ≡ getD after (v - 1) 0
           given m = sym (named-value n xs b named fit (m .0) (m .1)) ∙ ap (λ (u : ℕ). getD after (u - 1) 0) (m .2)
 
   pub unnamed-rest : unnamedCount n xs + length xs ≡ n

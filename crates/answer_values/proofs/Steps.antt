@@ -22,8 +22,8 @@ use lib.Seq.{getD-set-same, getD-set-other, drop-set-lt}
 use borrow.Author.Tests.{eqb-true, eqb-false, ltb-true, ltb-false}
 use Rattle.encoding.specs.Literal.{Literal, variable}
 use Literal.{var, −_}
-use Rattle.answer_form.specs.Reading.{Spotted}
-use Rattle.answer_values.specs.Assign.{valueOf, literalAt, variableAt, spotAt, Unnamed, Outcome, putOutcome, putBytes, thenOutcome, thenBytes, assignedOf, assignedBytes}
+use Rattle.answer_form.specs.Pieces.{Spotted}
+use Rattle.answer_values.specs.Assign.{literalValue, literalAt, variableAt, spotAt, Unnamed, Outcome, putOutcome, putBytes, thenOutcome, thenBytes, assignedOf, assignedBytes}
 use Rattle.answer_values.specs.Rows.{New, Old}
 
 -- ---- places
@@ -61,7 +61,7 @@ put-cases n v s x b = go (ltb n v) refl (eqb (getD b (v - 1) 0) 2) refl
     go false e true f = Put.is-done (ltb-false n v e) (eqb-true (getD b (v - 1) 0) 2 f) (rw (e, f)) (rw (e, f))
     go false e false f = Put.is-repeated (ltb-false n v e) (eqb-false (getD b (v - 1) 0) 2 f) (rw (e, f)) (rw (e, f))
 
-pub value-not-two : (l : Literal) → valueOf l ≡ 2 → ⊥
+pub value-not-two : (l : Literal) → literalValue l ≡ 2 → ⊥
 value-not-two (var v) e = omega (arith, e)
 value-not-two (− v) e = omega (arith, e)
 
@@ -138,7 +138,7 @@ says n (x ∷ xs) seen b st nm =
     v = variable (x .literal)
 
     w : ℕ
-    w = valueOf (x .literal)
+    w = literalValue (x .literal)
 
     positive : 0 < v
     positive = nm 0 (omega arith)
@@ -173,19 +173,19 @@ says n (x ∷ xs) seen b st nm =
 pub byte-kept : (n : ℕ) (xs : List Spotted) (b : List ℕ) (u : ℕ) → AllNamed xs → 0 < u → Unnamed xs u → getD (assignedBytes n xs b) (u - 1) 0 ≡ getD b (u - 1) 0
 byte-kept n [] b u nm p f = refl
 byte-kept n (x ∷ xs) b u nm p f =
-    go (put-cases n (variable (x .literal)) (x .first) (valueOf (x .literal)) b)
-    (byte-kept n xs (putBytes n (variable (x .literal)) (valueOf (x .literal)) b) u (λ k q. nm (suc k) (omega (arith, q))) p (λ k q. f (suc k) (omega (arith, q))))
+    go (put-cases n (variable (x .literal)) (x .first) (literalValue (x .literal)) b)
+    (byte-kept n xs (putBytes n (variable (x .literal)) (literalValue (x .literal)) b) u (λ k q. nm (suc k) (omega (arith, q))) p (λ k q. f (suc k) (omega (arith, q))))
   where
     b′ : List ℕ
-    b′ = putBytes n (variable (x .literal)) (valueOf (x .literal)) b
+    b′ = putBytes n (variable (x .literal)) (literalValue (x .literal)) b
 
-    go : Put n (variable (x .literal)) (x .first) (valueOf (x .literal)) b → getD (assignedBytes n xs b′) (u - 1) 0 ≡ getD b′ (u - 1) 0
+    go : Put n (variable (x .literal)) (x .first) (literalValue (x .literal)) b → getD (assignedBytes n xs b′) (u - 1) 0 ≡ getD b′ (u - 1) 0
         → getD (assignedBytes n (x ∷ xs) b) (u - 1) 0 ≡ getD b (u - 1) 0
     go (Put.is-stray h o c) r = ap (λ (q : Outcome). getD (thenBytes q (assignedBytes n xs b′) b) (u - 1) 0) o
     go (Put.is-repeated h e o c) r = ap (λ (q : Outcome). getD (thenBytes q (assignedBytes n xs b′) b) (u - 1) 0) o
     go (Put.is-done h e o c) r =
         ap (λ (q : Outcome). getD (thenBytes q (assignedBytes n xs b′) b) (u - 1) 0) o ∙ r ∙ ap (λ (d : List ℕ). getD d (u - 1) 0) c
-        ∙ other-byte b (variable (x .literal)) u (valueOf (x .literal)) (nm 0 (omega arith)) p (f 0 (omega arith))
+        ∙ other-byte b (variable (x .literal)) u (literalValue (x .literal)) (nm 0 (omega arith)) p (f 0 (omega arith))
 
 outcomeKind : Outcome → ℕ
 outcomeKind Outcome.done = 0
@@ -193,14 +193,14 @@ outcomeKind (Outcome.stray s) = 1
 outcomeKind (Outcome.repeated s) = 2
 
 pub byte-given : (n : ℕ) (xs : List Spotted) (b : List ℕ) → n ≤ length b → AllNamed xs → assignedOf n xs b ≡ Outcome.done → ((j : ℕ) → j < length xs → New xs j)
-    → (k : ℕ) → k < length xs → getD (assignedBytes n xs b) (variableAt xs k - 1) 0 ≡ valueOf (literalAt xs k)
+    → (k : ℕ) → k < length xs → getD (assignedBytes n xs b) (variableAt xs k - 1) 0 ≡ literalValue (literalAt xs k)
 unfolding outcomeKind
 byte-given n [] b m nm d f k h = absurd (omega (arith, h))
 byte-given n (x ∷ xs) b m nm d f k h =
-    go (put-cases n (variable (x .literal)) (x .first) (valueOf (x .literal)) b) (byte-given n xs (putBytes n (variable (x .literal)) (valueOf (x .literal)) b)) k h
+    go (put-cases n (variable (x .literal)) (x .first) (literalValue (x .literal)) b) (byte-given n xs (putBytes n (variable (x .literal)) (literalValue (x .literal)) b)) k h
   where
     b′ : List ℕ
-    b′ = putBytes n (variable (x .literal)) (valueOf (x .literal)) b
+    b′ = putBytes n (variable (x .literal)) (literalValue (x .literal)) b
 
     named : AllNamed xs
     named j q = nm (suc j) (omega (arith, q))
@@ -208,39 +208,39 @@ byte-given n (x ∷ xs) b m nm d f k h =
     kind : (o : Outcome) → putOutcome n (variable (x .literal)) (x .first) b ≡ o → thenOutcome o (assignedOf n xs b′) ≡ Outcome.done
     kind o e = ap (λ (q : Outcome). thenOutcome q (assignedOf n xs b′)) (sym e) ∙ d
 
-    go : Put n (variable (x .literal)) (x .first) (valueOf (x .literal)) b
+    go : Put n (variable (x .literal)) (x .first) (literalValue (x .literal)) b
         → (n ≤ length b′ → AllNamed xs → assignedOf n xs b′ ≡ Outcome.done → ((j : ℕ) → j < length xs → New xs j) → (k : ℕ) → k < length xs
-        → getD (assignedBytes n xs b′) (variableAt xs k - 1) 0 ≡ valueOf (literalAt xs k))
-        → (k : ℕ) → k < suc (length xs) → getD (assignedBytes n (x ∷ xs) b) (variableAt (x ∷ xs) k - 1) 0 ≡ valueOf (literalAt (x ∷ xs) k)
+        → getD (assignedBytes n xs b′) (variableAt xs k - 1) 0 ≡ literalValue (literalAt xs k))
+        → (k : ℕ) → k < suc (length xs) → getD (assignedBytes n (x ∷ xs) b) (variableAt (x ∷ xs) k - 1) 0 ≡ literalValue (literalAt (x ∷ xs) k)
     go (Put.is-stray g o c) r k h = absurd (omega (arith, ap outcomeKind (kind (Outcome.stray (x .first)) o)))
     go (Put.is-repeated g e o c) r k h = absurd (omega (arith, ap outcomeKind (kind (Outcome.repeated (x .first)) o)))
     go (Put.is-done g e o c) r zero h =
         ap (λ (q : Outcome). getD (thenBytes q (assignedBytes n xs b′) b) (variable (x .literal) - 1) 0) o
         ∙ byte-kept n xs b′ (variable (x .literal)) named (nm 0 (omega arith)) (λ j q s. f (suc j) (omega (arith, q)) 0 (omega arith) (sym s))
         ∙ ap (λ (d : List ℕ). getD d (variable (x .literal) - 1) 0) c
-        ∙ getD-set-same b (variable (x .literal) - 1) (valueOf (x .literal)) 0 (omega (arith, m, g, nm 0 (omega arith)))
+        ∙ getD-set-same b (variable (x .literal) - 1) (literalValue (x .literal)) 0 (omega (arith, m, g, nm 0 (omega arith)))
     go (Put.is-done g e o c) r (suc k) h =
         ap (λ (q : Outcome). getD (thenBytes q (assignedBytes n xs b′) b) (variableAt xs k - 1) 0) o
-        ∙ r (subst (λ (j : ℕ). n ≤ j) (sym (ap (λ (u : List ℕ). length u) c ∙ length-set b (variable (x .literal) - 1) (valueOf (x .literal)))) m) named (kind Outcome.done o)
+        ∙ r (subst (λ (j : ℕ). n ≤ j) (sym (ap (λ (u : List ℕ). length u) c ∙ length-set b (variable (x .literal) - 1) (literalValue (x .literal)))) m) named (kind Outcome.done o)
         (λ j q i s t. f (suc j) (omega (arith, q)) (suc i) (omega (arith, s)) t) k (omega (arith, h))
 
 pub rest-kept : (n : ℕ) (xs : List Spotted) (b : List ℕ) → AllNamed xs → (drop n (assignedBytes n xs b) ≡ drop n b) × (length (assignedBytes n xs b) ≡ length b)
 rest-kept n [] b nm = (refl, refl)
 rest-kept n (x ∷ xs) b nm =
-    go (put-cases n (variable (x .literal)) (x .first) (valueOf (x .literal)) b)
-    (rest-kept n xs (putBytes n (variable (x .literal)) (valueOf (x .literal)) b) (λ k q. nm (suc k) (omega (arith, q))))
+    go (put-cases n (variable (x .literal)) (x .first) (literalValue (x .literal)) b)
+    (rest-kept n xs (putBytes n (variable (x .literal)) (literalValue (x .literal)) b) (λ k q. nm (suc k) (omega (arith, q))))
   where
     b′ : List ℕ
-    b′ = putBytes n (variable (x .literal)) (valueOf (x .literal)) b
+    b′ = putBytes n (variable (x .literal)) (literalValue (x .literal)) b
 
     is : (o : Outcome) → putOutcome n (variable (x .literal)) (x .first) b ≡ o → assignedBytes n (x ∷ xs) b ≡ thenBytes o (assignedBytes n xs b′) b
     is o e = ap (λ (q : Outcome). thenBytes q (assignedBytes n xs b′) b) e
 
-    go : Put n (variable (x .literal)) (x .first) (valueOf (x .literal)) b → (drop n (assignedBytes n xs b′) ≡ drop n b′) × (length (assignedBytes n xs b′) ≡ length b′)
+    go : Put n (variable (x .literal)) (x .first) (literalValue (x .literal)) b → (drop n (assignedBytes n xs b′) ≡ drop n b′) × (length (assignedBytes n xs b′) ≡ length b′)
         → (drop n (assignedBytes n (x ∷ xs) b) ≡ drop n b) × (length (assignedBytes n (x ∷ xs) b) ≡ length b)
     go (Put.is-stray h o c) r = (ap (drop n) (is (Outcome.stray (x .first)) o), ap (λ (u : List ℕ). length u) (is (Outcome.stray (x .first)) o))
     go (Put.is-repeated h e o c) r = (ap (drop n) (is (Outcome.repeated (x .first)) o), ap (λ (u : List ℕ). length u) (is (Outcome.repeated (x .first)) o))
     go (Put.is-done h e o c) r = (
-      ap (drop n) (is Outcome.done o) ∙ r .0 ∙ ap (drop n) c ∙ drop-set-lt n b (variable (x .literal) - 1) (valueOf (x .literal)) (omega (arith, h, nm 0 (omega arith))),
-      ap (λ (u : List ℕ). length u) (is Outcome.done o) ∙ r .1 ∙ ap (λ (u : List ℕ). length u) c ∙ length-set b (variable (x .literal) - 1) (valueOf (x .literal)),
+      ap (drop n) (is Outcome.done o) ∙ r .0 ∙ ap (drop n) c ∙ drop-set-lt n b (variable (x .literal) - 1) (literalValue (x .literal)) (omega (arith, h, nm 0 (omega arith))),
+      ap (λ (u : List ℕ). length u) (is Outcome.done o) ∙ r .1 ∙ ap (λ (u : List ℕ). length u) c ∙ length-set b (variable (x .literal) - 1) (literalValue (x .literal)),
     )

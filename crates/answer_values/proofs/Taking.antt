@@ -1,5 +1,5 @@
 -- The literals of an answer, one after the other.
---   Ahead, ahead                           a literal is of a variable from 1 on and ends behind its position, within the text
+--   Ahead, ahead                           a literal is of a variable from 1 on and ends after its position, within the text
 --   literals-read                          `literalsFrom` gives the literals that are read
 --   Took, next-took, given-took            what it says that the code was given a literal
 --   last-none, left-none                   and that it was given none
@@ -22,15 +22,15 @@ use denote.Enum.Declared.{tagOf}
 use borrow.Author.Tests.{ltb-true}
 use Rattle.encoding.specs.Literal.{Literal, variable}
 use Rattle.clause_literals.proofs.Signed.{abs-fits}
-use Rattle.answer_form.specs.Reading.{Next, nextLiteral, Close, Spotted, Reads}
+use Rattle.answer_form.specs.Pieces.{Next, nextLiteral, Close, Spotted, Reads}
 use Rattle.answer_form.proofs.Passing.{Heard, next-heard}
-use Rattle.answer_form.proofs.ReadingLaws.{reads-total}
+use Rattle.answer_form.proofs.PieceLaws.{reads-total}
 use Rattle.answer_reader.specs.declared.Next.{Next as NextAnswer}
 use Rattle.answer_reader.specs.declared.Next.the-variants.{Literal as NextLiteral, Last, Left as NextLeft}
 use Rattle.answer_reader.specs.Results.{capped, nextFor}
 use Rattle.answer_values.specs.declared.Assigned.{Assigned}
 use Rattle.answer_values.specs.declared.Assigned.the-variants.{Done, Stray, Repeated}
-use Rattle.answer_values.specs.Assign.{literalThen, literalsWithin, literalsFrom, valueOf, Outcome, putOutcome, putBytes, thenOutcome, thenBytes, assignedOf, assignedBytes, numberValue, assignedFor}
+use Rattle.answer_values.specs.Assign.{literalThen, literalsWithin, literalsFrom, literalValue, Outcome, putOutcome, putBytes, thenOutcome, thenBytes, assignedOf, assignedBytes, numberValue, assignedFor}
 use Rattle.answer_values.proofs.Assigned.{the-type}
 use Rattle.answer_values.proofs.Putting.{capped-positive, capped-small, capped-outcome, capped-bytes, put-stops}
 
@@ -82,7 +82,7 @@ bytes-stay (Outcome.stray s) later b h = refl
 bytes-stay (Outcome.repeated s) later b h = refl
 
 module _ (t : List ℕ) where
-  -- a literal stands behind its position, within the text
+  -- a literal stands after its position, within the text
   pub record Ahead (p : ℕ) (l : Literal) (j : ℕ) : Type 0 where
     pub named : 0 < variable l
     pub further : p < j
@@ -181,7 +181,7 @@ module _ (t : List ℕ) where
       outcome-is : o ≡ assignedFor (putOutcome n (variable (w .literal)) f b)
       outcome-is = e ∙ ap assignedFor (ap (λ (z : ℤ). putOutcome n (natAbs z) f b) (w .number) ∙ capped-outcome n f b (w .literal) small)
 
-      bytes-are : c ≡ putBytes n (variable (w .literal)) (valueOf (w .literal)) b
+      bytes-are : c ≡ putBytes n (variable (w .literal)) (literalValue (w .literal)) b
       bytes-are = g ∙ ap (λ (z : ℤ). putBytes n (natAbs z) (numberValue z) b) (w .number) ∙ capped-bytes n f b (w .literal) small (w .place .named)
 
       pub assign-goes : o ≡ Done
@@ -198,5 +198,5 @@ module _ (t : List ℕ) where
           let m = literals-more p (w .literal) f j (w .next) in
           let stays : putOutcome n (variable (w .literal)) f b ≡ Outcome.done → ⊥ = λ q. d (outcome-is ∙ ap assignedFor q) in (
             outcome-is ∙ sym (ap assignedFor (ap (λ (u : List Spotted). assignedOf n u b) m ∙ then-stays _ _ stays)),
-            bytes-are ∙ put-stops n (variable (w .literal)) f (valueOf (w .literal)) b stays ∙ sym (ap (λ (u : List Spotted). assignedBytes n u b) m ∙ bytes-stay _ _ b stays),
+            bytes-are ∙ put-stops n (variable (w .literal)) f (literalValue (w .literal)) b stays ∙ sym (ap (λ (u : List Spotted). assignedBytes n u b) m ∙ bytes-stay _ _ b stays),
           )

@@ -15,7 +15,7 @@ use lib.Dec.{eqb}
 use lib.ListN.{length, getD, set, take, drop, replicate, length-replicate, length-map}
 use lib.Seq.{drop-cons, take-suc, length-take-le, set-at}
 use borrow.Author.Tests.{eq-eqb, ne-eqb}
-use Rattle.answer_values.specs.Assign.{unsetCount, completedByte, completed, filledWith}
+use Rattle.answer_values.specs.Assign.{unsetCount, completedByte, completed, overwritten}
 
 -- ---- filling
 
@@ -23,19 +23,19 @@ one-more : (i x : ℕ) (ys : List ℕ) → replicate i x ++ (x ∷ ys) ≡ x ∷
 one-more zero x ys = refl
 one-more (suc i) x ys = ap (λ (zs : List ℕ). x ∷ zs) (one-more i x ys)
 
-pub fill-none : (b : List ℕ) (x : ℕ) → b ≡ filledWith 0 x b
-unfolding filledWith
+pub fill-none : (b : List ℕ) (x : ℕ) → b ≡ overwritten 0 x b
+unfolding overwritten
 fill-none b x = refl
 
-pub fill-goes : (b c : List ℕ) (i x : ℕ) → i < length b → c ≡ filledWith i x b → set c i x ≡ filledWith (i + 1) x b
-unfolding filledWith
+pub fill-goes : (b c : List ℕ) (i x : ℕ) → i < length b → c ≡ overwritten i x b → set c i x ≡ overwritten (i + 1) x b
+unfolding overwritten
 fill-goes b c i x h e =
     ap (λ (d : List ℕ). set d i x) (e ∙ ap (λ (d : List ℕ). replicate i x ++ d) (drop-cons b i 0 h))
     ∙ set-at (replicate i x) (getD b i 0) (drop (suc i) b) x i (length-replicate i x) ∙ one-more i x (drop (suc i) b)
-    ∙ ap (λ (k : ℕ). filledWith k x b) (sym (add-one i))
+    ∙ ap (λ (k : ℕ). overwritten k x b) (sym (add-one i))
 
-pub fill-all : (b c : List ℕ) (i n x : ℕ) → i ≤ n → n ≤ i → c ≡ filledWith i x b → c ≡ filledWith n x b
-fill-all b c i n x h g e = e ∙ ap (λ (k : ℕ). filledWith k x b) (omega (arith, h, g))
+pub fill-all : (b c : List ℕ) (i n x : ℕ) → i ≤ n → n ≤ i → c ≡ overwritten i x b → c ≡ overwritten n x b
+fill-all b c i n x h g e = e ∙ ap (λ (k : ℕ). overwritten k x b) (omega (arith, h, g))
 
 -- ---- copying
 

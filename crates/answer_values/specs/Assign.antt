@@ -2,7 +2,7 @@
 -- literal names, which are read as false (document 02, Q-3). The byte of variable v stands at v - 1: 1 or 0 is its value, 2 says that it has none yet. n is
 -- the number of variables.
 --   literalsFrom t p      the literals of t from position p on, with the indices of their first bytes
---   valueOf l             the value that l gives its variable
+--   literalValue l        the value that l gives its variable
 --   literalAt, variableAt, spotAt   the literal at a place of a list, its variable, the index of its first byte
 --   Named, Unnamed        some literal of a list is of a variable; none is
 --   putOutcome n v s b    what it is to give a value to variable v, whose literal's first byte is s: stray, repeated or done
@@ -13,7 +13,7 @@
 --   unnamedCount n xs     how many of the variables 1 to n no literal of xs names
 --   unsetCount n b        how many variables have no value in b
 --   completed bs          the values bs, a variable that has none read as false
---   filledWith n x b      b with x in its first n places
+--   overwritten n x b     b with x in its first n places
 --   numberValue x         the value that the literal with number x gives
 --   assignedFor o         the code's answer for an outcome
 --   nextAnswer, nextBytes the code's answer a, then an outcome; the buffer later on if a is Done, else the buffer now
@@ -33,7 +33,7 @@ use Rattle.lists.specs.Lists.{any, sum}
 use Rattle.encoding.specs.Literal.{Literal, variable}
 use Literal.{var, −_}
 use Rattle.clause_literals.specs.Signed.{isNegative}
-use Rattle.answer_form.specs.Reading.{Found, statusOf, Next, nextLiteral, Spotted}
+use Rattle.answer_form.specs.Pieces.{Found, statusOf, Next, nextLiteral, Spotted}
 use Rattle.answer_reader.specs.declared.Formed.{Formed}
 use Rattle.answer_reader.specs.declared.Formed.the-variants.{Model, NoModel, Malformed}
 use Rattle.answer_values.specs.declared.Assigned.{Assigned}
@@ -41,7 +41,7 @@ use Rattle.answer_values.specs.declared.Assigned.the-variants.{Done, Str
 
 -- ---- literals
 
--- a literal and those from the position behind it on
+-- a literal and those from the position after it on
 abbrev pub literalThen : Next → (ℕ → List Spotted) → List Spotted
 literalThen (Next.literal l first behind) rest = record { literal = l; first = first } ∷ rest behind
 literalThen (Next.last behind) rest = []
@@ -55,9 +55,9 @@ literalsWithin (suc f) t p = literalThen (nextLiteral t p) (literalsWithin f t)
 unfoldable pub literalsFrom : List ℕ → ℕ → List Spotted
 literalsFrom t p = literalsWithin (length t) t p
 
-abbrev pub valueOf : Literal → ℕ
-valueOf (var v) = 1
-valueOf (− v) = 0
+abbrev pub literalValue : Literal → ℕ
+literalValue (var v) = 1
+literalValue (− v) = 0
 
 -- ---- by place
 
@@ -117,12 +117,12 @@ thenBytes (Outcome.repeated s) later b = b
 abbrev pub assignedOf : ℕ → List Spotted → List ℕ → Outcome
 assignedOf n [] b = Outcome.done
 assignedOf n (x ∷ xs) b =
-    thenOutcome (putOutcome n (variable (x .literal)) (x .first) b) (assignedOf n xs (putBytes n (variable (x .literal)) (valueOf (x .literal)) b))
+    thenOutcome (putOutcome n (variable (x .literal)) (x .first) b) (assignedOf n xs (putBytes n (variable (x .literal)) (literalValue (x .literal)) b))
 
 abbrev pub assignedBytes : ℕ → List Spotted → List ℕ → List ℕ
 assignedBytes n [] b = b
 assignedBytes n (x ∷ xs) b =
-    thenBytes (putOutcome n (variable (x .literal)) (x .first) b) (assignedBytes n xs (putBytes n (variable (x .literal)) (valueOf (x .literal)) b)) b
+    thenBytes (putOutcome n (variable (x .literal)) (x .first) b) (assignedBytes n xs (putBytes n (variable (x .literal)) (literalValue (x .literal)) b)) b
 
 -- ---- the whole buffer
 
@@ -136,8 +136,8 @@ completedByte x = cond (eqb x 2) 0 x
 abbrev pub completed : List ℕ → List ℕ
 completed bs = map completedByte bs
 
-unfoldable pub filledWith : ℕ → ℕ → List ℕ → List ℕ
-filledWith n x b = replicate n x ++ drop n b
+unfoldable pub overwritten : ℕ → ℕ → List ℕ → List ℕ
+overwritten n x b = replicate n x ++ drop n b
 
 -- ---- for the code
 

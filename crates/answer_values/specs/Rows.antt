@@ -8,7 +8,7 @@ use Prim.Native.Nat.{ℕ, _≤_, _<_}
 use mathlib.Core.Path.{_≡_}
 use mathlib.Core.List.{List}
 use lib.ListN.{length}
-use Rattle.answer_form.specs.Reading.{Spotted}
+use Rattle.answer_form.specs.Pieces.{Spotted}
 use Rattle.answer_values.specs.Assign.{variableAt, spotAt}
 
 -- no literal before place j names the variable at j

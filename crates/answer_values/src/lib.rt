@@ -18,7 +18,7 @@ ghost use mathlib.Core.List.{_++_};
 ghost use lib.Dec.{eqb};
 ghost use lib.ListN.{length, take, drop};
 ghost use Rattle.answer_reader.specs.Results.{modelFrom, formOf};
-ghost use Rattle.answer_values.specs.Assign.{literalsFrom, putOutcome, putBytes, assignedOf, assignedBytes, unsetCount, completedByte, completed, filledWith, numberValue, assignedFor, nextAnswer, nextBytes, readOutcome, readBytes, assumedBy};
+ghost use Rattle.answer_values.specs.Assign.{literalsFrom, putOutcome, putBytes, assignedOf, assignedBytes, unsetCount, completedByte, completed, overwritten, numberValue, assignedFor, nextAnswer, nextBytes, readOutcome, readBytes, assumedBy};
 
 // Each literal is assigned; the first that is not is of a variable above V, or of one that has a value: the index of its first byte.
 pub enum Assigned {
@@ -28,7 +28,7 @@ pub enum Assigned {
 }
 
 // The form of an answer, how its literals were assigned, and how many variables no literal names, 0 if the answer is refused.
-pub struct Read {
+pub struct AnswerRead {
     pub form: Formed,
     pub outcome: Assigned,
     pub assumed: usize,
@@ -37,7 +37,7 @@ pub struct Read {
 // Puts `value` into the first n bytes.
 pub fn fill(buf: &mut [u8], n: usize, value: u8)
     requires { ⌜ n ≤ length (now buf) ⌝ }
-    ensures { λ r. ⌜ now (buf .exit) ≡ filledWith n value (now (buf .entry)) ⌝ }
+    ensures { λ r. ⌜ now (buf .exit) ≡ overwritten n value (now (buf .entry)) ⌝ }
 {
     let mut i: usize = 0;
     while i < n {
@@ -109,7 +109,7 @@ fn assumed_of(f: Formed, o: Assigned, assignment: &[u8], v: usize) -> usize
 }
 
 // The value that a literal gives its variable.
-fn value_of(x: i32) -> u8
+fn literal_value(x: i32) -> u8
     ensures { λ r. ⌜ r ≡ numberValue x ⌝ }
 {
     if !is_negative(x) {
@@ -130,12 +130,12 @@ fn put_value(x: i32, first: usize, v: usize, assignment: &mut [u8]) -> Assigned
     if assignment[k - 1] != 2 {
         return Assigned::Repeated(first);
     }
-    assignment[k - 1] = value_of(x);
+    assignment[k - 1] = literal_value(x);
     Assigned::Done
 }
 
-// The same, if each literal before it was assigned; `o` says whether.
-fn put_next(o: Assigned, x: i32, first: usize, v: usize, assignment: &mut [u8]) -> Assigned
+// Assigns one literal if each literal before it was assigned, as `o` says; else the assignment stays.
+fn put_next_value(o: Assigned, x: i32, first: usize, v: usize, assignment: &mut [u8]) -> Assigned
     requires { ⌜ (0 < natAbs x) × (natAbs x < 2 ^ 31) × (v ≤ length (now assignment)) ⌝ }
     ensures { λ r. ⌜ (r ≡ nextAnswer o (putOutcome v (natAbs x) first (now (assignment .entry)))) × (now (assignment .exit) ≡ nextBytes o (putBytes v (natAbs x) (numberValue x) (now (assignment .entry))) (now (assignment .entry))) ⌝ }
 {
@@ -146,7 +146,7 @@ fn put_next(o: Assigned, x: i32, first: usize, v: usize, assignment: &mut [u8]) 
 }
 
 // Reads the answer from position `from` on to its end: its form, and its literals, assigned up to literal 0 or the first that is stray or repeated.
-fn read_from(answer: &[u8], from: usize, v: usize, assignment: &mut [u8]) -> Read
+fn read_from(answer: &[u8], from: usize, v: usize, assignment: &mut [u8]) -> AnswerRead
     requires { ⌜ (from ≤ length (now answer)) × (v ≤ length (now assignment)) × (v ≤ 9890) ⌝ }
     ensures { λ r. ⌜ (r .form ≡ modelFrom from from (now (answer .entry))) × (r .outcome ≡ assignedFor (assignedOf v (literalsFrom (now (answer .entry)) from) (now (assignment .entry)))) × (now (assignment .exit) ≡ assignedBytes v (literalsFrom (now (answer .entry)) from) (now (assignment .entry))) × (r .assumed ≡ assumedBy (r .form) (r .outcome) (unsetCount v (now (assignment .exit)))) ⌝ }
 {
@@ -156,21 +156,21 @@ fn read_from(answer: &[u8], from: usize, v: usize, assignment: &mut [u8]) -> Rea
         let n = next_from(answer, p);
         match n {
             Next::Literal(x, first, behind) => {
-                o = put_next(o, x, first, v, &mut *assignment);
+                o = put_next_value(o, x, first, v, &mut *assignment);
                 p = behind;
             }
             Next::Last(behind) => {
                 let c = close(answer, behind);
                 let f = closed_form(from, c);
                 let k = assumed_of(f, o, &*assignment, v);
-                return Read {
+                return AnswerRead {
                     form: f,
                     outcome: o,
                     assumed: k,
                 };
             }
             Next::Left(s) => {
-                return Read {
+                return AnswerRead {
                     form: Formed::Malformed(s),
                     outcome: o,
                     assumed: 0,
@@ -182,19 +182,19 @@ fn read_from(answer: &[u8], from: usize, v: usize, assignment: &mut [u8]) -> Rea
 
 // The form of the whole answer. If its status is SATISFIABLE, its literals are assigned on the way; else the assignment stays. The variables that no literal
 // names keep their 2; how many they are is said too.
-pub fn read_form(answer: &[u8], v: usize, assignment: &mut [u8]) -> Read
+pub fn read_form(answer: &[u8], v: usize, assignment: &mut [u8]) -> AnswerRead
     requires { ⌜ (v ≤ length (now assignment)) × (v ≤ 9890) ⌝ }
     ensures { λ r. ⌜ (r .form ≡ formOf (now (answer .entry))) × (r .outcome ≡ assignedFor (readOutcome v (now (answer .entry)) (now (assignment .entry)))) × (now (assignment .exit) ≡ readBytes v (now (answer .entry)) (now (assignment .entry))) × (r .assumed ≡ assumedBy (r .form) (r .outcome) (unsetCount v (now (assignment .exit)))) ⌝ }
 {
     let s = status(answer);
     match s {
         Found::Satisfiable(e) => read_from(answer, e, v, &mut *assignment),
-        Found::Other => Read {
+        Found::Other => AnswerRead {
             form: Formed::NoModel,
             outcome: Assigned::Done,
             assumed: 0,
         },
-        Found::Left(spot) => Read {
+        Found::Left(spot) => AnswerRead {
             form: Formed::Malformed(spot),
             outcome: Assigned::Done,
             assumed: 0,

@@ -21,17 +21,17 @@ use Rattle.reader.specs.Verdict.{readOf}
 use Rattle.refusals.specs.Numbers.{textNumber}
 use Rattle.text.specs.Limits.{Admitted}
 use Rattle.reader_laws.proofs.Rows.{row-few}
-use Rattle.answer_form.specs.Reading.{Spotted}
-use Rattle.answer_values.specs.Assign.{filledWith}
+use Rattle.answer_form.specs.Pieces.{Spotted}
+use Rattle.answer_values.specs.Assign.{overwritten}
 use Rattle.answer_values.proofs.Rows.{unnamed-rest}
 use Rattle.answer_offers.specs.Offered.{valueBytes, valuesOf}
-use Rattle.call_results.specs.Results.{Result, assignmentAfter, levelsAfter, varTotal, programOf}
+use Rattle.call_results.specs.Results.{Result, assignmentAfter, levelsAfter, varTotal, programRead}
 use Rattle.refusals.specs.declared.CheckRefusal.{CheckRefusal}
 use Rattle.refusals.specs.declared.CheckRefusal.the-variants.{Text, ShortBuffer, OverlongAnswer, MalformedAnswer, NoModelOffered, StrayVariable, RepeatedVariable, FalseClause}
 use Rattle.call_check.specs.declared.CheckVerdict.{CheckVerdict}
 use Rattle.call_check.specs.declared.CheckVerdict.the-variants.{Model, Refused}
 use Rattle.refusals.specs.Numbers.{checkNumber}
-use Rattle.call_check.specs.Check.{zeroes, refuse, checkOf, checkAnswer, checkAssignment, checkLevels}
+use Rattle.call_check.specs.Check.{zeroes, checkRefused, checkOf, checkAnswer, checkAssignment, checkLevels}
 use Rattle.call_check.specs.Rows.{Offers, assumedNumber, trueNumber, levelsOf, CheckRow, of-text, short-assignment, short-levels, overlong-answer, malformed-answer, no-model-offered, stray-variable, repeated-variable, false-clause, CheckAnswers, Shows, ModelWritten}
 use Rattle.call_check.proofs.Spots.{offers-named}
 use Rattle.call_check.proofs.Verdicts.{shownResult, program-is, shown-answer, shows-result, model-offers, answers-refusal, answers-check-first}
@@ -101,7 +101,7 @@ module _ (t u b l : List ℕ) where
     result : checkOf t u (length b) (length l) ≡ shownResult P xs
     result = shows-result t u (length b) (length l) P xs S
 
-    its-program : programOf (readOf t) ≡ P
+    its-program : programRead (readOf t) ≡ P
     its-program = program-is t u (length b) (length l) P (S .admitted)
 
     answer : checkAnswer t u (length b) (length l) ≡ Model (trueNumber P xs) (highest (P .atoms) (levelsOf P xs)) (assumedNumber P xs)
@@ -148,16 +148,16 @@ module _ (t u b l : List ℕ) where
   -- ---- refused
 
   module _ (r s : ℕ) (w : CheckAnswers t u (length b) (length l) r s) where
-    refused : checkOf t u (length b) (length l) ≡ refuse (w .refusal)
+    refused : checkOf t u (length b) (length l) ≡ checkRefused (w .refusal)
     refused = answers-refusal t u (length b) (length l) r s w
 
-    left : checkAssignment t u b (length l) ≡ cond (zeroes (w .refusal)) (filledWith (varTotal (programOf (readOf t))) 0 b) b
+    left : checkAssignment t u b (length l) ≡ cond (zeroes (w .refusal)) (overwritten (varTotal (programRead (readOf t))) 0 b) b
     unfolding checkAssignment
-    left = ap (λ (x : Result CheckRefusal). assignmentAfter zeroes (varTotal (programOf (readOf t))) x b) refused
+    left = ap (λ (x : Result CheckRefusal). assignmentAfter zeroes (varTotal (programRead (readOf t))) x b) refused
 
     pub refused-levels : checkLevels t u (length b) l ≡ l
     unfolding checkLevels
-    refused-levels = ap (λ (x : Result CheckRefusal). levelsAfter (programOf (readOf t) .atoms) x l) refused
+    refused-levels = ap (λ (x : Result CheckRefusal). levelsAfter (programRead (readOf t) .atoms) x l) refused
 
     -- the text is admitted wherever row 13 or a later one is met
     admitted-from-13 : (p k v : ℕ) → CheckRow t u (length b) (length l) p k v → 13 ≤ k → (P : Program) × Admitted t P
@@ -173,15 +173,15 @@ module _ (t u b l : List ℕ) where
 
     pub refused-keeps : r < 13 → checkAssignment t u b (length l) ≡ b
     refused-keeps h =
-        left ∙ ap (λ (d : Bool). cond d (filledWith (varTotal (programOf (readOf t))) 0 b) b) (keeps-below-13 (w .refusal) (subst (λ (k : ℕ). k < 13) (sym (w .row-is)) h))
+        left ∙ ap (λ (d : Bool). cond d (overwritten (varTotal (programRead (readOf t))) 0 b) b) (keeps-below-13 (w .refusal) (subst (λ (k : ℕ). k < 13) (sym (w .row-is)) h))
 
-    pub refused-zeroes : 13 ≤ r → (P : Program) × Admitted t P × (checkAssignment t u b (length l) ≡ filledWith (varTotal P) 0 b)
+    pub refused-zeroes : 13 ≤ r → (P : Program) × Admitted t P × (checkAssignment t u b (length l) ≡ overwritten (varTotal P) 0 b)
     refused-zeroes h = go (admitted-from-13 _ r s (answers-check-first t u (length b) (length l) r s w .met) h)
       where
-        go : ((P : Program) × Admitted t P) → (P : Program) × Admitted t P × (checkAssignment t u b (length l) ≡ filledWith (varTotal P) 0 b)
+        go : ((P : Program) × Admitted t P) → (P : Program) × Admitted t P × (checkAssignment t u b (length l) ≡ overwritten (varTotal P) 0 b)
         go (P, A) = (
           P,
           A,
-          left ∙ ap (λ (d : Bool). cond d (filledWith (varTotal (programOf (readOf t))) 0 b) b) (zeroes-from-13 (w .refusal) (subst (λ (k : ℕ). 13 ≤ k) (sym (w .row-is)) h))
-              ∙ ap (λ (X : Program). filledWith (varTotal X) 0 b) (program-is t u (length b) (length l) P A),
+          left ∙ ap (λ (d : Bool). cond d (overwritten (varTotal (programRead (readOf t))) 0 b) b) (zeroes-from-13 (w .refusal) (subst (λ (k : ℕ). 13 ≤ k) (sym (w .row-is)) h))
+              ∙ ap (λ (X : Program). overwritten (varTotal X) 0 b) (program-is t u (length b) (length l) P A),
         )

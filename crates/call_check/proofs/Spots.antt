@@ -1,6 +1,6 @@
 -- The literals of an answer: one list, whose spots ascend.
 --   offers-unique     a text offers one list of literals
---   spots-ascend      their first bytes stand one behind the other
+--   spots-ascend      their first bytes stand one after the other
 --   offers-form, form-offers   they are those that are read where the form says model
 --   offers-named      each is of a variable from 1 on
 -- Assumes nothing.
@@ -12,13 +12,13 @@ use mathlib.Core.List.{List}
 use lib.ListN.{length, drop}
 use Rattle.encoding.specs.Literal.{Literal}
 use Rattle.answer_form.specs.Answer.{Answer, answerText}
-use Rattle.answer_form.specs.Reading.{Next, nextLiteral, Close, Spotted, Reads, statusEnd, spotsOf}
+use Rattle.answer_form.specs.Pieces.{Next, nextLiteral, Close, Spotted, Reads, statusEnd, spotsOf}
 use Rattle.answer_form.proofs.Passing.{Heard, next-heard}
-use Rattle.answer_form.proofs.ReadingLaws.{reads-model}
+use Rattle.answer_form.proofs.PieceLaws.{reads-model}
 use Rattle.answer_form.proofs.Unique.{answer-unique}
 use Rattle.answer_reader.specs.declared.Formed.the-variants.{Model as FormModel}
 use Rattle.answer_reader.specs.Results.{formOf}
-use Rattle.answer_form.specs.Reading.{IsModel}
+use Rattle.answer_form.specs.Pieces.{OffersModel}
 use Rattle.answer_reader.proofs.Promised.{form-model, model-form}
 use Rattle.answer_values.specs.Assign.{literalsFrom, spotAt}
 use Rattle.answer_values.proofs.Steps.{AllNamed}
@@ -94,7 +94,7 @@ module _ {u : List ℕ} where
   pub form-offers : (e : ℕ) → formOf u ≡ FormModel e → Offers u (literalsFrom u e)
   form-offers e f = go (form-model u e f)
     where
-      go : IsModel u e → Offers u (literalsFrom u e)
+      go : OffersModel u e → Offers u (literalsFrom u e)
       go m =
           record {
             before = m .before;

@@ -14,7 +14,7 @@ use Rattle.lists.proofs.First.{IsFirst, first-is}
 use Rattle.meaning.specs.Program.{Program}
 use Rattle.encoding.specs.Literal.{Assignment, valueOf, clauseTrue}
 use Rattle.answer_offers.specs.Offered.{valueBytes}
-use Rattle.answer_values.specs.Assign.{filledWith}
+use Rattle.answer_values.specs.Assign.{overwritten}
 use Rattle.truth_clauses.specs.Truth.{valueIn, falseAt, firstFalse}
 use Rattle.call_results.proofs.ValueBytes.{values-same}
 use Rattle.call_check.specs.Rows.{clauseOf, clauseNumber}
@@ -54,6 +54,6 @@ drop-none : (n : ℕ) → drop {A = ℕ} n [] ≡ []
 drop-none zero = refl
 drop-none (suc n) = refl
 
-pub filled-none : (n x : ℕ) → filledWith n x [] ≡ replicate n x
-unfolding filledWith
+pub filled-none : (n x : ℕ) → overwritten n x [] ≡ replicate n x
+unfolding overwritten
 filled-none n x = ap (λ (b : List ℕ). replicate n x ++ b) (drop-none n) ∙ append-nil (replicate n x)

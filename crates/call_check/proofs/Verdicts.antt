@@ -24,7 +24,7 @@ use Rattle.encoding.specs.Width.{width}
 use Rattle.encoding.specs.Literal.{clauseTrue}
 use Rattle.encoding.specs.Clauses.{sizes}
 use Rattle.refusals.specs.declared.TextRefusal.{TextRefusal}
-use Rattle.reader.specs.declared.Reading.{Reading}
+use Rattle.reader.specs.declared.ReadResult.{ReadResult}
 use Rattle.reader.specs.declared.ReadVerdict.{ReadVerdict}
 use Rattle.reader.specs.declared.ReadVerdict.the-variants.{Accepted, Refused as TextRefused}
 use Rattle.reader.specs.Verdict.{readOf}
@@ -35,8 +35,8 @@ use Rattle.call_laws.proofs.Texts.{one-admitted, refused-row, refused-admits-no
 use Rattle.reader_laws.proofs.Rows.{accepted-none}
 use Rattle.reader_laws.proofs.Contents.{accepted-admitted, admitted-answer}
 use Rattle.program.proofs.Decode.{decoded-kept}
-use Rattle.answer_form.specs.Answer.{Status, OfStatus, Malformed}
-use Rattle.answer_form.specs.Reading.{Spotted, statusEnd}
+use Rattle.answer_form.specs.Answer.{Status, OfStatus, AnswerMalformed}
+use Rattle.answer_form.specs.Pieces.{Spotted, statusEnd}
 use Rattle.answer_reader.specs.declared.Formed.{Formed}
 use Rattle.answer_reader.specs.declared.Formed.the-variants.{Model as FormModel, NoModel, Malformed as FormMalformed}
 use Rattle.answer_reader.specs.Results.{formOf}
@@ -47,13 +47,13 @@ use Rattle.answer_values.proofs.Rows.{Meant, meant, unset-unnamed}
 use Rattle.answer_offers.specs.Offered.{valueBytes, valuesOf}
 use Rattle.answer_offers.proofs.Values.{values-alone}
 use Rattle.truth_clauses.specs.Truth.{firstFalse}
-use Rattle.call_results.specs.Results.{Result, varTotal, programOf}
+use Rattle.call_results.specs.Results.{Result, varTotal, programRead}
 use Rattle.refusals.specs.declared.CheckRefusal.{CheckRefusal}
 use Rattle.refusals.specs.declared.CheckRefusal.the-variants.{Text, ShortBuffer, OverlongAnswer, MalformedAnswer, NoModelOffered, StrayVariable, RepeatedVariable, FalseClause}
 use Rattle.call_check.specs.declared.CheckVerdict.{CheckVerdict}
 use Rattle.call_check.specs.declared.CheckVerdict.the-variants.{Model, Refused}
 use Rattle.refusals.specs.Numbers.{checkNumber, checkSpot}
-use Rattle.call_check.specs.Check.{refuse, judged, completedResult, noValues, afterAssigning, assignedResult, formResult, checkResult, afterReading, verdictOf, checkOf, checkAnswer}
+use Rattle.call_check.specs.Check.{checkRefused, valuesJudged, completedResult, noValues, afterAssigning, assignedResult, formResult, checkResult, checkAfterReading, checkVerdictOf, checkOf, checkAnswer}
 use Rattle.call_results.specs.Order.{NotAfter, earlier, nearer, smaller}
 use Rattle.call_results.proofs.Order.{first-one}
 use Rattle.call_check.specs.Rows.{Offers, valuesIn, assumedNumber, levelsOf, trueNumber, clauseOf, clauseNumber, CheckRow, of-text, short-assignment, short-levels, overlong-answer, malformed-answer, no-model-offered, stray-variable, repeated-variable, false-clause, FirstCheckRow, CheckAnswers, Accepts, EachTrue, Shows}
@@ -67,19 +67,19 @@ abbrev pub shownResult : Program → List Spotted → Result CheckRefusal
 shownResult P xs = Result.accepted (assumedNumber P xs) (valueBytes (valuesOf (varTotal P) xs)) (tab (P .atoms) (levelsOf P xs))
 
 pub data CheckTold (t u : List ℕ) (a l : ℕ) : Type 0 where
-  at-row : (q : CheckRefusal) → FirstCheckRow t u a l (checkNumber q) (checkSpot q) → checkOf t u a l ≡ refuse q → CheckTold t u a l
+  at-row : (q : CheckRefusal) → FirstCheckRow t u a l (checkNumber q) (checkSpot q) → checkOf t u a l ≡ checkRefused q → CheckTold t u a l
   shown : (P : Program) (xs : List Spotted) → Shows t u a l P xs → checkOf t u a l ≡ shownResult P xs → CheckTold t u a l
 
 -- ---- the tests, one after the other
 
 module _ (P : Program) (u : List ℕ) (k a l : ℕ) where
-  result-3 : a < varTotal P → checkResult P u k a l ≡ refuse (ShortBuffer (varTotal P))
+  result-3 : a < varTotal P → checkResult P u k a l ≡ checkRefused (ShortBuffer (varTotal P))
   result-3 h = rw (lt-ltb a (varTotal P) h)
 
-  result-4 : varTotal P ≤ a → l < P .atoms → checkResult P u k a l ≡ refuse (ShortBuffer (P .atoms))
+  result-4 : varTotal P ≤ a → l < P .atoms → checkResult P u k a l ≡ checkRefused (ShortBuffer (P .atoms))
   result-4 h g = rw (le-ltb a (varTotal P) h, lt-ltb l (P .atoms) g)
 
-  result-5 : varTotal P ≤ a → P .atoms ≤ l → 65536 < k → checkResult P u k a l ≡ refuse (OverlongAnswer k)
+  result-5 : varTotal P ≤ a → P .atoms ≤ l → 65536 < k → checkResult P u k a l ≡ checkRefused (OverlongAnswer k)
   result-5 h g f = rw (le-ltb a (varTotal P) h, le-ltb l (P .atoms) g, lt-ltb 65536 k f)
 
   result-form : varTotal P ≤ a → P .atoms ≤ l → k ≤ 65536 → {x : Formed} → formOf u ≡ x → checkResult P u k a l ≡ formResult P u x
@@ -124,11 +124,11 @@ module _ (t u : List ℕ) (a l : ℕ) where
     assignment : a < varTotal P → Z 3 8 (varTotal P)
     levels : l < P .atoms → Z 4 8 (P .atoms)
     overlong : 65536 < length u → Z 5 10 (length u)
-    malformed : (s : ℕ) → Malformed u s → Z 6 11 s
+    malformed : (s : ℕ) → AnswerMalformed u s → Z 6 11 s
     no-model : (x : Status) → OfStatus u x → Z 7 12 0
     offered : (xs : List Spotted) → Offers u xs → OfLiterals P xs Z
 
-  -- rows 13, 14 and 16 come behind places 0 to 7
+  -- rows 13, 14 and 16 come after places 0 to 7
   literals-later : (P : Program) (p r s : ℕ) → p < 8 → (xs : List Spotted) → OfLiterals P xs (NotAfter p r s)
   literals-later P p r s h xs =
       record {
@@ -139,17 +139,17 @@ module _ (t u : List ℕ) (a l : ℕ) where
 
   module _ (P : Program) (A : Admitted t P) where
     verdict : readOf t .verdict ≡ Accepted
-    verdict = ap (λ (r : Reading). r .verdict) (admitted-answer t P A)
+    verdict = ap (λ (r : ReadResult). r .verdict) (admitted-answer t P A)
 
     same : (Q : Program) → Admitted t Q → Q ≡ P
     same Q B = one-admitted A B
 
-    pub program-is : programOf (readOf t) ≡ P
-    program-is = ap (λ (r : Reading). programOf r) (admitted-answer t P A) ∙ decoded-kept P
+    pub program-is : programRead (readOf t) ≡ P
+    program-is = ap (λ (r : ReadResult). programRead r) (admitted-answer t P A) ∙ decoded-kept P
 
     result-is : checkOf t u a l ≡ checkResult P u (length u) a l
     unfolding checkOf
-    result-is = ap (λ (w : ReadVerdict). afterReading w (checkResult (programOf (readOf t)) u (length u) a l)) verdict ∙ ap (λ (X : Program). checkResult X u (length u) a l) program-is
+    result-is = ap (λ (w : ReadVerdict). checkAfterReading w (checkResult (programRead (readOf t)) u (length u) a l)) verdict ∙ ap (λ (X : Program). checkResult X u (length u) a l) program-is
 
     each-row : (Z : ℕ → ℕ → ℕ → Type 0) → Each P Z → (p r s : ℕ) → CheckRow t u a l p r s → Z p r s
     each-row Z c p r s (of-text ρ) = absurd (accepted-none t verdict r s ρ)
@@ -165,7 +165,7 @@ module _ (t u : List ℕ) (a l : ℕ) where
         (subst (λ (X : Program). clauseTrue (valuesIn X xs) (clauseOf X j) ≡ false) (same Q B) e)
 
     refused-at : (q : CheckRefusal) (p : ℕ) → CheckRow t u a l p (checkNumber q) (checkSpot q) → Each P (NotAfter p (checkNumber q) (checkSpot q))
-        → checkResult P u (length u) a l ≡ refuse q → CheckTold t u a l
+        → checkResult P u (length u) a l ≡ checkRefused q → CheckTold t u a l
     refused-at q p m c e = at-row q (record { place = p; met = m; first = each-row (NotAfter p (checkNumber q) (checkSpot q)) c }) (result-is ∙ e)
 
     -- ---- row 8
@@ -278,7 +278,7 @@ module _ (t u : List ℕ) (a l : ℕ) where
                 }
 
             model-at : (q : CheckRefusal) (p : ℕ) → CheckRow t u a l p (checkNumber q) (checkSpot q) → OfLiterals P xs (NotAfter p (checkNumber q) (checkSpot q))
-                → assignedResult P u e ≡ refuse q → CheckTold t u a l
+                → assignedResult P u e ≡ checkRefused q → CheckTold t u a l
             model-at q p m c w =
                 refused-at q p m (each-literal (NotAfter p (checkNumber q) (checkSpot q)) c) (result-form P u (length u) a l room levels-room fits f ∙ w)
 
@@ -349,8 +349,8 @@ module _ (t u : List ℕ) (a l : ℕ) where
                   subst (λ (b : List ℕ). unsetCount vars (assignedBytes vars xs b) ≡ assumedNumber P xs) (filled-none vars 2)
                   (unset-unnamed vars xs (offers-named offer) fit [])
 
-              judged-are : assignedResult P u e ≡ judged P (assumedNumber P xs) (valueBytes ys)
-              judged-are = by-outcome done ∙ ap₂ (judged P) unset-are bytes-are
+              judged-are : assignedResult P u e ≡ valuesJudged P (assumedNumber P xs) (valueBytes ys)
+              judged-are = by-outcome done ∙ ap₂ (valuesJudged P) unset-are bytes-are
 
               falses : FirstFalse P (valuesIn P xs) (firstFalse P (valueBytes ys))
               falses = first-false P ys
@@ -476,7 +476,7 @@ module _ (t u : List ℕ) (a l : ℕ) where
     unfolding checkOf
     told-text =
         at-row (Text x) (record { place = rank (textNumber x); met = of-text (text-row .met); first = text-first })
-        (ap (λ (w : ReadVerdict). afterReading w (checkResult (programOf (readOf t)) u (length u) a l)) v)
+        (ap (λ (w : ReadVerdict). checkAfterReading w (checkResult (programRead (readOf t)) u (length u) a l)) v)
 
   pub check-told : CheckTold t u a l
   check-told = go (readOf t .verdict) refl
@@ -490,16 +490,16 @@ module _ (t u : List ℕ) (a l : ℕ) where
   pub first-check-unique : (r s k v : ℕ) → FirstCheckRow t u a l r s → FirstCheckRow t u a l k v → (r ≡ k) × (s ≡ v)
   first-check-unique = first-one (CheckRow t u a l)
 
-  refused-answer : (q : CheckRefusal) → checkOf t u a l ≡ refuse q → checkAnswer t u a l ≡ Refused q
+  refused-answer : (q : CheckRefusal) → checkOf t u a l ≡ checkRefused q → checkAnswer t u a l ≡ Refused q
   unfolding checkAnswer
-  refused-answer q e = ap (verdictOf (programOf (readOf t) .atoms)) e
+  refused-answer q e = ap (checkVerdictOf (programRead (readOf t) .atoms)) e
 
   -- what a model is answered with
   pub shown-answer : (P : Program) (xs : List Spotted) → Admitted t P → checkOf t u a l ≡ shownResult P xs
       → checkAnswer t u a l ≡ Model (trueNumber P xs) (highest (P .atoms) (levelsOf P xs)) (assumedNumber P xs)
   unfolding checkAnswer
   shown-answer P xs A e =
-      ap₂ (λ (n : ℕ) (x : Result CheckRefusal). verdictOf n x) (ap (λ (X : Program). X .atoms) (program-is P A)) e
+      ap₂ (λ (n : ℕ) (x : Result CheckRefusal). checkVerdictOf n x) (ap (λ (X : Program). X .atoms) (program-is P A)) e
       ∙ ap₂ (λ (k h : ℕ). Model k h (assumedNumber P xs)) (count-same (P .atoms) (valuesOf (varTotal P) xs)) (levels-same (P .atoms) (levelsOf P xs))
 
   -- an answer is a refusal or it is not
@@ -511,21 +511,21 @@ module _ (t u : List ℕ) (a l : ℕ) where
       isRefused (Model k h c) = false
 
   -- it has one refusal
-  same-refusal : (q x : CheckRefusal) → checkOf t u a l ≡ refuse q → checkAnswer t u a l ≡ Refused x → q ≡ x
+  same-refusal : (q x : CheckRefusal) → checkOf t u a l ≡ checkRefused q → checkAnswer t u a l ≡ Refused x → q ≡ x
   same-refusal q x e f = ap refusalIn (sym (refused-answer q e) ∙ f)
     where
       refusalIn : CheckVerdict → CheckRefusal
       refusalIn (Refused r) = r
       refusalIn (Model k h c) = NoModelOffered
 
-  told-answers : (q : CheckRefusal) → checkOf t u a l ≡ refuse q → CheckAnswers t u a l (checkNumber q) (checkSpot q)
+  told-answers : (q : CheckRefusal) → checkOf t u a l ≡ checkRefused q → CheckAnswers t u a l (checkNumber q) (checkSpot q)
   told-answers q e = record { refusal = q; answer-is = refused-answer q e; row-is = refl; spot-is = refl }
 
-  pub answers-refusal : (r s : ℕ) (w : CheckAnswers t u a l r s) → checkOf t u a l ≡ refuse (w .refusal)
+  pub answers-refusal : (r s : ℕ) (w : CheckAnswers t u a l r s) → checkOf t u a l ≡ checkRefused (w .refusal)
   answers-refusal r s w = go check-told
     where
-      go : CheckTold t u a l → checkOf t u a l ≡ refuse (w .refusal)
-      go (at-row q f e) = e ∙ ap refuse (same-refusal q (w .refusal) e (w .answer-is))
+      go : CheckTold t u a l → checkOf t u a l ≡ checkRefused (w .refusal)
+      go (at-row q f e) = e ∙ ap checkRefused (same-refusal q (w .refusal) e (w .answer-is))
       go (shown P xs S e) = absurd (verdicts (w .refusal) _ _ _ (w .answer-is) (shown-answer P xs (S .admitted) e))
 
   pub answers-check-first : (r s : ℕ) → CheckAnswers t u a l r s → FirstCheckRow t u a l r s

@@ -13,7 +13,7 @@
 --   EachTrue P xs               each clause of P is true under the values of the literals xs
 --   Shows t u a l P xs          t is admitted, with program P; u offers the literals xs, which name no variable above V and none twice, and
 --                               whose values make each clause true; there is room
---   ModelWritten t u b l P xs k h c   the values of the V variables as bytes, the levels of the n atoms, and the three numbers k, h and c; behind them the
+--   ModelWritten t u b l P xs k h c   the values of the V variables as bytes, the levels of the n atoms, and the three numbers k, h and c; after them the
 --                               buffers stay
 -- Assumes nothing.
 use Prim.Native.Nat.{ℕ, pred, _≤_, _<_}
@@ -29,8 +29,8 @@ use Rattle.encoding.specs.Fill.{counter}
 use Rattle.encoding.specs.Clauses.{sizes, clauses}
 use Rattle.reader_laws.specs.Row.{Row, rank}
 use Rattle.text.specs.Limits.{maxText, Admitted}
-use Rattle.answer_form.specs.Answer.{Comment, Line, Status, Answer, proper, answerText, OfStatus, Malformed}
-use Rattle.answer_form.specs.Reading.{Spotted, spotsOf}
+use Rattle.answer_form.specs.Answer.{Comment, Line, Status, Answer, proper, answerText, OfStatus, AnswerMalformed}
+use Rattle.answer_form.specs.Pieces.{Spotted, spotsOf}
 use Rattle.answer_values.specs.Assign.{variableAt, spotAt, unnamedCount}
 use Rattle.answer_values.specs.Rows.{AllFit}
 use Rattle.answer_offers.specs.Offered.{valueBytes, valuesOf}
@@ -76,7 +76,7 @@ pub data CheckRow (t u : List ℕ) (a l : ℕ) : (place row spot : ℕ) → Type
   short-assignment : (P : Program) → Admitted t P → a < varTotal P → CheckRow t u a l 3 8 (varTotal P)
   short-levels : (P : Program) → Admitted t P → l < P .atoms → CheckRow t u a l 4 8 (P .atoms)
   overlong-answer : maxText < length u → CheckRow t u a l 5 10 (length u)
-  malformed-answer : {s : ℕ} → Malformed u s → CheckRow t u a l 6 11 s
+  malformed-answer : {s : ℕ} → AnswerMalformed u s → CheckRow t u a l 6 11 s
   no-model-offered : {x : Status} → OfStatus u x → CheckRow t u a l 7 12 0
   stray-variable : (P : Program) → Admitted t P → (xs : List Spotted) → Offers u xs → (i : ℕ) → i < length xs → varTotal P < variableAt xs i
       → CheckRow t u a l 8 13 (spotAt xs i)

@@ -1,7 +1,7 @@
 // The check of a solver answer against a program (document 01, "Check and filling out"; document 02, Q-3).
 use answer_reader::Formed;
 use answer_values::Assigned;
-use answer_values::Read;
+use answer_values::AnswerRead;
 use answer_values::copy_completed;
 use answer_values::fill;
 use answer_values::read_form;
@@ -14,7 +14,7 @@ use clause_tabling::totals_of;
 use program::Program;
 use reader::MAX_TEXT;
 use reader::ReadVerdict;
-use reader::Reading;
+use reader::ReadResult;
 use reader::read;
 use refusals::CheckRefusal;
 use truth_clauses::first_false;
@@ -24,10 +24,10 @@ ghost use lib.ListN.{length, take};
 ghost use Rattle.program.specs.Arrays.{decoded};
 ghost use Rattle.reader.specs.declared.ReadVerdict.the-variants.{Accepted};
 ghost use Rattle.clause_tables.specs.Tables.{Stored, programIn, Ready};
-ghost use Rattle.answer_values.specs.Assign.{completed, filledWith};
+ghost use Rattle.answer_values.specs.Assign.{completed, overwritten};
 ghost use Rattle.call_check.specs.declared.CheckVerdict.the-variants.{Refused};
-ghost use Rattle.call_results.specs.Results.{programOf};
-ghost use Rattle.call_check.specs.Check.{Gives, judged, outcomeOf, afterAssigning, checkResult, readResult, checkAnswer, checkAssignment, checkLevels};
+ghost use Rattle.call_results.specs.Results.{programRead};
+ghost use Rattle.call_check.specs.Check.{CheckGives, valuesJudged, outcomeOf, afterAssigning, checkResult, callResult, checkAnswer, checkAssignment, checkLevels};
 
 // How many atoms are true, the highest level, and how many variables the answer left out, which are read as false; or a refusal.
 pub enum CheckVerdict {
@@ -35,10 +35,10 @@ pub enum CheckVerdict {
     Refused(CheckRefusal),
 }
 
-// Zeros the values of v variables.
-fn zeroed(r: CheckRefusal, v: usize, assignment: &mut [u8]) -> CheckVerdict
+// Refuses with r and zeros the values of v variables.
+fn refuse_zeroed(r: CheckRefusal, v: usize, assignment: &mut [u8]) -> CheckVerdict
     requires { ⌜ v ≤ length (now assignment) ⌝ }
-    ensures { λ x. ⌜ (x ≡ Refused r) × (now (assignment .exit) ≡ filledWith v 0 (now (assignment .entry))) ⌝ }
+    ensures { λ x. ⌜ (x ≡ Refused r) × (now (assignment .exit) ≡ overwritten v 0 (now (assignment .entry))) ⌝ }
 {
     fill(&mut *assignment, v, 0);
     CheckVerdict::Refused(r)
@@ -58,7 +58,7 @@ fn judge<'a>(
     levels: &mut [u8],
 ) -> CheckVerdict
     requires { ⌜ (Ready t (now heads) (now starts) (now bodies) (now before) (now partners) (now owners)) × (t .vars ≤ length (now assignment)) × (t .sizes .n ≤ length (now levels)) ⌝ }
-    ensures { λ r. ⌜ Gives (programIn (t .sizes) (now (heads .entry)) (now (starts .entry)) (now (bodies .entry))) (judged (programIn (t .sizes) (now (heads .entry)) (now (starts .entry)) (now (bodies .entry))) assumed (take (t .vars) (now (assignment .entry)))) r (now (assignment .entry)) (now (assignment .exit)) (now (levels .entry)) (now (levels .exit)) ⌝ }
+    ensures { λ r. ⌜ CheckGives (programIn (t .sizes) (now (heads .entry)) (now (starts .entry)) (now (bodies .entry))) (valuesJudged (programIn (t .sizes) (now (heads .entry)) (now (starts .entry)) (now (bodies .entry))) assumed (take (t .vars) (now (assignment .entry)))) r (now (assignment .entry)) (now (assignment .exit)) (now (levels .entry)) (now (levels .exit)) ⌝ }
 {
     let j = first_false(
         t,
@@ -71,7 +71,7 @@ fn judge<'a>(
         &*assignment,
     );
     if 0 < j {
-        return zeroed(CheckRefusal::FalseClause(j), t.vars, &mut *assignment);
+        return refuse_zeroed(CheckRefusal::FalseClause(j), t.vars, &mut *assignment);
     }
     put_counters(t.sizes, &*assignment, &mut *levels);
     let n = t.sizes.n;
@@ -82,7 +82,7 @@ fn judge<'a>(
     )
 }
 
-// Rows 13 and 14, by how the literals of the answer read were assigned, then these, for the values that they gave, completed.
+// Rows 13 and 14, by how the literals of the answer were assigned, then row 16, for the values that they gave, completed.
 fn assigned<'a>(
     t: Totals,
     heads: &'a [u16],
@@ -91,13 +91,13 @@ fn assigned<'a>(
     before: &'a [u16],
     partners: &'a [u16],
     owners: &'a [u16],
-    x: Read,
+    x: AnswerRead,
     values: &'a [u8],
     assignment: &mut [u8],
     levels: &mut [u8],
 ) -> CheckVerdict
     requires { ⌜ (Ready t (now heads) (now starts) (now bodies) (now before) (now partners) (now owners)) × (t .vars ≤ length (now values)) × (t .vars ≤ length (now assignment)) × (t .sizes .n ≤ length (now levels)) ⌝ }
-    ensures { λ r. ⌜ Gives (programIn (t .sizes) (now (heads .entry)) (now (starts .entry)) (now (bodies .entry))) (afterAssigning (outcomeOf (x .outcome)) (judged (programIn (t .sizes) (now (heads .entry)) (now (starts .entry)) (now (bodies .entry))) (x .assumed) (completed (take (t .vars) (now (values .entry)))))) r (now (assignment .entry)) (now (assignment .exit)) (now (levels .entry)) (now (levels .exit)) ⌝ }
+    ensures { λ r. ⌜ CheckGives (programIn (t .sizes) (now (heads .entry)) (now (starts .entry)) (now (bodies .entry))) (afterAssigning (outcomeOf (x .outcome)) (valuesJudged (programIn (t .sizes) (now (heads .entry)) (now (starts .entry)) (now (bodies .entry))) (x .assumed) (completed (take (t .vars) (now (values .entry)))))) r (now (assignment .entry)) (now (assignment .exit)) (now (levels .entry)) (now (levels .exit)) ⌝ }
 {
     let o = x.outcome;
     match o {
@@ -116,14 +116,14 @@ fn assigned<'a>(
                 &mut *levels,
             )
         }
-        Assigned::Stray(s) => { zeroed(CheckRefusal::StrayVariable(s), t.vars, &mut *assignment) }
+        Assigned::Stray(s) => { refuse_zeroed(CheckRefusal::StrayVariable(s), t.vars, &mut *assignment) }
         Assigned::Repeated(s) => {
-            zeroed(CheckRefusal::RepeatedVariable(s), t.vars, &mut *assignment)
+            refuse_zeroed(CheckRefusal::RepeatedVariable(s), t.vars, &mut *assignment)
         }
     }
 }
 
-// Rows 8, 10, 11 and 12, then these. The answer has `total` bytes; of one that is not overlong, `answer` is all. Its values are read into an
+// Rows 8 and 10 to 16. The answer has `total` bytes; of one that is not overlong, `answer` is all. Its values are read into an
 // array of the call's own, of the largest V, since refusal 11 writes nothing.
 fn check_in<'a>(
     t: Totals,
@@ -139,7 +139,7 @@ fn check_in<'a>(
     levels: &mut [u8],
 ) -> CheckVerdict
     requires { ⌜ Ready t (now heads) (now starts) (now bodies) (now before) (now partners) (now owners) ⌝ }
-    ensures { λ r. ⌜ Gives (programIn (t .sizes) (now (heads .entry)) (now (starts .entry)) (now (bodies .entry))) (checkResult (programIn (t .sizes) (now (heads .entry)) (now (starts .entry)) (now (bodies .entry))) (now (answer .entry)) total (length (now (assignment .entry))) (length (now (levels .entry)))) r (now (assignment .entry)) (now (assignment .exit)) (now (levels .entry)) (now (levels .exit)) ⌝ }
+    ensures { λ r. ⌜ CheckGives (programIn (t .sizes) (now (heads .entry)) (now (starts .entry)) (now (bodies .entry))) (checkResult (programIn (t .sizes) (now (heads .entry)) (now (starts .entry)) (now (bodies .entry))) (now (answer .entry)) total (length (now (assignment .entry))) (length (now (levels .entry)))) r (now (assignment .entry)) (now (assignment .exit)) (now (levels .entry)) (now (levels .exit)) ⌝ }
 {
     if assignment.len() < t.vars {
         return CheckVerdict::Refused(CheckRefusal::ShortBuffer(t.vars));
@@ -182,7 +182,7 @@ fn check_program(
     levels: &mut [u8],
 ) -> CheckVerdict
     requires { ⌜ Stored p ⌝ }
-    ensures { λ r. ⌜ Gives (decoded p) (checkResult (decoded p) (now (answer .entry)) total (length (now (assignment .entry))) (length (now (levels .entry)))) r (now (assignment .entry)) (now (assignment .exit)) (now (levels .entry)) (now (levels .exit)) ⌝ }
+    ensures { λ r. ⌜ CheckGives (decoded p) (checkResult (decoded p) (now (answer .entry)) total (length (now (assignment .entry))) (length (now (levels .entry)))) r (now (assignment .entry)) (now (assignment .exit)) (now (levels .entry)) (now (levels .exit)) ⌝ }
 {
     let k = pairs_of(p);
     let t = totals_of(p, k.count, k.empty);
@@ -203,14 +203,14 @@ fn check_program(
 
 // The check against what the reader gave.
 pub fn check_read(
-    x: Reading,
+    x: ReadResult,
     answer: &[u8],
     total: usize,
     assignment: &mut [u8],
     levels: &mut [u8],
 ) -> CheckVerdict
     requires { ⌜ (x .verdict ≡ Accepted → Stored (x .program)) ⌝ }
-    ensures { λ r. ⌜ Gives (programOf x) (readResult x (now (answer .entry)) total (length (now (assignment .entry))) (length (now (levels .entry)))) r (now (assignment .entry)) (now (assignment .exit)) (now (levels .entry)) (now (levels .exit)) ⌝ }
+    ensures { λ r. ⌜ CheckGives (programRead x) (callResult x (now (answer .entry)) total (length (now (assignment .entry))) (length (now (levels .entry)))) r (now (assignment .entry)) (now (assignment .exit)) (now (levels .entry)) (now (levels .exit)) ⌝ }
 {
     let v = x.verdict;
     match v {

@@ -7,9 +7,9 @@ use mathlib.Core.Path.{_≡_, refl}
 use mathlib.Core.List.{List, [], _∷_, map}
 use lib.ListN.{replicate}
 use Rattle.lists.specs.Ascii.{ascii}
-use Rattle.reader_form.specs.Automaton.{formAt, digitTest, literalOf, leaveOf, digitOf, itemOf, actAt, stepOf}
+use Rattle.reader_form.specs.Automaton.{formAt, digitTest, literalOf, leaveOf, digitOf, itemOf, actAt, formStep}
 use Rattle.reader_work.specs.Work as Work
-use Rattle.reader_work.specs.Reading.{ended, readFrom}
+use Rattle.reader_work.specs.Fold.{ended, readFrom}
 use Rattle.reader.specs.Verdict.{refusalOf, refuseOf, finished, readOf}
 use Rattle.program.specs.Arrays.{emptyProgram}
 use Rattle.program.specs.Arrays.{decoded}
@@ -115,5 +115,5 @@ cases =
     ∷ []
 
 pub cases-hold : map computed cases ≡ cases
-unfolding ascii formAt digitTest literalOf leaveOf digitOf itemOf actAt stepOf Work.grownOf Work.valueOf Work.beginOf Work.atomsEnded Work.headEnded Work.headStored Work.bodyEnded Work.bodyStored Work.openedOf Work.startStored Work.ruleShut Work.endedOf Work.endedHeads Work.endedBodies Work.bracketOf Work.bracketStarts Work.workOf Work.workHeads Work.workStarts Work.workBodies ended readFrom refusalOf refuseOf finished readOf emptyProgram decoded reduct stage levelIn differ bitsFor pairs variables fill fillWith trueCount firstBad foundedResult fillOf fillAnswer fillAssignment fillLevels computed cases
+unfolding ascii formAt digitTest literalOf leaveOf digitOf itemOf actAt formStep Work.grownOf Work.valueAfter Work.beginAfter Work.atomsEnded Work.headEnded Work.headStored Work.bodyEnded Work.bodyStored Work.openedOf Work.startStored Work.ruleShut Work.endedOf Work.endedHeads Work.endedBodies Work.bracketOf Work.bracketStarts Work.workOf Work.workHeads Work.workStarts Work.workBodies ended readFrom refusalOf refuseOf finished readOf emptyProgram decoded reduct stage levelIn differ bitsFor pairs variables fill fillWith trueCount firstBad foundedResult fillOf fillAnswer fillAssignment fillLevels computed cases
 cases-hold = refl

@@ -36,7 +36,7 @@ use Rattle.call_laws.proofs.Texts.{admitted-program, one-admitted, refused-row,
 use Rattle.answer_offers.specs.Offered.{valueBytes}
 use Rattle.truth_clauses.specs.Truth.{valueIn}
 use Rattle.level_stages.specs.Levels.{setIn}
-use Rattle.call_results.specs.Results.{Result, varTotal, programOf}
+use Rattle.call_results.specs.Results.{Result, varTotal, programRead}
 use Rattle.call_results.specs.Order.{NotAfter}
 use Rattle.call_results.proofs.Order.{Told, at-row, met-none}
 use Rattle.call_results.proofs.Order as Order
@@ -45,7 +45,7 @@ use Rattle.refusals.specs.declared.FillRefusal.the-variants.{Text, ShortBuffer,
 use Rattle.call_fill.specs.declared.FillVerdict.{FillVerdict}
 use Rattle.call_fill.specs.declared.FillVerdict.the-variants.{Filled, Refused}
 use Rattle.refusals.specs.Numbers.{fillNumber, fillSpot}
-use Rattle.call_fill.specs.FillOut.{refuse, firstBad, foundedResult, fillResult, afterReading, verdictOf, fillOf, fillAnswer}
+use Rattle.call_fill.specs.FillOut.{fillRefused, firstBad, foundedResult, fillResult, fillAfterReading, fillVerdictOf, fillOf, fillAnswer}
 use Rattle.call_fill.specs.Rows.{FillRow, of-text, short-assignment, short-levels, wrong-length, bad-byte, unfounded, FirstFillRow, FillAnswers, FillAccepts}
 
 -- of one row, the smaller spot is first
@@ -87,7 +87,7 @@ module _ (t s : List ℕ) (a l : ℕ) where
         at-row (textNumber x) (textSpot x) (record { place = rank (textNumber x); met = of-text (F .met); first = text-first })
         (record {
           refusal = Text x;
-          answer-is = ap (λ (y : ReadVerdict). verdictOf (programOf (readOf t) .atoms) (afterReading y (fillResult (programOf (readOf t)) s a l))) v;
+          answer-is = ap (λ (y : ReadVerdict). fillVerdictOf (programRead (readOf t) .atoms) (fillAfterReading y (fillResult (programRead (readOf t)) s a l))) v;
           row-is = refl;
           spot-is = refl;
         })
@@ -96,7 +96,7 @@ module _ (t s : List ℕ) (a l : ℕ) where
 
   module _ (v : readOf t .verdict ≡ Accepted) where
     abbrev P : Program
-    P = programOf (readOf t)
+    P = programRead (readOf t)
 
     A : Admitted t P
     A = admitted-program t v
@@ -106,18 +106,18 @@ module _ (t s : List ℕ) (a l : ℕ) where
 
     result : fillOf t s a l ≡ fillResult P s a l
     unfolding fillOf
-    result = ap (λ (y : ReadVerdict). afterReading y (fillResult P s a l)) v
+    result = ap (λ (y : ReadVerdict). fillAfterReading y (fillResult P s a l)) v
 
-    refuses : (q : FillRefusal) → fillResult P s a l ≡ refuse q → FillAnswers t s a l (fillNumber q) (fillSpot q)
+    refuses : (q : FillRefusal) → fillResult P s a l ≡ fillRefused q → FillAnswers t s a l (fillNumber q) (fillSpot q)
     unfolding fillAnswer
-    refuses q e = record { refusal = q; answer-is = ap (verdictOf (P .atoms)) (result ∙ e); row-is = refl; spot-is = refl }
+    refuses q e = record { refusal = q; answer-is = ap (fillVerdictOf (P .atoms)) (result ∙ e); row-is = refl; spot-is = refl }
 
     -- the result, by its tests
     abbrev by : Bool → Bool → Bool → Bool → Result FillRefusal
     by c d e f =
-        cond c (refuse (ShortBuffer (varTotal P)))
-        (cond d (refuse (ShortBuffer (P .atoms)))
-        (cond e (refuse (BadSet (P .atoms))) (cond f (refuse (BadSet (firstBad s - 1))) (foundedResult P (setIn (P .atoms) s)))))
+        cond c (fillRefused (ShortBuffer (varTotal P)))
+        (cond d (fillRefused (ShortBuffer (P .atoms)))
+        (cond e (fillRefused (BadSet (P .atoms))) (cond f (fillRefused (BadSet (firstBad s - 1))) (foundedResult P (setIn (P .atoms) s)))))
 
     abbrev test1 : Bool
     test1 = ltb a (varTotal P)
@@ -255,7 +255,7 @@ module _ (t s : List ℕ) (a l : ℕ) where
                 at-row 18 (differ P M)
                 (record { place = 6; met = unfounded P A (differ P M) (is-atom (P .atoms) (differ P M) h (differ-le P form M)) (differ-at P form M h); first = go })
                 (refuses (Unfounded (differ P M))
-                (past4 ∙ ap (λ e. cond e (refuse (Unfounded (differ P M))) (Result.accepted 0 (valueBytes (fill P (width (P .atoms)) M)) (tab (P .atoms) (level P M)))) (lt-ltb 0 (differ P M) h)))
+                (past4 ∙ ap (λ e. cond e (fillRefused (Unfounded (differ P M))) (Result.accepted 0 (valueBytes (fill P (width (P .atoms)) M)) (tab (P .atoms) (level P M)))) (lt-ltb 0 (differ P M) h)))
               where
                 go : (k r u : ℕ) → FillRow t s a l k r u → NotAfter 6 18 (differ P M) k r u
                 go k r u (of-text ρ) = absurd (accepted-none t v r u ρ)
@@ -278,11 +278,11 @@ module _ (t s : List ℕ) (a l : ℕ) where
               pub past5 : fillResult P s a l ≡ Result.accepted 0 (valueBytes (fill P (width (P .atoms)) M)) (tab (P .atoms) (level P M))
               unfolding foundedResult
               past5 =
-                  past4 ∙ ap (λ e. cond e (refuse (Unfounded (differ P M))) (Result.accepted 0 (valueBytes (fill P (width (P .atoms)) M)) (tab (P .atoms) (level P M)))) (le-ltb 0 (differ P M) h5)
+                  past4 ∙ ap (λ e. cond e (fillRefused (Unfounded (differ P M))) (Result.accepted 0 (valueBytes (fill P (width (P .atoms)) M)) (tab (P .atoms) (level P M)))) (le-ltb 0 (differ P M) h5)
 
               told6 : Case
               unfolding fillAnswer
-              told6 = met-none (record { count = _; highest = _; answer-is = ap (verdictOf (P .atoms)) (result ∙ past5) }) go
+              told6 = met-none (record { count = _; highest = _; answer-is = ap (fillVerdictOf (P .atoms)) (result ∙ past5) }) go
                 where
                   go : (k r u : ℕ) → FillRow t s a l k r u → ⊥
                   go k r u (of-text ρ) = accepted-none t v r u ρ

@@ -27,7 +27,7 @@ use Rattle.encoding.specs.Fill.{fill}
 use Rattle.theory.proofs.Base.{fill-length}
 use Rattle.theory.proofs.Widths.{width-enough}
 use Rattle.clause_literals.specs.declared.Sizes.{Sizes}
-use Rattle.reader.specs.declared.Reading.{Reading}
+use Rattle.reader.specs.declared.ReadResult.{ReadResult}
 use Rattle.reader.specs.declared.ReadVerdict.{ReadVerdict}
 use Rattle.reader.specs.declared.ReadVerdict.the-variants.{Accepted, Refused as TextRefused}
 use Rattle.refusals.specs.declared.TextRefusal.{TextRefusal}
@@ -36,15 +36,15 @@ use Rattle.answer_offers.specs.Offered.{valueBytes}
 use Rattle.clause_tables.specs.declared.Totals.{Totals}
 use Rattle.clause_tables.specs.Tables.{countersOf, totalsOf, Tabled}
 use Rattle.clause_table_laws.proofs.Elements.{vars-are}
-use Rattle.level_stages.specs.Levels.{setIn, firstUnlike}
+use Rattle.level_stages.specs.Levels.{setIn, firstDifference}
 use Rattle.level_stages.proofs.Levels.{unlike-differ}
-use Rattle.call_results.specs.Results.{Result, trueCount, levelIn, varTotal, programOf}
+use Rattle.call_results.specs.Results.{Result, trueCount, levelByte, varTotal, programRead}
 use Rattle.call_results.proofs.ValueBytes.{atoms-within, value-here}
 use Rattle.refusals.specs.declared.FillRefusal.{FillRefusal}
 use Rattle.refusals.specs.declared.FillRefusal.the-variants.{Text, ShortBuffer, BadSet, Unfounded}
 use Rattle.call_fill.specs.declared.FillVerdict.{FillVerdict}
 use Rattle.call_fill.specs.declared.FillVerdict.the-variants.{Filled, Refused}
-use Rattle.call_fill.specs.FillOut.{refuse, firstBad, foundedResult, fillResult, afterReading, Gives, fillOf, fillAnswer, fillAssignment, fillLevels}
+use Rattle.call_fill.specs.FillOut.{fillRefused, firstBad, foundedResult, fillResult, fillAfterReading, FillGives, fillOf, fillAnswer, fillAssignment, fillLevels}
 
 -- ---- the first byte above 1
 
@@ -81,14 +81,14 @@ pub first-nowhere : (s : List ℕ) (i : ℕ) → NoneTo s i → length s ≤ i �
 unfolding firstBad
 first-nowhere s i f h = sym (first-none (length s) (λ j. ltb 1 (getD s (pred j) 0)) (λ k g. le-ltb 1 (getD s k 0) (f k (omega (arith, g, h)))))
 
--- a table at the front of a list stands before what is left behind it
+-- a table at the front of a list stands before what is left after it
 pub levels-again : (n : ℕ) (ℓ : ℕ → ℕ) (rest : List ℕ) {f : List ℕ} → f ≡ tab n ℓ ++ rest → f ≡ tab n ℓ ++ drop n f
 levels-again n ℓ rest e = e ∙ ap (λ (y : List ℕ). tab n ℓ ++ y) (sym (ap (drop n) e ∙ drop-at (tab n ℓ) rest n (length-tab n ℓ)))
 
 -- ---- refusals
 
-gives-refused : (P : Program) {x : Result FillRefusal} {q : FillRefusal} → x ≡ refuse q → (b l : List ℕ) → Gives P x (Refused q) b b l l
-gives-refused P {x} {q} e b l = subst (λ (y : Result FillRefusal). Gives P y (Refused q) b b l l) (sym e) (refl, refl, refl)
+gives-refused : (P : Program) {x : Result FillRefusal} {q : FillRefusal} → x ≡ fillRefused q → (b l : List ℕ) → FillGives P x (Refused q) b b l l
+gives-refused P {x} {q} e b l = subst (λ (y : Result FillRefusal). FillGives P y (Refused q) b b l l) (sym e) (refl, refl, refl)
 
 -- how many values at the front of a list are true
 true-here : (n : ℕ) (xs ys : List ℕ) → n ≤ length xs → trueCount n (xs ++ ys) ≡ trueCount n xs
@@ -125,9 +125,9 @@ module _ {P : Program} {t : Totals} {hs ss bs ks xs ys : List ℕ} (T : Tabled P
     set-is = ap (λ (k : ℕ). setIn k s) atoms-is
 
     founded-by : {d : Bool} → ltb 0 (differ P M) ≡ d
-        → foundedResult P M ≡ cond d (refuse (Unfounded (differ P M))) (Result.accepted 0 (valueBytes (fill P (width (P .atoms)) M)) (tab (P .atoms) (level P M)))
+        → foundedResult P M ≡ cond d (fillRefused (Unfounded (differ P M))) (Result.accepted 0 (valueBytes (fill P (width (P .atoms)) M)) (tab (P .atoms) (level P M)))
     unfolding foundedResult
-    founded-by e = ap (λ d. cond d (refuse (Unfounded (differ P M))) (Result.accepted 0 (valueBytes (fill P (width (P .atoms)) M)) (tab (P .atoms) (level P M)))) e
+    founded-by e = ap (λ d. cond d (fillRefused (Unfounded (differ P M))) (Result.accepted 0 (valueBytes (fill P (width (P .atoms)) M)) (tab (P .atoms) (level P M)))) e
 
     pub found-room : {f : List ℕ} (rest : List ℕ) → f ≡ tab (t .sizes .n) (level P (setIn (t .sizes .n) s)) ++ rest → t .sizes .n ≤ length f
     found-room rest e =
@@ -146,25 +146,25 @@ module _ {P : Program} {t : Totals} {hs ss bs ks xs ys : List ℕ} (T : Tabled P
         omega (arith, k, v, w, atoms-is, atoms-within P)
 
     -- f holds the levels found
-    module _ {f : List ℕ} (rest : List ℕ) (e : f ≡ tab (t .sizes .n) (level P (setIn (t .sizes .n) s)) ++ rest) {d : ℕ} (g : d ≡ firstUnlike (t .sizes .n) s f) where
+    module _ {f : List ℕ} (rest : List ℕ) (e : f ≡ tab (t .sizes .n) (level P (setIn (t .sizes .n) s)) ++ rest) {d : ℕ} (g : d ≡ firstDifference (t .sizes .n) s f) where
       found-is : f ≡ tab (P .atoms) (level P M) ++ rest
       found-is = e ∙ ap (λ (k : ℕ). tab k (level P (setIn k s)) ++ rest) atoms-is
 
       differ-is : d ≡ differ P M
-      differ-is = g ∙ ap (λ (k : ℕ). firstUnlike k s f) atoms-is ∙ unlike-differ P s f rest found-is
+      differ-is = g ∙ ap (λ (k : ℕ). firstDifference k s f) atoms-is ∙ unlike-differ P s f rest found-is
 
-      pub founded-refused : 0 < d → Gives P (foundedResult P (setIn (t .sizes .n) s)) (Refused (Unfounded d)) b b l l
+      pub founded-refused : 0 < d → FillGives P (foundedResult P (setIn (t .sizes .n) s)) (Refused (Unfounded d)) b b l l
       founded-refused h =
-          subst (λ (X : Atoms). Gives P (foundedResult P X) (Refused (Unfounded d)) b b l l) (sym set-is)
-          (gives-refused P (founded-by (lt-ltb 0 (differ P M) (subst (λ (k : ℕ). 0 < k) differ-is h)) ∙ ap (λ (k : ℕ). refuse (Unfounded k)) (sym differ-is)) b l)
+          subst (λ (X : Atoms). FillGives P (foundedResult P X) (Refused (Unfounded d)) b b l l) (sym set-is)
+          (gives-refused P (founded-by (lt-ltb 0 (differ P M) (subst (λ (k : ℕ). 0 < k) differ-is h)) ∙ ap (λ (k : ℕ). fillRefused (Unfounded k)) (sym differ-is)) b l)
 
       pub founded-accepted : d ≤ 0 → {c m : List ℕ} {j k h : ℕ} → c ≡ valueBytes (fill P (t .sizes .w) (setIn (t .sizes .n) s)) ++ drop (t .vars) b
           → (j ≡ length (take (t .sizes .n) f)) × (m ≡ take (t .sizes .n) f ++ drop j l)
-          → k ≡ trueCount (t .sizes .n) c → h ≡ highest (t .sizes .n) (levelIn m)
-          → Gives P (foundedResult P (setIn (t .sizes .n) s)) (Filled k h) b c l m
+          → k ≡ trueCount (t .sizes .n) c → h ≡ highest (t .sizes .n) (levelByte m)
+          → FillGives P (foundedResult P (setIn (t .sizes .n) s)) (Filled k h) b c l m
       founded-accepted z {c} {m} {j} {k} {h} u x y w =
-          subst (λ (X : Atoms). Gives P (foundedResult P X) (Filled k h) b c l m) (sym set-is)
-          (subst (λ (q : Result FillRefusal). Gives P q (Filled k h) b c l m) (sym (founded-by (le-ltb 0 (differ P M) (subst (λ (k : ℕ). k ≤ 0) differ-is z))))
+          subst (λ (X : Atoms). FillGives P (foundedResult P X) (Filled k h) b c l m) (sym set-is)
+          (subst (λ (q : Result FillRefusal). FillGives P q (Filled k h) b c l m) (sym (founded-by (le-ltb 0 (differ P M) (subst (λ (k : ℕ). k ≤ 0) differ-is z))))
           (ap₂ Filled count-is highest-is, values-are, levels-are))
         where
           vs : List ℕ
@@ -191,10 +191,10 @@ module _ {P : Program} {t : Totals} {hs ss bs ks xs ys : List ℕ} (T : Tabled P
           count-is =
               y ∙ ap₂ trueCount atoms-is values-are ∙ true-here (P .atoms) vs (drop (varTotal P) b) (omega (arith, atoms-within P, values-length))
 
-          highest-is : h ≡ highest (P .atoms) (levelIn ls)
+          highest-is : h ≡ highest (P .atoms) (levelByte ls)
           highest-is =
-              w ∙ ap₂ (λ (i : ℕ) (y : List ℕ). highest i (levelIn y)) atoms-is levels-are
-              ∙ highest-same (P .atoms) (levelIn (ls ++ drop (P .atoms) l)) (levelIn ls) (λ i g. getD-here ls (drop (P .atoms) l) 0 (P .atoms) i (length-tab (P .atoms) (level P M)) g)
+              w ∙ ap₂ (λ (i : ℕ) (y : List ℕ). highest i (levelByte y)) atoms-is levels-are
+              ∙ highest-same (P .atoms) (levelByte (ls ++ drop (P .atoms) l)) (levelByte ls) (λ i g. getD-here ls (drop (P .atoms) l) 0 (P .atoms) i (length-tab (P .atoms) (level P M)) g)
 
     -- ---- rows 8 and 17
 
@@ -203,9 +203,9 @@ module _ {P : Program} {t : Totals} {hs ss bs ks xs ys : List ℕ} (T : Tabled P
 
     abbrev by : Bool → Bool → Bool → Bool → Result FillRefusal
     by c d e f =
-        cond c (refuse (ShortBuffer (varTotal P)))
-        (cond d (refuse (ShortBuffer (P .atoms)))
-        (cond e (refuse (BadSet (P .atoms))) (cond f (refuse (BadSet (firstBad s - 1))) (foundedResult P M))))
+        cond c (fillRefused (ShortBuffer (varTotal P)))
+        (cond d (fillRefused (ShortBuffer (P .atoms)))
+        (cond e (fillRefused (BadSet (P .atoms))) (cond f (fillRefused (BadSet (firstBad s - 1))) (foundedResult P M))))
 
     abbrev test2 : Bool
     test2 = ltb (length l) (P .atoms)
@@ -216,61 +216,61 @@ module _ {P : Program} {t : Totals} {hs ss bs ks xs ys : List ℕ} (T : Tabled P
     abbrev test4 : Bool
     test4 = ltb 0 (firstBad s)
 
-    pub short-assignment : length b < t .vars → Gives P x (Refused (ShortBuffer (t .vars))) b b l l
+    pub short-assignment : length b < t .vars → FillGives P x (Refused (ShortBuffer (t .vars))) b b l l
     short-assignment h =
-        subst (λ (v : ℕ). Gives P x (Refused (ShortBuffer v)) b b l l) (sym vars-is)
+        subst (λ (v : ℕ). FillGives P x (Refused (ShortBuffer v)) b b l l) (sym vars-is)
         (gives-refused P (ap (λ c. by c test2 test3 test4) (lt-ltb (length b) (varTotal P) (subst (λ (v : ℕ). length b < v) vars-is h))) b l)
 
     module _ (h1 : t .vars ≤ length b) where
       past1 : x ≡ by false test2 test3 test4
       past1 = ap (λ c. by c test2 test3 test4) (le-ltb (length b) (varTotal P) (subst (λ (v : ℕ). v ≤ length b) vars-is h1))
 
-      pub short-levels : length l < t .sizes .n → Gives P x (Refused (ShortBuffer (t .sizes .n))) b b l l
+      pub short-levels : length l < t .sizes .n → FillGives P x (Refused (ShortBuffer (t .sizes .n))) b b l l
       short-levels h =
-          subst (λ (v : ℕ). Gives P x (Refused (ShortBuffer v)) b b l l) (sym atoms-is)
+          subst (λ (v : ℕ). FillGives P x (Refused (ShortBuffer v)) b b l l) (sym atoms-is)
           (gives-refused P (past1 ∙ ap (λ d. by false d test3 test4) (lt-ltb (length l) (P .atoms) (subst (λ (v : ℕ). length l < v) atoms-is h))) b l)
 
       module _ (h2 : t .sizes .n ≤ length l) where
         past2 : x ≡ by false false test3 test4
         past2 = past1 ∙ ap (λ d. by false d test3 test4) (le-ltb (length l) (P .atoms) (subst (λ (v : ℕ). v ≤ length l) atoms-is h2))
 
-        pub wrong-size : (length s ≡ t .sizes .n → ⊥) → Gives P x (Refused (BadSet (t .sizes .n))) b b l l
+        pub wrong-size : (length s ≡ t .sizes .n → ⊥) → FillGives P x (Refused (BadSet (t .sizes .n))) b b l l
         wrong-size h =
-            subst (λ (v : ℕ). Gives P x (Refused (BadSet v)) b b l l) (sym atoms-is)
+            subst (λ (v : ℕ). FillGives P x (Refused (BadSet v)) b b l l) (sym atoms-is)
             (gives-refused P (past2 ∙ ap (λ e. by false false (not e) test4) (ne-eqb (length s) (P .atoms) (λ q. h (q ∙ sym atoms-is)))) b l)
 
         module _ (h3 : length s ≡ t .sizes .n) {i : ℕ} (e : i ≡ firstBad s) where
           past3 : x ≡ by false false false test4
           past3 = past2 ∙ ap (λ e. by false false (not e) test4) (eq-eqb (length s) (P .atoms) (h3 ∙ atoms-is))
 
-          pub bad-at : 0 < i → Gives P x (Refused (BadSet (i - 1))) b b l l
+          pub bad-at : 0 < i → FillGives P x (Refused (BadSet (i - 1))) b b l l
           bad-at h =
-              gives-refused P (past3 ∙ ap (λ e. by false false false e) (lt-ltb 0 (firstBad s) (subst (λ (k : ℕ). 0 < k) e h)) ∙ ap (λ (k : ℕ). refuse (BadSet (k - 1))) (sym e)) b l
+              gives-refused P (past3 ∙ ap (λ e. by false false false e) (lt-ltb 0 (firstBad s) (subst (λ (k : ℕ). 0 < k) e h)) ∙ ap (λ (k : ℕ). fillRefused (BadSet (k - 1))) (sym e)) b l
 
-          pub set-founded : i ≤ 0 → {r : FillVerdict} {c m : List ℕ} → Gives P (foundedResult P (setIn (t .sizes .n) s)) r b c l m → Gives P x r b c l m
+          pub set-founded : i ≤ 0 → {r : FillVerdict} {c m : List ℕ} → FillGives P (foundedResult P (setIn (t .sizes .n) s)) r b c l m → FillGives P x r b c l m
           set-founded h {r} {c} {m} u =
-              subst (λ (y : Result FillRefusal). Gives P y r b c l m) (sym (past3 ∙ ap (λ e. by false false false e) (le-ltb 0 (firstBad s) (subst (λ (k : ℕ). k ≤ 0) e h))))
-              (subst (λ (X : Atoms). Gives P (foundedResult P X) r b c l m) set-is u)
+              subst (λ (y : Result FillRefusal). FillGives P y r b c l m) (sym (past3 ∙ ap (λ e. by false false false e) (le-ltb 0 (firstBad s) (subst (λ (k : ℕ). k ≤ 0) e h))))
+              (subst (λ (X : Atoms). FillGives P (foundedResult P X) r b c l m) set-is u)
 
 -- ---- on a program that was read, and on a text
 
 module _ (s b l : List ℕ) {r : FillVerdict} {c m : List ℕ} where
-  pub same-program : {P Q : Program} → P ≡ Q → Gives P (fillResult P s (length b) (length l)) r b c l m → Gives Q (fillResult Q s (length b) (length l)) r b c l m
-  same-program e u = subst (λ (X : Program). Gives X (fillResult X s (length b) (length l)) r b c l m) e u
+  pub same-program : {P Q : Program} → P ≡ Q → FillGives P (fillResult P s (length b) (length l)) r b c l m → FillGives Q (fillResult Q s (length b) (length l)) r b c l m
+  same-program e u = subst (λ (X : Program). FillGives X (fillResult X s (length b) (length l)) r b c l m) e u
 
 -- the answer and the buffers are those of the call
 abbrev pub Called : List ℕ → List ℕ → List ℕ → List ℕ → FillVerdict → List ℕ → List ℕ → Type 0
 Called t s b l r c m = (r ≡ fillAnswer t s (length b) (length l)) × (c ≡ fillAssignment t s b (length l)) × (m ≡ fillLevels t s (length b) l)
 
-module _ (t s b l : List ℕ) {x : Reading} (e : x ≡ readOf t) {r : FillVerdict} {c m : List ℕ} where
-  called : {q : ReadVerdict} → x .verdict ≡ q → Gives (programOf x) (afterReading q (fillResult (programOf x) s (length b) (length l))) r b c l m → Called t s b l r c m
+module _ (t s b l : List ℕ) {x : ReadResult} (e : x ≡ readOf t) {r : FillVerdict} {c m : List ℕ} where
+  called : {q : ReadVerdict} → x .verdict ≡ q → FillGives (programRead x) (fillAfterReading q (fillResult (programRead x) s (length b) (length l))) r b c l m → Called t s b l r c m
   unfolding fillOf fillAnswer fillAssignment fillLevels
   called v u =
-      subst (λ (y : Reading). Gives (programOf y) (afterReading (y .verdict) (fillResult (programOf y) s (length b) (length l))) r b c l m) e
-      (subst (λ (q : ReadVerdict). Gives (programOf x) (afterReading q (fillResult (programOf x) s (length b) (length l))) r b c l m) (sym v) u)
+      subst (λ (y : ReadResult). FillGives (programRead y) (fillAfterReading (y .verdict) (fillResult (programRead y) s (length b) (length l))) r b c l m) e
+      (subst (λ (q : ReadVerdict). FillGives (programRead x) (fillAfterReading q (fillResult (programRead x) s (length b) (length l))) r b c l m) (sym v) u)
 
-  pub read-accepted : x .verdict ≡ Accepted → Gives (programOf x) (fillResult (programOf x) s (length b) (length l)) r b c l m → Called t s b l r c m
+  pub read-accepted : x .verdict ≡ Accepted → FillGives (programRead x) (fillResult (programRead x) s (length b) (length l)) r b c l m → Called t s b l r c m
   read-accepted v u = called v u
 
-pub read-refused : (t s b l : List ℕ) {x : Reading} → x ≡ readOf t → {q : TextRefusal} → x .verdict ≡ TextRefused q → Called t s b l (Refused (Text q)) b l
-read-refused t s b l {x} e {q} v = called t s b l e v (gives-refused (programOf x) refl b l)
+pub read-refused : (t s b l : List ℕ) {x : ReadResult} → x ≡ readOf t → {q : TextRefusal} → x .verdict ≡ TextRefused q → Called t s b l (Refused (Text q)) b l
+read-refused t s b l {x} e {q} v = called t s b l e v (gives-refused (programRead x) refl b l)

@@ -26,7 +26,7 @@ use Rattle.theory.proofs.Atoms.{is-atom}
 use Rattle.theory.proofs.Decided.{decided, differ-at, differ-le}
 use Rattle.theory.proofs.Base.{fill-has}
 use Rattle.theory.proofs.Widths.{width-enough}
-use Rattle.reader.specs.declared.Reading.{Reading}
+use Rattle.reader.specs.declared.ReadResult.{ReadResult}
 use Rattle.refusals.specs.declared.TextRefusal.{TextRefusal}
 use Rattle.reader.specs.declared.ReadVerdict.{ReadVerdict}
 use Rattle.reader.specs.declared.ReadVerdict.the-variants.{Accepted, Refused as TextRefused}
@@ -39,13 +39,13 @@ use Rattle.call_laws.proofs.Texts.{admitted-program}
 use Rattle.answer_offers.specs.Offered.{valueBytes}
 use Rattle.truth_clauses.specs.Truth.{valueIn}
 use Rattle.level_stages.specs.Levels.{setIn}
-use Rattle.call_results.specs.Results.{Result, trueCount, assignmentAfter, levelsAfter, varTotal, programOf}
+use Rattle.call_results.specs.Results.{Result, trueCount, assignmentAfter, levelsAfter, varTotal, programRead}
 use Rattle.call_results.proofs.ValueBytes.{value-same, levels-same}
 use Rattle.refusals.specs.declared.FillRefusal.{FillRefusal}
 use Rattle.refusals.specs.declared.FillRefusal.the-variants.{Text}
 use Rattle.call_fill.specs.declared.FillVerdict.{FillVerdict}
 use Rattle.call_fill.specs.declared.FillVerdict.the-variants.{Filled, Refused}
-use Rattle.call_fill.specs.FillOut.{fillResult, afterReading, verdictOf, leaves, fillOf, fillAnswer, fillAssignment, fillLevels}
+use Rattle.call_fill.specs.FillOut.{fillResult, fillAfterReading, fillVerdictOf, fillZeroes, fillOf, fillAnswer, fillAssignment, fillLevels}
 use Rattle.call_fill.specs.Rows.{FillRow, FillAccepts, Fills, short-assignment, short-levels, wrong-length, bad-byte, unfounded}
 use Rattle.call_fill.proofs.FirstRows.{fill-accepts-none, stable-result, none-bad}
 
@@ -75,17 +75,17 @@ pub record Founded (s b l : List ℕ) (Q : Program) : Type 0 where
   pub stable : Stable Q (setIn (Q .atoms) s)
 
 -- the program of an admitted text is the one that the reader keeps
-is-program : (t : List ℕ) (P : Program) → Admitted t P → programOf (readOf t) ≡ P
-is-program t P A = ap (λ (x : Reading). decoded (x .program)) (admitted-answer t P A) ∙ decoded-kept P
+is-program : (t : List ℕ) (P : Program) → Admitted t P → programRead (readOf t) ≡ P
+is-program t P A = ap (λ (x : ReadResult). decoded (x .program)) (admitted-answer t P A) ∙ decoded-kept P
 
 refused-answer : (t s : List ℕ) (a l : ℕ) (r : TextRefusal) → readOf t .verdict ≡ TextRefused r → fillAnswer t s a l ≡ Refused (Text r)
 unfolding fillAnswer fillOf
-refused-answer t s a l r v = ap (λ (y : ReadVerdict). verdictOf (programOf (readOf t) .atoms) (afterReading y (fillResult (programOf (readOf t)) s a l))) v
+refused-answer t s a l r v = ap (λ (y : ReadVerdict). fillVerdictOf (programRead (readOf t) .atoms) (fillAfterReading y (fillResult (programRead (readOf t)) s a l))) v
 
 module _ (t s b l : List ℕ) where
   module _ (v : readOf t .verdict ≡ Accepted) where
     abbrev P : Program
-    P = programOf (readOf t)
+    P = programRead (readOf t)
 
     abbrev M : Atoms
     M = setIn (P .atoms) s
@@ -103,7 +103,7 @@ module _ (t s b l : List ℕ) where
       answered : fillAnswer t s (length b) (length l) ≡ answer
       unfolding fillAnswer
       answered =
-          ap (verdictOf (P .atoms)) result
+          ap (fillVerdictOf (P .atoms)) result
           ∙ ap₂ Filled (filled-count P (A .limits .all-atoms) M (f .stable)) (levels-same (P .atoms) (level P M))
 
       fills : Fills t s b l (sum (P .atoms) (λ a. cond (M a) 1 0)) (highest (P .atoms) (level P M)) P
@@ -118,7 +118,7 @@ module _ (t s b l : List ℕ) where
             stable = f .stable;
             count-is = refl;
             highest-is = refl;
-            assignment-is = ap (λ (x : Result FillRefusal). assignmentAfter leaves (varTotal P) x b) result;
+            assignment-is = ap (λ (x : Result FillRefusal). assignmentAfter fillZeroes (varTotal P) x b) result;
             levels-is = ap (λ (x : Result FillRefusal). levelsAfter (P .atoms) x l) result;
           }
 
@@ -168,7 +168,7 @@ module _ (t s b l : List ℕ) where
       go Accepted v =
           let f = founded v (record { count = k; highest = h; answer-is = e }) in
           let q = ap numbersIn (sym (answered v f) ∙ e) in
-          (programOf (readOf t), subst (λ (y : ℕ × ℕ). Fills t s b l (y .0) (y .1) (programOf (readOf t))) q (fills v f))
+          (programRead (readOf t), subst (λ (y : ℕ × ℕ). Fills t s b l (y .0) (y .1) (programRead (readOf t))) q (fills v f))
       go (TextRefused r) v = absurd (true≢false (ap isFilled (sym e ∙ refused-answer t s (length b) (length l) r v)))
 
   pub stable-fills : (P : Program) → Admitted t P → Founded s b l P
@@ -181,13 +181,13 @@ module _ (t s b l : List ℕ) where
       (λ f. (answered v f, fills v f))
     where
       v : readOf t .verdict ≡ Accepted
-      v = ap (λ (x : Reading). x .verdict) (admitted-answer t P A)
+      v = ap (λ (x : ReadResult). x .verdict) (admitted-answer t P A)
 
   pub fill-kept : (r : FillRefusal) → fillAnswer t s (length b) (length l) ≡ Refused r → (fillAssignment t s b (length l) ≡ b) × (fillLevels t s (length b) l ≡ l)
   unfolding fillAnswer fillAssignment fillLevels isFilled
   fill-kept r e = go (fillOf t s (length b) (length l)) e
     where
-      go : (x : Result FillRefusal) → verdictOf (programOf (readOf t) .atoms) x ≡ Refused r
-          → (assignmentAfter leaves (varTotal (programOf (readOf t))) x b ≡ b) × (levelsAfter (programOf (readOf t) .atoms) x l ≡ l)
+      go : (x : Result FillRefusal) → fillVerdictOf (programRead (readOf t) .atoms) x ≡ Refused r
+          → (assignmentAfter fillZeroes (varTotal (programRead (readOf t))) x b ≡ b) × (levelsAfter (programRead (readOf t) .atoms) x l ≡ l)
       go (Result.accepted c bs ls) q = absurd (true≢false (ap isFilled q))
       go (Result.refused y) q = (refl, refl)

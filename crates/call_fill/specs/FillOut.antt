@@ -23,7 +23,7 @@ use Rattle.reader.specs.declared.ReadVerdict.the-variants.{Accepted, Refused as
 use Rattle.reader.specs.Verdict.{readOf}
 use Rattle.answer_offers.specs.Offered.{valueBytes}
 use Rattle.level_stages.specs.Levels.{setIn}
-use Rattle.call_results.specs.Results.{Result, trueCount, levelIn, assignmentAfter, levelsAfter, varTotal, programOf}
+use Rattle.call_results.specs.Results.{Result, trueCount, levelByte, assignmentAfter, levelsAfter, varTotal, programRead}
 use Rattle.refusals.specs.declared.FillRefusal.{FillRefusal}
 use Rattle.refusals.specs.declared.FillRefusal.the-variants.{Text, ShortBuffer, BadSet, Unfounded}
 use Rattle.call_fill.specs.declared.FillVerdict.{FillVerdict}
@@ -31,53 +31,53 @@ use Rattle.call_fill.specs.declared.FillVerdict.the-variants.{Filled, Re
 
 -- ---- the rows, last to first
 
-abbrev pub refuse : FillRefusal → Result FillRefusal
-refuse r = Result.refused r
+abbrev pub fillRefused : FillRefusal → Result FillRefusal
+fillRefused r = Result.refused r
 
 unfoldable pub firstBad : List ℕ → ℕ
 firstBad s = first (length s) (λ i. ltb 1 (getD s (pred i) 0))
 
 unfoldable pub foundedResult : Program → Atoms → Result FillRefusal
 foundedResult P M =
-    cond (ltb 0 (differ P M)) (refuse (Unfounded (differ P M)))
+    cond (ltb 0 (differ P M)) (fillRefused (Unfounded (differ P M)))
     (Result.accepted 0 (valueBytes (fill P (width (P .atoms)) M)) (tab (P .atoms) (level P M)))
 
 abbrev pub setResult : Program → List ℕ → Result FillRefusal
 setResult P s =
-    cond (not (eqb (length s) (P .atoms))) (refuse (BadSet (P .atoms)))
-    (cond (ltb 0 (firstBad s)) (refuse (BadSet (firstBad s - 1))) (foundedResult P (setIn (P .atoms) s)))
+    cond (not (eqb (length s) (P .atoms))) (fillRefused (BadSet (P .atoms)))
+    (cond (ltb 0 (firstBad s)) (fillRefused (BadSet (firstBad s - 1))) (foundedResult P (setIn (P .atoms) s)))
 
 abbrev pub fillResult : Program → List ℕ → ℕ → ℕ → Result FillRefusal
 fillResult P s a l =
-    cond (ltb a (varTotal P)) (refuse (ShortBuffer (varTotal P)))
-    (cond (ltb l (P .atoms)) (refuse (ShortBuffer (P .atoms))) (setResult P s))
+    cond (ltb a (varTotal P)) (fillRefused (ShortBuffer (varTotal P)))
+    (cond (ltb l (P .atoms)) (fillRefused (ShortBuffer (P .atoms))) (setResult P s))
 
 -- ---- the call
 
-abbrev pub afterReading : ReadVerdict → Result FillRefusal → Result FillRefusal
-afterReading Accepted x = x
-afterReading (TextRefused r) x = refuse (Text r)
+abbrev pub fillAfterReading : ReadVerdict → Result FillRefusal → Result FillRefusal
+fillAfterReading Accepted x = x
+fillAfterReading (TextRefused r) x = fillRefused (Text r)
 
-abbrev pub verdictOf : ℕ → Result FillRefusal → FillVerdict
-verdictOf n (Result.accepted c bs ls) = Filled (trueCount n bs) (highest n (levelIn ls))
-verdictOf n (Result.refused r) = Refused r
+abbrev pub fillVerdictOf : ℕ → Result FillRefusal → FillVerdict
+fillVerdictOf n (Result.accepted c bs ls) = Filled (trueCount n bs) (highest n (levelByte ls))
+fillVerdictOf n (Result.refused r) = Refused r
 
 -- no refusal writes
-abbrev pub leaves : FillRefusal → Bool
-leaves r = false
+abbrev pub fillZeroes : FillRefusal → Bool
+fillZeroes r = false
 
 -- of program P, the result x is answered by r and leaves the buffers b and l as c and m
-abbrev pub Gives : Program → Result FillRefusal → FillVerdict → List ℕ → List ℕ → List ℕ → List ℕ → Type 0
-Gives P x r b c l m = (r ≡ verdictOf (P .atoms) x) × (c ≡ assignmentAfter leaves (varTotal P) x b) × (m ≡ levelsAfter (P .atoms) x l)
+abbrev pub FillGives : Program → Result FillRefusal → FillVerdict → List ℕ → List ℕ → List ℕ → List ℕ → Type 0
+FillGives P x r b c l m = (r ≡ fillVerdictOf (P .atoms) x) × (c ≡ assignmentAfter fillZeroes (varTotal P) x b) × (m ≡ levelsAfter (P .atoms) x l)
 
 unfoldable pub fillOf : List ℕ → List ℕ → ℕ → ℕ → Result FillRefusal
-fillOf t s a l = afterReading (readOf t .verdict) (fillResult (programOf (readOf t)) s a l)
+fillOf t s a l = fillAfterReading (readOf t .verdict) (fillResult (programRead (readOf t)) s a l)
 
 unfoldable pub fillAnswer : List ℕ → List ℕ → ℕ → ℕ → FillVerdict
-fillAnswer t s a l = verdictOf (programOf (readOf t) .atoms) (fillOf t s a l)
+fillAnswer t s a l = fillVerdictOf (programRead (readOf t) .atoms) (fillOf t s a l)
 
 unfoldable pub fillAssignment : List ℕ → List ℕ → List ℕ → ℕ → List ℕ
-fillAssignment t s b l = assignmentAfter leaves (varTotal (programOf (readOf t))) (fillOf t s (length b) l) b
+fillAssignment t s b l = assignmentAfter fillZeroes (varTotal (programRead (readOf t))) (fillOf t s (length b) l) b
 
 unfoldable pub fillLevels : List ℕ → List ℕ → ℕ → List ℕ → List ℕ
-fillLevels t s a b = levelsAfter (programOf (readOf t) .atoms) (fillOf t s a (length b)) b
+fillLevels t s a b = levelsAfter (programRead (readOf t) .atoms) (fillOf t s a (length b)) b

@@ -21,7 +21,7 @@ ghost use Rattle.meaning.specs.Stage.{level};
 ghost use Rattle.program.specs.Arrays.{decoded};
 ghost use Rattle.clause_tables.specs.Tables.{Stored, programIn, Ready};
 ghost use Rattle.level_stages.specs.Levels.{setIn};
-ghost use Rattle.call_fill.specs.FillOut.{firstBad, Gives, foundedResult, fillResult, fillAnswer, fillAssignment, fillLevels};
+ghost use Rattle.call_fill.specs.FillOut.{firstBad, FillGives, foundedResult, fillResult, fillAnswer, fillAssignment, fillLevels};
 
 // How many atoms are true, and the highest level; or a refusal.
 pub enum FillVerdict {
@@ -58,7 +58,7 @@ fn fill_found<'a>(
     levels: &mut [u8],
 ) -> FillVerdict
     requires { ⌜ (Ready t (now heads) (now starts) (now bodies) (now before) (now partners) (now owners)) × (t .sizes .n ≤ length (now set)) × (now found ≡ tab (t .sizes .n) (level (programIn (t .sizes) (now heads) (now starts) (now bodies)) (setIn (t .sizes .n) (now set))) ++ drop (t .sizes .n) (now found)) × (t .vars ≤ length (now assignment)) × (t .sizes .n ≤ length (now levels)) ⌝ }
-    ensures { λ r. ⌜ Gives (programIn (t .sizes) (now (heads .entry)) (now (starts .entry)) (now (bodies .entry))) (foundedResult (programIn (t .sizes) (now (heads .entry)) (now (starts .entry)) (now (bodies .entry))) (setIn (t .sizes .n) (now (set .entry)))) r (now (assignment .entry)) (now (assignment .exit)) (now (levels .entry)) (now (levels .exit)) ⌝ }
+    ensures { λ r. ⌜ FillGives (programIn (t .sizes) (now (heads .entry)) (now (starts .entry)) (now (bodies .entry))) (foundedResult (programIn (t .sizes) (now (heads .entry)) (now (starts .entry)) (now (bodies .entry))) (setIn (t .sizes .n) (now (set .entry)))) r (now (assignment .entry)) (now (assignment .exit)) (now (levels .entry)) (now (levels .exit)) ⌝ }
 {
     let n = t.sizes.n;
     let a = first_difference(n, set, found);
@@ -81,7 +81,7 @@ fn fill_found<'a>(
     FillVerdict::Filled(true_count(n, &*assignment), highest_of(n, &*levels))
 }
 
-// The same, once the levels are found.
+// Row 18, where the levels are found; if it is not met, the assignment and the levels are written.
 fn fill_founded<'a>(
     t: Totals,
     heads: &'a [u16],
@@ -95,7 +95,7 @@ fn fill_founded<'a>(
     levels: &mut [u8],
 ) -> FillVerdict
     requires { ⌜ (Ready t (now heads) (now starts) (now bodies) (now before) (now partners) (now owners)) × (t .sizes .n ≤ length (now set)) × (t .vars ≤ length (now assignment)) × (t .sizes .n ≤ length (now levels)) ⌝ }
-    ensures { λ r. ⌜ Gives (programIn (t .sizes) (now (heads .entry)) (now (starts .entry)) (now (bodies .entry))) (foundedResult (programIn (t .sizes) (now (heads .entry)) (now (starts .entry)) (now (bodies .entry))) (setIn (t .sizes .n) (now (set .entry)))) r (now (assignment .entry)) (now (assignment .exit)) (now (levels .entry)) (now (levels .exit)) ⌝ }
+    ensures { λ r. ⌜ FillGives (programIn (t .sizes) (now (heads .entry)) (now (starts .entry)) (now (bodies .entry))) (foundedResult (programIn (t .sizes) (now (heads .entry)) (now (starts .entry)) (now (bodies .entry))) (setIn (t .sizes .n) (now (set .entry)))) r (now (assignment .entry)) (now (assignment .exit)) (now (levels .entry)) (now (levels .exit)) ⌝ }
 {
     let mut found = [0u8; 126];
     stage_levels(
@@ -124,7 +124,7 @@ fn fill_founded<'a>(
     )
 }
 
-// Rows 8 and 17, then these.
+// Rows 8, 17 and 18, for the tables of a program; if none is met, the assignment and the levels are written.
 fn fill_in<'a>(
     t: Totals,
     heads: &'a [u16],
@@ -138,7 +138,7 @@ fn fill_in<'a>(
     levels: &mut [u8],
 ) -> FillVerdict
     requires { ⌜ Ready t (now heads) (now starts) (now bodies) (now before) (now partners) (now owners) ⌝ }
-    ensures { λ r. ⌜ Gives (programIn (t .sizes) (now (heads .entry)) (now (starts .entry)) (now (bodies .entry))) (fillResult (programIn (t .sizes) (now (heads .entry)) (now (starts .entry)) (now (bodies .entry))) (now (set .entry)) (length (now (assignment .entry))) (length (now (levels .entry)))) r (now (assignment .entry)) (now (assignment .exit)) (now (levels .entry)) (now (levels .exit)) ⌝ }
+    ensures { λ r. ⌜ FillGives (programIn (t .sizes) (now (heads .entry)) (now (starts .entry)) (now (bodies .entry))) (fillResult (programIn (t .sizes) (now (heads .entry)) (now (starts .entry)) (now (bodies .entry))) (now (set .entry)) (length (now (assignment .entry))) (length (now (levels .entry)))) r (now (assignment .entry)) (now (assignment .exit)) (now (levels .entry)) (now (levels .exit)) ⌝ }
 {
     if assignment.len() < t.vars {
         return FillVerdict::Refused(FillRefusal::ShortBuffer(t.vars));
@@ -171,7 +171,7 @@ fn fill_in<'a>(
 // Filling out for a program that was read.
 fn fill_program(p: Program, set: &[u8], assignment: &mut [u8], levels: &mut [u8]) -> FillVerdict
     requires { ⌜ Stored p ⌝ }
-    ensures { λ r. ⌜ Gives (decoded p) (fillResult (decoded p) (now (set .entry)) (length (now (assignment .entry))) (length (now (levels .entry)))) r (now (assignment .entry)) (now (assignment .exit)) (now (levels .entry)) (now (levels .exit)) ⌝ }
+    ensures { λ r. ⌜ FillGives (decoded p) (fillResult (decoded p) (now (set .entry)) (length (now (assignment .entry))) (length (now (levels .entry)))) r (now (assignment .entry)) (now (assignment .exit)) (now (levels .entry)) (now (levels .exit)) ⌝ }
 {
     let k = pairs_of(p);
     let t = totals_of(p, k.count, k.empty);

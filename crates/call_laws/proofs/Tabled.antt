@@ -9,7 +9,7 @@ use Rattle.meaning.specs.Program.{Program}
 use Rattle.encoding.specs.Clauses.{pairCount, emptyBodies}
 use Rattle.program.specs.declared.Program.{Program as Arrays}
 use Rattle.program.specs.Arrays.{decoded}
-use Rattle.reader.specs.declared.Reading.{Reading}
+use Rattle.reader.specs.declared.ReadResult.{ReadResult}
 use Rattle.reader.specs.declared.ReadVerdict.the-variants.{Accepted}
 use Rattle.reader.specs.Verdict.{refuseOf, readOf}
 use Rattle.reader.specs.Counted.{countedOf}
@@ -47,13 +47,13 @@ tabled {A} S {k} e {t} f =
 pub stored : (t : List ℕ) → readOf t .verdict ≡ Accepted → Stored (readOf t .program)
 stored t a =
     let q = accepted-admitted t a in
-    subst (λ (A : Arrays). Stored A) (sym (ap (λ (x : Reading). x .program) (admitted-answer t (q .0) (q .1)))) (kept-stored (q .0) (q .1 .limits))
+    subst (λ (A : Arrays). Stored A) (sym (ap (λ (x : ReadResult). x .program) (admitted-answer t (q .0) (q .1)))) (kept-stored (q .0) (q .1 .limits))
 
-pub accepted-stored : (t : List ℕ) {r : Reading} → r ≡ readOf t → r .verdict ≡ Accepted → Stored (r .program)
-accepted-stored t e v = subst (λ (x : Reading). Stored (x .program)) (sym e) (stored t (ap (λ (x : Reading). x .verdict) (sym e) ∙ v))
+pub accepted-stored : (t : List ℕ) {r : ReadResult} → r ≡ readOf t → r .verdict ≡ Accepted → Stored (r .program)
+accepted-stored t e v = subst (λ (x : ReadResult). Stored (x .program)) (sym e) (stored t (ap (λ (x : ReadResult). x .verdict) (sym e) ∙ v))
 
 -- of an accepted text the arrays are kept
-pub counted-stored : (f : List ℕ) (n : ℕ) {r : Reading} → r ≡ countedOf f n → r .verdict ≡ Accepted → Stored (r .program)
+pub counted-stored : (f : List ℕ) (n : ℕ) {r : ReadResult} → r ≡ countedOf f n → r .verdict ≡ Accepted → Stored (r .program)
 unfolding refuseOf
 counted-stored f n {r} e v = ⊎-elim short long (le-or-lt n 65536)
   where
@@ -61,4 +61,4 @@ counted-stored f n {r} e v = ⊎-elim short long (le-or-lt n 65536)
     short h = accepted-stored f (e ∙ sym (counted-short f n h)) v
 
     long : 65536 < n → Stored (r .program)
-    long h = absurd (not-both v (ap (λ (x : Reading). x .verdict) (e ∙ sym (counted-long f n h))))
+    long h = absurd (not-both v (ap (λ (x : ReadResult). x .verdict) (e ∙ sym (counted-long f n h))))

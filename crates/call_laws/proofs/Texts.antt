@@ -9,7 +9,7 @@ use Rattle.program.specs.Arrays.{decoded}
 use Rattle.program.proofs.Decode.{decoded-kept}
 use Rattle.refusals.specs.declared.TextRefusal.{TextRefusal}
 use Rattle.refusals.specs.Numbers.{textNumber, textSpot}
-use Rattle.reader.specs.declared.Reading.{Reading}
+use Rattle.reader.specs.declared.ReadResult.{ReadResult}
 use Rattle.reader.specs.declared.ReadVerdict.the-variants.{Accepted, Refused}
 use Rattle.reader.specs.Verdict.{readOf}
 use Rattle.reader_laws.specs.Row.{FirstRow}
@@ -22,7 +22,7 @@ pub admitted-program : (t : List ℕ) → readOf t .verdict ≡ Accepted → Adm
 admitted-program t e = go (accepted-admitted t e)
   where
     go : ((P : Program) × Admitted t P) → Admitted t (decoded (readOf t .program))
-    go (P, a) = subst (Admitted t) (sym (ap (λ (r : Reading). decoded (r .program)) (admitted-answer t P a) ∙ decoded-kept P)) a
+    go (P, a) = subst (Admitted t) (sym (ap (λ (r : ReadResult). decoded (r .program)) (admitted-answer t P a) ∙ decoded-kept P)) a
 
 -- a text admits one program
 pub one-admitted : {t : List ℕ} {P Q : Program} → Admitted t P → Admitted t Q → Q ≡ P
@@ -35,4 +35,4 @@ module _ (t : List ℕ) (x : TextRefusal) (v : readOf t .verdict ≡ Refused x) 
 
   -- and the text admits no program
   pub refused-admits-none : (P : Program) → Admitted t P → ⊥
-  refused-admits-none P a = not-both (ap (λ (r : Reading). r .verdict) (admitted-answer t P a)) v
+  refused-admits-none P a = not-both (ap (λ (r : ReadResult). r .verdict) (admitted-answer t P a)) v

@@ -1,4 +1,4 @@
--- The answers of the two calls for a program whose tables are at hand, by the tests that the code makes.
+-- The answers of the two calls for a program whose tables are given, by the tests that the code makes.
 -- Assumes nothing.
 use Prim.Native.Nat.{ℕ, suc, _+_, _-_, _≤_, _<_}
 use native.Mathlib.Omega.{arith}
@@ -22,9 +22,9 @@ use Rattle.clause_places.specs.Places.{placeAt}
 use Rattle.refusals.specs.declared.LineRefusal.the-variants.{NoSuchClause, ShortBuffer}
 use Rattle.call_lines.specs.declared.LineVerdict.the-variants.{Written, Refused}
 use Rattle.call_lines.specs.declared.RunVerdict.the-variants.{WrittenRun, RefusedRun}
-use Rattle.clause_runs.specs.declared.Part.{Part}
+use Rattle.clause_runs.specs.declared.RunPart.{RunPart}
 use Rattle.clause_runs.specs.Lines.{clauseTotal, linesOf, lineOf, fitting, runIn, runBytesIn, partIn}
-use Rattle.call_lines.specs.Lines.{answerIn, bytesIn, runAnswerIn}
+use Rattle.call_lines.specs.Lines.{answerIn, lineBytesIn, runAnswerIn}
 use Rattle.call_lines.proofs.Cases.{answer-none, answer-short, answer-fits, bytes-none, bytes-short, bytes-fits, run-none, run-short, run-fits}
 use Rattle.clause_runs.proofs.Placed.{total-is, lines-count, line-some}
 use Rattle.clause_places.proofs.Numbers.{number-is}
@@ -61,19 +61,19 @@ module _ {P : Program} {t : Totals} {hs ss bs ks xs ys : List ℕ} (T : Tabled P
         → (r ≡ need) × (l ≡ lineOf P j ++ drop r b)
     placed-put b {r} {l} u = subst (λ (k : ℕ). (r ≡ length (lineOf P k)) × (l ≡ lineOf P k ++ drop r b)) (number-is T e) u
 
-    pub placed-part : (b : List ℕ) {q : Part} {l : List ℕ} → (q ≡ partIn P w (c .number) (length b)) × (l ≡ runBytesIn P (c .number) b)
+    pub placed-part : (b : List ℕ) {q : RunPart} {l : List ℕ} → (q ≡ partIn P w (c .number) (length b)) × (l ≡ runBytesIn P (c .number) b)
         → (q ≡ partIn P w j (length b)) × (l ≡ runBytesIn P j b)
     placed-part b {q} {l} u = subst (λ (k : ℕ). (q ≡ partIn P w k (length b)) × (l ≡ runBytesIn P k b)) (number-is T e) u
 
   -- ---- one line
 
   module _ (k : ℕ) (b : List ℕ) where
-    pub line-none : t .clauses < j → (Refused (NoSuchClause (t .clauses)) ≡ answerIn P j (length b - k)) × (b ≡ bytesIn P j k b)
+    pub line-none : t .clauses < j → (Refused (NoSuchClause (t .clauses)) ≡ answerIn P j (length b - k)) × (b ≡ lineBytesIn P j k b)
     line-none h =
         (ap (λ (n : ℕ). Refused (NoSuchClause n)) (total-is T) ∙ sym (answer-none P j (length b - k) (past h)), sym (bytes-none P j k b (past h)))
 
     module _ (h : j ≤ t .clauses) where
-      pub line-short : {x : ℕ} → x ≡ need → length b - k < x → (Refused (ShortBuffer x) ≡ answerIn P j (length b - k)) × (b ≡ bytesIn P j k b)
+      pub line-short : {x : ℕ} → x ≡ need → length b - k < x → (Refused (ShortBuffer x) ≡ answerIn P j (length b - k)) × (b ≡ lineBytesIn P j k b)
       line-short {x} e f =
           (ap (λ (n : ℕ). Refused (ShortBuffer n)) e ∙ sym (answer-short P j (length b - k) (within h) short), sym (bytes-short P j k b (within h) short))
         where
@@ -81,7 +81,7 @@ module _ {P : Program} {t : Totals} {hs ss bs ks xs ys : List ℕ} (T : Tabled P
           short = subst (λ (n : ℕ). length b - k < n) e f
 
       -- the place is past the end
-      pub line-past : {x : ℕ} → x ≡ need → length b < k → (Refused (ShortBuffer x) ≡ answerIn P j (length b - k)) × (b ≡ bytesIn P j k b)
+      pub line-past : {x : ℕ} → x ≡ need → length b < k → (Refused (ShortBuffer x) ≡ answerIn P j (length b - k)) × (b ≡ lineBytesIn P j k b)
       line-past {x} e f = line-short e (omega (arith, e, f, line-some T j h))
 
       module _ {x : ℕ} (e : x ≡ need) (f : x ≤ length b - k) where
@@ -92,7 +92,7 @@ module _ {P : Program} {t : Totals} {hs ss bs ks xs ys : List ℕ} (T : Tabled P
         line-asks = subst (λ (n : ℕ). need ≤ n) (sym (tail-length b k)) enough
 
         pub line-written : {r : ℕ} {l : List ℕ} → (r ≡ need) × (l ≡ lineOf P j ++ drop r (take (length b - k) (drop k b)))
-            → (Written r ≡ answerIn P j (length b - k)) × (putMid k (length b - k) b l ≡ bytesIn P j k b)
+            → (Written r ≡ answerIn P j (length b - k)) × (putMid k (length b - k) b l ≡ lineBytesIn P j k b)
         line-written {r} {l} u =
             (ap Written (u .0) ∙ sym (answer-fits P j (length b - k) (within h) enough), lent b k r (lineOf P j) l (u .1) ∙ ap (λ (n : ℕ). take k b ++ (lineOf P j ++ drop (k + n) b)) (u .0) ∙ sym (bytes-fits P j k b (within h) enough))
 

@@ -19,7 +19,7 @@ use borrow.Author.Tests.{le-leb, lt-leb, ltb-true, ltb-false}
 use Rattle.lists.specs.Lists.{tab, joined}
 use Rattle.lists.proofs.Tests.{le-or-lt}
 use Rattle.meaning.specs.Program.{Program}
-use Rattle.reader.specs.declared.Reading.{Reading}
+use Rattle.reader.specs.declared.ReadResult.{ReadResult}
 use Rattle.reader.specs.declared.ReadVerdict.{ReadVerdict}
 use Rattle.reader.specs.declared.ReadVerdict.the-variants.{Accepted, Refused as TextRefused}
 use Rattle.reader.specs.Verdict.{readOf}
@@ -35,7 +35,7 @@ use Rattle.call_lines.specs.declared.LineVerdict.the-variants.{Written, 
 use Rattle.call_lines.specs.declared.RunVerdict.{RunVerdict}
 use Rattle.call_lines.specs.declared.RunVerdict.the-variants.{WrittenRun, RefusedRun}
 use Rattle.clause_runs.specs.Lines.{clauseTotal, linesOf, lineOf, fitting, runIn, runBytesIn}
-use Rattle.call_lines.specs.Lines.{afterText, keptBytes, answerIn, bytesIn, lineAnswer, lineBytes, afterTextRun, runAnswerIn, runAnswer, runBytes}
+use Rattle.call_lines.specs.Lines.{afterText, keptBytes, answerIn, lineBytesIn, lineAnswer, lineBytes, afterTextRun, runAnswerIn, runAnswer, runBytes}
 use Rattle.call_lines.specs.Rows.{RunWritten}
 use Rattle.clause_runs.proofs.Placed.{total-is, lines-count}
 use Rattle.clause_runs.proofs.Runs.{fitting-few, fitting-room}
@@ -88,16 +88,16 @@ pub line-stays : (t : List ℕ) (j k : ℕ) (b : List ℕ) (r : LineRefusal) →
 unfolding lineAnswer lineBytes
 line-stays t j k b r = go (readOf t .verdict)
   where
-    go : (v : ReadVerdict) → afterText v (answerIn (decoded (readOf t .program)) j (length b - k)) ≡ Refused r → keptBytes v (bytesIn (decoded (readOf t .program)) j k b) b ≡ b
+    go : (v : ReadVerdict) → afterText v (answerIn (decoded (readOf t .program)) j (length b - k)) ≡ Refused r → keptBytes v (lineBytesIn (decoded (readOf t .program)) j k b) b ≡ b
     go Accepted e = stays _ _ _ b _ (ltb (clauseTotal (decoded (readOf t .program))) j) (ltb (length b - k) (length (lineOf (decoded (readOf t .program)) j))) e
     go (TextRefused q) e = refl
 
 -- the program of an admitted text
 program-read : (t : List ℕ) (P : Program) → Admitted t P → decoded (readOf t .program) ≡ P
-program-read t P a = ap (λ (r : Reading). decoded (r .program)) (admitted-answer t P a) ∙ decoded-kept P
+program-read t P a = ap (λ (r : ReadResult). decoded (r .program)) (admitted-answer t P a) ∙ decoded-kept P
 
 verdict-read : (t : List ℕ) (P : Program) → Admitted t P → readOf t .verdict ≡ Accepted
-verdict-read t P a = ap (λ (r : Reading). r .verdict) (admitted-answer t P a)
+verdict-read t P a = ap (λ (r : ReadResult). r .verdict) (admitted-answer t P a)
 
 pub line-writes : (t : List ℕ) (j k : ℕ) (b : List ℕ) (x : ℕ) → lineAnswer t j k (length b) ≡ Written x → (P : Program) → Admitted t P
     → (x ≡ length (lineOf P j)) × (lineBytes t j k b ≡ take k b ++ (lineOf P j ++ drop (k + x) b))
@@ -109,8 +109,8 @@ line-writes t j k b x e P a =
     answer : afterText (readOf t .verdict) (answerIn (decoded (readOf t .program)) j (length b - k)) ≡ answerIn P j (length b - k)
     answer = ap₂ (λ (v : ReadVerdict) (Q : Program). afterText v (answerIn Q j (length b - k))) (verdict-read t P a) (program-read t P a)
 
-    bytes : keptBytes (readOf t .verdict) (bytesIn (decoded (readOf t .program)) j k b) b ≡ bytesIn P j k b
-    bytes = ap₂ (λ (v : ReadVerdict) (Q : Program). keptBytes v (bytesIn Q j k b) b) (verdict-read t P a) (program-read t P a)
+    bytes : keptBytes (readOf t .verdict) (lineBytesIn (decoded (readOf t .program)) j k b) b ≡ lineBytesIn P j k b
+    bytes = ap₂ (λ (v : ReadVerdict) (Q : Program). keptBytes v (lineBytesIn Q j k b) b) (verdict-read t P a) (program-read t P a)
 
 -- ---- a run is refused as its first line
 
@@ -154,7 +154,7 @@ some-lines ls j (suc m) h =
     take-suc (drop j ls) m [] (subst (λ (k : ℕ). m < k) (sym (length-drop j ls)) (omega (arith, h)))
     ∙ ap₂ (λ (xs : List (List ℕ)) (x : List ℕ). xs ++ (x ∷ [])) (some-lines ls j m (omega (arith, h))) (getD-drop j ls m [])
 
--- the line behind them does not fit
+-- the line after them does not fit
 fitting-most : (ls : List (List ℕ)) (n : ℕ) → fitting n ls < length ls → n < length (joined (take (fitting n ls) ls)) + length (getD ls (fitting n ls) [])
 fitting-most [] n h = absurd (not-suc-le-zero h)
 fitting-most (l ∷ ls) n h = go (fitting-most ls (n - length l)) h (le-or-lt (length l) n)

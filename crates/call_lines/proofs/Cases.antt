@@ -14,7 +14,7 @@ use Rattle.call_lines.specs.declared.LineVerdict.the-variants.{Written, 
 use Rattle.call_lines.specs.declared.RunVerdict.{RunVerdict}
 use Rattle.call_lines.specs.declared.RunVerdict.the-variants.{WrittenRun, RefusedRun}
 use Rattle.clause_runs.specs.Lines.{clauseTotal, linesOf, lineOf, fitting, runIn}
-use Rattle.call_lines.specs.Lines.{answerIn, bytesIn, runAnswerIn}
+use Rattle.call_lines.specs.Lines.{answerIn, lineBytesIn, runAnswerIn}
 
 -- three values, the first where j is above C, the second where the room is short
 module _ {A : Type 0} (x y z : A) (P : Program) (j room : ℕ) where
@@ -63,11 +63,11 @@ module _ (P : Program) (j : ℕ) where
     abbrev put : List ℕ
     put = take k b ++ (lineOf P j ++ drop (k + need) b)
 
-    pub bytes-none : clauseTotal P < j → bytesIn P j k b ≡ b
+    pub bytes-none : clauseTotal P < j → lineBytesIn P j k b ≡ b
     bytes-none = none b b put P j (length b - k)
 
-    pub bytes-short : j ≤ clauseTotal P → length b - k < need → bytesIn P j k b ≡ b
+    pub bytes-short : j ≤ clauseTotal P → length b - k < need → lineBytesIn P j k b ≡ b
     bytes-short = short b b put P j (length b - k)
 
-    pub bytes-fits : j ≤ clauseTotal P → need ≤ length b - k → bytesIn P j k b ≡ take k b ++ (lineOf P j ++ drop (k + need) b)
+    pub bytes-fits : j ≤ clauseTotal P → need ≤ length b - k → lineBytesIn P j k b ≡ take k b ++ (lineOf P j ++ drop (k + need) b)
     bytes-fits = fits b b put P j (length b - k)

@@ -20,7 +20,7 @@ use Rattle.program.proofs.Decode.{decoded-kept}
 use Rattle.clause_tables.specs.Tables.{Stored, Tabled, pairTable, totalsOf}
 use Rattle.clause_text.specs.Lines.{headerText}
 use Rattle.clause_places.specs.Places.{placeAt, clauseIn}
-use Rattle.clause_places.proofs.Numbers.{clause-at, spot-count}
+use Rattle.clause_places.proofs.Numbers.{clause-at, coordinates-count}
 use Rattle.clause_runs.specs.Lines.{clauseTotal, linesOf, lineOf}
 use Rattle.clause_runs.proofs.Placed.{total-is, line-short, line-of-clause}
 use Rattle.call_laws.proofs.Tabled.{tabled}
@@ -49,8 +49,8 @@ module _ (P : Program) where
     clause-total = sym (count-whole P (width (P .atoms)) (L .all-atoms) (width-enough (P .atoms)))
 
     pub placed : (j : ℕ) → zero < j → j ≤ clauseTotal P
-        → clauseIn P (width (P .atoms)) (placeAt P (width (P .atoms)) j .spot) ≡ getD (clauses P (width (P .atoms))) (pred j) []
-    placed j p h = clause-at P (width (P .atoms)) (width-some (P .atoms)) j p (subst (λ (k : ℕ). j ≤ k) (sym (spot-count P L)) h)
+        → clauseIn P (width (P .atoms)) (placeAt P (width (P .atoms)) j .coordinates) ≡ getD (clauses P (width (P .atoms))) (pred j) []
+    placed j p h = clause-at P (width (P .atoms)) (width-some (P .atoms)) j p (subst (λ (k : ℕ). j ≤ k) (sym (coordinates-count P L)) h)
 
     pub short-lines : (j : ℕ) → j ≤ clauseTotal P → length (lineOf P j) ≤ 3008
     short-lines j h = line-short T j (within j h)

@@ -30,8 +30,8 @@ answerIn P j room =
     cond (ltb (clauseTotal P) j) (Refused (NoSuchClause (clauseTotal P)))
     (cond (ltb room (length (lineOf P j))) (Refused (ShortBuffer (length (lineOf P j)))) (Written (length (lineOf P j))))
 
-abbrev pub bytesIn : Program → ℕ → ℕ → List ℕ → List ℕ
-bytesIn P j k b =
+abbrev pub lineBytesIn : Program → ℕ → ℕ → List ℕ → List ℕ
+lineBytesIn P j k b =
     cond (ltb (clauseTotal P) j) b
     (cond (ltb (length b - k) (length (lineOf P j))) b (take k b ++ (lineOf P j ++ drop (k + length (lineOf P j)) b)))
 
@@ -48,7 +48,7 @@ unfoldable pub lineAnswer : List ℕ → ℕ → ℕ → ℕ → LineVerdict
 lineAnswer t j k n = afterText (readOf t .verdict) (answerIn (decoded (readOf t .program)) j (n - k))
 
 unfoldable pub lineBytes : List ℕ → ℕ → ℕ → List ℕ → List ℕ
-lineBytes t j k b = keptBytes (readOf t .verdict) (bytesIn (decoded (readOf t .program)) j k b) b
+lineBytes t j k b = keptBytes (readOf t .verdict) (lineBytesIn (decoded (readOf t .program)) j k b) b
 
 -- ---- a run of lines
 

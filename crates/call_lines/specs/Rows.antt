@@ -42,7 +42,7 @@ pub record LineAnswers (t : List ℕ) (j k n r s : ℕ) : Type 0 where
   pub row-is : lineNumber refusal ≡ r
   pub spot-is : lineSpot refusal ≡ s
 
--- m lines from line j on, one after the other, as many as fit; behind them the buffer stays
+-- m lines from line j on, one after the other, as many as fit; after them the buffer stays
 pub record RunWritten (P : Program) (j : ℕ) (b : List ℕ) (m x : ℕ) (c : List ℕ) : Type 0 where
   pub some : 0 < m
   pub listed : j + m ≤ suc (clauseTotal P)

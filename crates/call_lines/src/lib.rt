@@ -16,7 +16,7 @@ ghost use lib.ListN.{length};
 ghost use Rattle.program.specs.Arrays.{decoded};
 ghost use Rattle.clause_tables.specs.Tables.{Stored, programIn, Ready};
 ghost use Rattle.clause_runs.specs.Lines.{runBytesIn};
-ghost use Rattle.call_lines.specs.Lines.{answerIn, bytesIn, lineAnswer, lineBytes, runAnswerIn, runAnswer, runBytes};
+ghost use Rattle.call_lines.specs.Lines.{answerIn, lineBytesIn, lineAnswer, lineBytes, runAnswerIn, runAnswer, runBytes};
 
 // The length of the line written, or a refusal.
 pub enum LineVerdict {
@@ -44,7 +44,7 @@ fn line_in<'a>(
     buf: &mut [u8],
 ) -> LineVerdict
     requires { ⌜ Ready t (now heads) (now starts) (now bodies) (now before) (now partners) (now owners) ⌝ }
-    ensures { λ r. ⌜ (r ≡ answerIn (programIn (t .sizes) (now (heads .entry)) (now (starts .entry)) (now (bodies .entry))) j (length (now (buf .entry)) - from)) × (now (buf .exit) ≡ bytesIn (programIn (t .sizes) (now (heads .entry)) (now (starts .entry)) (now (bodies .entry))) j from (now (buf .entry))) ⌝ }
+    ensures { λ r. ⌜ (r ≡ answerIn (programIn (t .sizes) (now (heads .entry)) (now (starts .entry)) (now (bodies .entry))) j (length (now (buf .entry)) - from)) × (now (buf .exit) ≡ lineBytesIn (programIn (t .sizes) (now (heads .entry)) (now (starts .entry)) (now (bodies .entry))) j from (now (buf .entry))) ⌝ }
 {
     if t.clauses < j {
         return LineVerdict::Refused(LineRefusal::NoSuchClause(t.clauses));
@@ -110,7 +110,7 @@ fn run_in<'a>(
 // Line j of a program that was read.
 fn line_of(p: Program, j: usize, from: usize, buf: &mut [u8]) -> LineVerdict
     requires { ⌜ Stored p ⌝ }
-    ensures { λ r. ⌜ (r ≡ answerIn (decoded p) j (length (now (buf .entry)) - from)) × (now (buf .exit) ≡ bytesIn (decoded p) j from (now (buf .entry))) ⌝ }
+    ensures { λ r. ⌜ (r ≡ answerIn (decoded p) j (length (now (buf .entry)) - from)) × (now (buf .exit) ≡ lineBytesIn (decoded p) j from (now (buf .entry))) ⌝ }
 {
     let k = pairs_of(p);
     let t = totals_of(p, k.count, k.empty);
@@ -128,7 +128,7 @@ fn line_of(p: Program, j: usize, from: usize, buf: &mut [u8]) -> LineVerdict
     )
 }
 
-// A run of its lines from line j on.
+// A run of lines of a program that was read, from line j on.
 fn run_of(p: Program, j: usize, buf: &mut [u8]) -> RunVerdict
     requires { ⌜ Stored p ⌝ }
     ensures { λ r. ⌜ (r ≡ runAnswerIn (decoded p) j (length (now (buf .entry)))) × (now (buf .exit) ≡ runBytesIn (decoded p) j (now (buf .entry))) ⌝ }

@@ -21,7 +21,7 @@ use Rattle.encoding.specs.Variables.{Sizes, levelVar}
 use Rattle.encoding.specs.Counter.{value}
 use Rattle.theory.proofs.Bits.{value-lt}
 use Rattle.truth_clauses.specs.Truth.{valueIn}
-use Rattle.call_results.specs.Results.{trueCount, levelIn}
+use Rattle.call_results.specs.Results.{trueCount, levelByte}
 
 -- ---- a variable
 
@@ -103,11 +103,11 @@ true-more bs a {k} {d} e q =
 pub one-at-most : (x : Bool) {d : ℕ} → d ≡ cond x 1 0 → d ≤ 1
 one-at-most x e = subst (λ (y : ℕ). y ≤ 1) (sym e) (part-small x 1)
 
-pub highest-more : (ls : List ℕ) (a : ℕ) {x y : ℕ} → x ≡ highest a (levelIn ls) → y ≡ max x (getD ls a 0) → y ≡ highest (a + 1) (levelIn ls)
-highest-more ls a e q = q ∙ ap (λ (x : ℕ). max x (getD ls a 0)) e ∙ ap (λ (i : ℕ). highest i (levelIn ls)) (sym (add-one a))
+pub highest-more : (ls : List ℕ) (a : ℕ) {x y : ℕ} → x ≡ highest a (levelByte ls) → y ≡ max x (getD ls a 0) → y ≡ highest (a + 1) (levelByte ls)
+highest-more ls a e q = q ∙ ap (λ (x : ℕ). max x (getD ls a 0)) e ∙ ap (λ (i : ℕ). highest i (levelByte ls)) (sym (add-one a))
 
-pub highest-all : (ls : List ℕ) (a n : ℕ) {x : ℕ} → x ≡ highest a (levelIn ls) → a ≤ n → n ≤ a → x ≡ highest n (levelIn ls)
-highest-all ls a n e h g = e ∙ ap (λ (i : ℕ). highest i (levelIn ls)) (le-antisymm h g)
+pub highest-all : (ls : List ℕ) (a n : ℕ) {x : ℕ} → x ≡ highest a (levelByte ls) → a ≤ n → n ≤ a → x ≡ highest n (levelByte ls)
+highest-all ls a n e h g = e ∙ ap (λ (i : ℕ). highest i (levelByte ls)) (le-antisymm h g)
 
 pub true-all : (bs : List ℕ) (a n : ℕ) {k : ℕ} → k ≡ trueCount a bs → a ≤ n → n ≤ a → k ≡ trueCount n bs
 true-all bs a n e h g = e ∙ ap (λ (i : ℕ). trueCount i bs) (le-antisymm h g)

@@ -22,7 +22,7 @@ use Rattle.encoding.specs.Fill.{counter}
 use Rattle.theory.proofs.Atoms.{by-place}
 use Rattle.answer_offers.specs.Offered.{valueBytes}
 use Rattle.truth_clauses.specs.Truth.{valueIn}
-use Rattle.call_results.specs.Results.{trueCount, levelIn, counters, varTotal}
+use Rattle.call_results.specs.Results.{trueCount, levelByte, counters, varTotal}
 
 byte-true : (bs : List Bool) (k : ℕ) → not (eqb (getD (valueBytes bs) k 0) 0) ≡ getD bs k false
 byte-true [] k = refl
@@ -44,8 +44,8 @@ count-same n bs = ap (λ (A : Assignment). sum n (λ a. cond (A a) 1 0)) (values
 pub counters-same : (S : Sizes) (bs : List Bool) → counters S (valueBytes bs) ≡ tab (S .n) (counter S (valueOf bs))
 counters-same S bs = ap (λ (A : Assignment). tab (S .n) (counter S A)) (values-same bs)
 
-pub levels-same : (n : ℕ) (f : ℕ → ℕ) → highest n (levelIn (tab n f)) ≡ highest n f
-levels-same n f = highest-same n (levelIn (tab n f)) f (λ i h. getD-tab n f 0 i h)
+pub levels-same : (n : ℕ) (f : ℕ → ℕ) → highest n (levelByte (tab n f)) ≡ highest n f
+levels-same n f = highest-same n (levelByte (tab n f)) f (λ i h. getD-tab n f 0 i h)
 
 -- ---- at the front of a list
 
@@ -56,6 +56,6 @@ atoms-within P = omega arith
 pub value-here : (xs ys : List ℕ) (i : ℕ) → i < length xs → valueIn (xs ++ ys) (suc i) ≡ valueIn xs (suc i)
 value-here xs ys i h = ap (λ (x : ℕ). not (eqb x 0)) (getD-here xs ys 0 (length xs) i refl h)
 
-pub level-here : (n : ℕ) (ℓ : ℕ → ℕ) (ys : List ℕ) (a : ℕ) → So (isAtom n a) → levelIn (tab n ℓ ++ ys) a ≡ ℓ a
+pub level-here : (n : ℕ) (ℓ : ℕ → ℕ) (ys : List ℕ) (a : ℕ) → So (isAtom n a) → levelByte (tab n ℓ ++ ys) a ≡ ℓ a
 level-here n ℓ ys =
-    by-place n (λ a. levelIn (tab n ℓ ++ ys) a ≡ ℓ a) (λ a h. getD-here (tab n ℓ) ys 0 n a (length-tab n ℓ) h ∙ getD-tab n ℓ 0 a h)
+    by-place n (λ a. levelByte (tab n ℓ ++ ys) a ≡ ℓ a) (λ a h. getD-here (tab n ℓ) ys 0 n a (length-tab n ℓ) h ∙ getD-tab n ℓ 0 a h)

@@ -1,10 +1,10 @@
 -- What the check and filling out write and return (document 01, "Check and filling out" and "Verdicts").
 --   varTotal P             the number of variables of P
---   programOf r            the program that a reading accepted
+--   programRead r          the program that a reading accepted
 --   Result R               accepted, with the number of variables that were left out and read as false (document 02, Q-3), the values of the variables and
 --                          the levels of the atoms as bytes; or refused
 --   trueCount n bs         how many of the atoms 1 to n are true under the values bs
---   levelIn ls a           the level of atom a in the bytes ls
+--   levelByte ls a         the level of atom a in the bytes ls
 --   counters S bs          the counter of each atom under the values bs
 --   assignmentAfter z v x b   the buffer b of the assignment of v variables, once the result x is given: a refusal that z names leaves zeros
 --   levelsAfter n x b      the buffer b of the levels of n atoms
@@ -19,9 +19,9 @@ use Rattle.encoding.specs.Width.{width}
 use Rattle.encoding.specs.Variables.{Sizes}
 use Rattle.encoding.specs.Clauses.{variables}
 use Rattle.encoding.specs.Fill.{counter}
-use Rattle.reader.specs.declared.Reading.{Reading}
+use Rattle.reader.specs.declared.ReadResult.{ReadResult}
 use Rattle.program.specs.Arrays.{decoded}
-use Rattle.answer_values.specs.Assign.{filledWith}
+use Rattle.answer_values.specs.Assign.{overwritten}
 use Rattle.truth_clauses.specs.Truth.{valueIn}
 
 -- V, with document 01's width
@@ -29,8 +29,8 @@ abbrev pub varTotal : Program → ℕ
 varTotal P = variables P (width (P .atoms))
 
 -- the program that a reading accepted
-abbrev pub programOf : Reading → Program
-programOf r = decoded (r .program)
+abbrev pub programRead : ReadResult → Program
+programRead r = decoded (r .program)
 
 pub data Result (R : Type 0) : Type 0 where
   accepted : (assumed : ℕ) (values levels : List ℕ) → Result R
@@ -41,8 +41,8 @@ pub data Result (R : Type 0) : Type 0 where
 unfoldable pub trueCount : ℕ → List ℕ → ℕ
 trueCount n bs = sum n (λ a. cond (valueIn bs a) 1 0)
 
-abbrev pub levelIn : List ℕ → ℕ → ℕ
-levelIn ls a = getD ls (pred a) 0
+abbrev pub levelByte : List ℕ → ℕ → ℕ
+levelByte ls a = getD ls (pred a) 0
 
 -- ---- what is written
 
@@ -51,7 +51,7 @@ counters S bs = tab (S .n) (counter S (valueIn bs))
 
 abbrev pub assignmentAfter : {R : Type 0} → (R → Bool) → ℕ → Result R → List ℕ → List ℕ
 assignmentAfter z v (Result.accepted c bs ls) b = bs ++ drop v b
-assignmentAfter z v (Result.refused r) b = cond (z r) (filledWith v 0 b) b
+assignmentAfter z v (Result.refused r) b = cond (z r) (overwritten v 0 b) b
 
 abbrev pub levelsAfter : {R : Type 0} → ℕ → Result R → List ℕ → List ℕ
 levelsAfter n (Result.accepted c bs ls) b = ls ++ drop n b

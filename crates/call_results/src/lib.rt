@@ -2,7 +2,7 @@
 use clause_literals::Sizes;
 use clause_literals::level_var;
 use numbers::Atom;
-use truth_blocks::value_of;
+use truth_blocks::is_true;
 ghost use Prim.Native.Nat.{_+_, _*_, _≤_, _<_, max};
 ghost use mathlib.Core.Path.{_≡_};
 ghost use mathlib.Core.Bool.{cond};
@@ -12,14 +12,14 @@ ghost use Rattle.lists.specs.Lists.{tab, highest};
 ghost use Rattle.encoding.specs.Fill.{counter};
 ghost use Rattle.clause_literals.specs.Sizes.{sizesOf, Bounded};
 ghost use Rattle.truth_clauses.specs.Truth.{valueIn};
-ghost use Rattle.call_results.specs.Results.{trueCount, levelIn};
+ghost use Rattle.call_results.specs.Results.{trueCount, levelByte};
 
 // What variable v adds where it stands for `power`.
-fn part(assignment: &[u8], v: usize, power: u8) -> u8
+fn bit_weight(assignment: &[u8], v: usize, power: u8) -> u8
     requires { ⌜ (0 < v) × (v ≤ length (now assignment)) ⌝ }
     ensures { λ r. ⌜ r ≡ cond (valueIn (now (assignment .entry)) v) power 0 ⌝ }
 {
-    if value_of(assignment, v) {
+    if is_true(assignment, v) {
         return power;
     }
     0
@@ -35,7 +35,7 @@ fn counter_of(s: Sizes, assignment: &[u8], a: Atom) -> u8
     let mut power: u8 = 1;
     while i < s.w {
         let v = level_var(s, a, i + 1);
-        x += part(assignment, v.0 as usize, power);
+        x += bit_weight(assignment, v.0 as usize, power);
         power *= 2;
         i += 1;
     }
@@ -62,14 +62,14 @@ pub fn true_count(n: u16, assignment: &[u8]) -> usize
     let mut a: u16 = 0;
     let mut k: usize = 0;
     while a < n {
-        k += part(assignment, a as usize + 1, 1) as usize;
+        k += bit_weight(assignment, a as usize + 1, 1) as usize;
         a += 1;
     }
     k
 }
 
 // The larger of x and the level y.
-fn larger(x: usize, y: u8) -> usize
+fn larger_level(x: usize, y: u8) -> usize
     ensures { λ r. ⌜ r ≡ max x y ⌝ }
 {
     if x < y as usize {
@@ -81,12 +81,12 @@ fn larger(x: usize, y: u8) -> usize
 // The highest level of the atoms 1 to n, 0 if none is true.
 pub fn highest_of(n: u16, levels: &[u8]) -> usize
     requires { ⌜ n ≤ length (now levels) ⌝ }
-    ensures { λ r. ⌜ r ≡ highest n (levelIn (now (levels .entry))) ⌝ }
+    ensures { λ r. ⌜ r ≡ highest n (levelByte (now (levels .entry))) ⌝ }
 {
     let mut a: u16 = 0;
     let mut x: usize = 0;
     while a < n {
-        x = larger(x, levels[a as usize]);
+        x = larger_level(x, levels[a as usize]);
         a += 1;
     }
     x

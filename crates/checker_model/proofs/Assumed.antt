@@ -3,7 +3,7 @@
 --   none-put, some-put             the same, as written at the front of a buffer
 --   some-whole, some-number, some-word    where there is room for it, there is for all, the first two and the first of its parts
 --   assumed-small, shown-small     it has at most 31 bytes, and with the line of the model at most 1,131
---   model-room                     behind it there is room for the line of the model
+--   model-room                     after it there is room for the line of the model
 -- Assumes nothing.
 use Prim.Native.Nat.{ℕ, _-_, _^_, _≤_, _<_}
 use native.Mathlib.Omega.{arith}

@@ -23,20 +23,20 @@ use Rattle.digits.proofs.Begins.{Begins, begins-same, begins-whole}
 use Rattle.clause_literals.proofs.Products.{one-before}
 use Rattle.clause_walk.proofs.Tabs.{map-select}
 use Rattle.truth_clauses.specs.Truth.{valueIn}
-use Rattle.call_results.specs.Results.{levelIn}
+use Rattle.call_results.specs.Results.{levelByte}
 use Rattle.checker_model.proofs.Next.{next-some}
-use Rattle.checker_model.specs.Model.{trueAtoms, spacedText, numbersText, nextText, shownText}
+use Rattle.checker_model.specs.Model.{trueAtomList, spacedNumbers, numbersText, listedText, shownText}
 
-spaced-more : (xs : List ℕ) (x : ℕ) → spacedText (xs ++ (x ∷ [])) ≡ spacedText xs ++ (32 ∷ decimal x)
+spaced-more : (xs : List ℕ) (x : ℕ) → spacedNumbers (xs ++ (x ∷ [])) ≡ spacedNumbers xs ++ (32 ∷ decimal x)
 spaced-more [] x = append-nil (32 ∷ decimal x)
 spaced-more (y ∷ ys) x =
-    ap (λ (t : List ℕ). (32 ∷ decimal y) ++ t) (spaced-more ys x) ∙ sym (append-assoc (32 ∷ decimal y) (spacedText ys) (32 ∷ decimal x))
+    ap (λ (t : List ℕ). (32 ∷ decimal y) ++ t) (spaced-more ys x) ∙ sym (append-assoc (32 ∷ decimal y) (spacedNumbers ys) (32 ∷ decimal x))
 
-pub numbers-more : (xs : List ℕ) (x : ℕ) → numbersText (xs ++ (x ∷ [])) ≡ numbersText xs ++ nextText (length (numbersText xs)) x
+pub numbers-more : (xs : List ℕ) (x : ℕ) → numbersText (xs ++ (x ∷ [])) ≡ numbersText xs ++ listedText (length (numbersText xs)) x
 numbers-more [] x = append-nil (decimal x)
 numbers-more (y ∷ ys) x =
-    ap (λ (t : List ℕ). decimal y ++ t) (spaced-more ys x) ∙ sym (append-assoc (decimal y) (spacedText ys) (32 ∷ decimal x))
-    ∙ ap (λ (t : List ℕ). numbersText (y ∷ ys) ++ t) (sym (next-some (length (numbersText (y ∷ ys))) x (λ (e : length (numbersText (y ∷ ys)) ≡ 0). omega (arith, e, decimal-some y, length-append (decimal y) (spacedText ys)))))
+    ap (λ (t : List ℕ). decimal y ++ t) (spaced-more ys x) ∙ sym (append-assoc (decimal y) (spacedNumbers ys) (32 ∷ decimal x))
+    ∙ ap (λ (t : List ℕ). numbersText (y ∷ ys) ++ t) (sym (next-some (length (numbersText (y ∷ ys))) x (λ (e : length (numbersText (y ∷ ys)) ≡ 0). omega (arith, e, decimal-some y, length-append (decimal y) (spacedNumbers ys)))))
 
 module _ (p : ℕ → Bool) (f : ℕ → ℕ) where
   abbrev pub listed : ℕ → List ℕ
@@ -97,11 +97,11 @@ module _ (p : ℕ → Bool) (f : ℕ → ℕ) where
   listed-all b {to = to} {d = d} h l B = begins-whole (subst (λ (k : ℕ). Begins b d (numbersText (listed k)) to) (le-antisymm h l) B)
 
 -- the levels of the true atoms
-pub listed-levels : (ls bs b : List ℕ) {a n to : ℕ} {d : List ℕ} → a ≤ n → n ≤ a → Begins b d (numbersText (listed (valueIn bs) (levelIn ls) a)) to
-    → (to ≡ length (numbersText (map (levelIn ls) (trueAtoms n bs)))) × (d ≡ numbersText (map (levelIn ls) (trueAtoms n bs)) ++ drop to b)
+pub listed-levels : (ls bs b : List ℕ) {a n to : ℕ} {d : List ℕ} → a ≤ n → n ≤ a → Begins b d (numbersText (listed (valueIn bs) (levelByte ls) a)) to
+    → (to ≡ length (numbersText (map (levelByte ls) (trueAtomList n bs)))) × (d ≡ numbersText (map (levelByte ls) (trueAtomList n bs)) ++ drop to b)
 listed-levels ls bs b {n = n} {to = to} {d = d} h l B =
-    subst (λ (xs : List ℕ). (to ≡ length (numbersText xs)) × (d ≡ numbersText xs ++ drop to b)) (sym (map-select (levelIn ls) n (valueIn bs)))
-    (listed-all (valueIn bs) (levelIn ls) b h l B)
+    subst (λ (xs : List ℕ). (to ≡ length (numbersText xs)) × (d ≡ numbersText xs ++ drop to b)) (sym (map-select (levelByte ls) n (valueIn bs)))
+    (listed-all (valueIn bs) (levelByte ls) b h l B)
 
-pub level-is : (ls : List ℕ) (a : ℕ) → getD ls (a - 1) 0 ≡ levelIn ls a
+pub level-is : (ls : List ℕ) (a : ℕ) → getD ls (a - 1) 0 ≡ levelByte ls a
 level-is ls a = ap (λ (i : ℕ). getD ls i 0) (one-before a)

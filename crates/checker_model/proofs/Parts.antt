@@ -12,16 +12,16 @@ use Rattle.digits.proofs.Lengths.{decimal-fits}
 use Rattle.digits.proofs.Begins.{front-fits}
 use Rattle.clause_walk.proofs.Tabs.{map-select}
 use Rattle.truth_clauses.specs.Truth.{valueIn}
-use Rattle.call_results.specs.Results.{levelIn}
-use Rattle.checker_model.specs.Model.{trueAtoms, numbersText, modelText}
+use Rattle.call_results.specs.Results.{levelByte}
+use Rattle.checker_model.specs.Model.{trueAtomList, numbersText, modelText}
 use Rattle.checker_model.proofs.Listed.{listed-small}
 
 module _ (n : ℕ) (bs ls : List ℕ) (h : n ≤ 126) (f : (i : ℕ) → getD ls i 0 < 256) where
   abbrev atoms : List ℕ
-  atoms = numbersText (trueAtoms n bs)
+  atoms = numbersText (trueAtomList n bs)
 
   abbrev levels : List ℕ
-  levels = numbersText (map (levelIn ls) (trueAtoms n bs))
+  levels = numbersText (map (levelByte ls) (trueAtomList n bs))
 
   atoms-small : length atoms ≤ 504
   atoms-small = omega (arith, h, listed-small (valueIn bs) (λ (a : ℕ). a) 3 n (λ a l. decimal-fits 2 (suc a) (omega (arith, h, l))))
@@ -31,8 +31,8 @@ module _ (n : ℕ) (bs ls : List ℕ) (h : n ≤ 126) (f : (i : ℕ) → getD ls
       omega (
         arith,
         h,
-        listed-small (valueIn bs) (levelIn ls) 3 n (λ a l. decimal-fits 2 (levelIn ls (suc a)) (omega (arith, f a))),
-        ap (λ (xs : List ℕ). length (numbersText xs)) (map-select (levelIn ls) n (valueIn bs)),
+        listed-small (valueIn bs) (levelByte ls) 3 n (λ a l. decimal-fits 2 (levelByte ls (suc a)) (omega (arith, f a))),
+        ap (λ (xs : List ℕ). length (numbersText xs)) (map-select (levelByte ls) n (valueIn bs)),
       )
 
   pub model-small : length (modelText n bs ls) ≤ 1100

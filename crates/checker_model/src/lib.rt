@@ -1,19 +1,19 @@
 // The lines of a model, written into a lent buffer (document 01, "Programs"; document 02, Q-3).
 use clause_text::put_word;
 use digits::put_decimal;
-use truth_blocks::value_of;
+use truth_blocks::is_true;
 ghost use Prim.Native.Nat.{_≤_, _<_};
 ghost use mathlib.Core.Path.{_≡_};
 ghost use mathlib.Core.List.{map};
 ghost use lib.ListN.{length};
 ghost use Rattle.digits.specs.Bytes.{Wrote};
-ghost use Rattle.call_results.specs.Results.{levelIn};
-ghost use Rattle.checker_model.specs.Model.{trueAtoms, numbersText, nextText, shownText, modelText, assumedText, shownModel};
+ghost use Rattle.call_results.specs.Results.{levelByte};
+ghost use Rattle.checker_model.specs.Model.{trueAtomList, numbersText, listedText, shownText, modelText, assumedText, shownModel};
 
-// Writes the number x at the front of the buffer, behind one space where bytes of its list stand before it, and returns how many bytes they are.
-fn put_next(before: usize, x: usize, buf: &mut [u8]) -> usize
-    requires { ⌜ length (nextText before x) ≤ length (now buf) ⌝ }
-    ensures { λ r. ⌜ Wrote (nextText before x) (now (buf .entry)) (now (buf .exit)) r ⌝ }
+// Writes the number x at the front of the buffer, after one space where bytes of its list stand before it, and returns how many bytes they are.
+fn put_listed(before: usize, x: usize, buf: &mut [u8]) -> usize
+    requires { ⌜ length (listedText before x) ≤ length (now buf) ⌝ }
+    ensures { λ r. ⌜ Wrote (listedText before x) (now (buf .entry)) (now (buf .exit)) r ⌝ }
 {
     if before == 0 {
         return put_decimal(x, &mut *buf);
@@ -22,50 +22,50 @@ fn put_next(before: usize, x: usize, buf: &mut [u8]) -> usize
     1 + put_decimal(x, &mut buf[1..])
 }
 
-// The same for a number that is shown; nothing for one that is not.
+// Writes the number x as the next one of its list if it is shown, nothing else, and returns how many bytes that is.
 fn put_shown(shown: bool, before: usize, x: usize, buf: &mut [u8]) -> usize
     requires { ⌜ length (shownText shown before x) ≤ length (now buf) ⌝ }
     ensures { λ r. ⌜ Wrote (shownText shown before x) (now (buf .entry)) (now (buf .exit)) r ⌝ }
 {
     if shown {
-        return put_next(before, x, &mut *buf);
+        return put_listed(before, x, &mut *buf);
     }
     0
 }
 
 // Writes the true ones of the atoms 1 to n.
-fn put_atoms(n: usize, assignment: &[u8], buf: &mut [u8]) -> usize
-    requires { ⌜ (n ≤ length (now assignment)) × (length (numbersText (trueAtoms n (now assignment))) ≤ length (now buf)) ⌝ }
-    ensures { λ r. ⌜ Wrote (numbersText (trueAtoms n (now (assignment .entry)))) (now (buf .entry)) (now (buf .exit)) r ⌝ }
+fn put_atoms_text(n: usize, assignment: &[u8], buf: &mut [u8]) -> usize
+    requires { ⌜ (n ≤ length (now assignment)) × (length (numbersText (trueAtomList n (now assignment))) ≤ length (now buf)) ⌝ }
+    ensures { λ r. ⌜ Wrote (numbersText (trueAtomList n (now (assignment .entry)))) (now (buf .entry)) (now (buf .exit)) r ⌝ }
 {
     let mut a: usize = 0;
     let mut to: usize = 0;
     while a < n {
-        let shown = value_of(assignment, a + 1);
+        let shown = is_true(assignment, a + 1);
         to += put_shown(shown, to, a + 1, &mut buf[to..]);
         a += 1;
     }
     to
 }
 
-// The level of atom a.
-fn level_of(levels: &[u8], a: usize) -> usize
+// The level of atom a as a number.
+fn level_number(levels: &[u8], a: usize) -> usize
     requires { ⌜ (0 < a) × (a ≤ length (now levels)) ⌝ }
-    ensures { λ r. ⌜ r ≡ levelIn (now (levels .entry)) a ⌝ }
+    ensures { λ r. ⌜ r ≡ levelByte (now (levels .entry)) a ⌝ }
 {
     levels[a - 1] as usize
 }
 
-// Writes their levels, in step.
-fn put_levels(n: usize, assignment: &[u8], levels: &[u8], buf: &mut [u8]) -> usize
-    requires { ⌜ (n ≤ length (now assignment)) × (n ≤ length (now levels)) × (length (numbersText (map (levelIn (now levels)) (trueAtoms n (now assignment)))) ≤ length (now buf)) ⌝ }
-    ensures { λ r. ⌜ Wrote (numbersText (map (levelIn (now (levels .entry))) (trueAtoms n (now (assignment .entry))))) (now (buf .entry)) (now (buf .exit)) r ⌝ }
+// Writes the levels of the true ones of the atoms 1 to n.
+fn put_levels_text(n: usize, assignment: &[u8], levels: &[u8], buf: &mut [u8]) -> usize
+    requires { ⌜ (n ≤ length (now assignment)) × (n ≤ length (now levels)) × (length (numbersText (map (levelByte (now levels)) (trueAtomList n (now assignment)))) ≤ length (now buf)) ⌝ }
+    ensures { λ r. ⌜ Wrote (numbersText (map (levelByte (now (levels .entry))) (trueAtomList n (now (assignment .entry))))) (now (buf .entry)) (now (buf .exit)) r ⌝ }
 {
     let mut a: usize = 0;
     let mut to: usize = 0;
     while a < n {
-        let shown = value_of(assignment, a + 1);
-        let x = level_of(levels, a + 1);
+        let shown = is_true(assignment, a + 1);
+        let x = level_number(levels, a + 1);
         to += put_shown(shown, to, x, &mut buf[to..]);
         a += 1;
     }
@@ -78,9 +78,9 @@ fn put_model(n: u16, assignment: &[u8], levels: &[u8], buf: &mut [u8]) -> usize
     ensures { λ r. ⌜ Wrote (modelText n (now (assignment .entry)) (now (levels .entry))) (now (buf .entry)) (now (buf .exit)) r ⌝ }
 {
     let mut to = put_word(b"(model (", &mut *buf);
-    to += put_atoms(n as usize, assignment, &mut buf[to..]);
+    to += put_atoms_text(n as usize, assignment, &mut buf[to..]);
     to += put_word(b") (", &mut buf[to..]);
-    to += put_levels(n as usize, assignment, levels, &mut buf[to..]);
+    to += put_levels_text(n as usize, assignment, levels, &mut buf[to..]);
     to += put_word(b"))\n", &mut buf[to..]);
     to
 }

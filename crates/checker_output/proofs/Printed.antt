@@ -18,23 +18,23 @@ use Rattle.encoding.specs.Fill.{trueAtoms}
 use Rattle.theory.proofs.Atoms.{is-atom}
 use Rattle.reader.specs.Verdict.{readOf}
 use Rattle.text.specs.Limits.{Admitted}
-use Rattle.answer_form.specs.Reading.{Spotted}
+use Rattle.answer_form.specs.Pieces.{Spotted}
 use Rattle.answer_offers.specs.Offered.{valueBytes, valuesOf}
 use Rattle.clause_walk.proofs.Tabs.{map-select}
 use Rattle.clause_text.specs.Lines.{refusedText}
 use Rattle.truth_clauses.specs.Truth.{valueIn}
-use Rattle.call_results.specs.Results.{Result, levelIn, assignmentAfter, levelsAfter, varTotal, programOf}
+use Rattle.call_results.specs.Results.{Result, levelByte, assignmentAfter, levelsAfter, varTotal, programRead}
 use Rattle.refusals.specs.declared.CheckRefusal.{CheckRefusal}
 use Rattle.call_check.specs.declared.CheckVerdict.{CheckVerdict}
 use Rattle.call_check.specs.declared.CheckVerdict.the-variants.{Model}
-use Rattle.call_check.specs.Check.{zeroes, verdictOf, checkOf, checkAnswer, checkAssignment, checkLevels}
+use Rattle.call_check.specs.Check.{zeroes, checkVerdictOf, checkOf, checkAnswer, checkAssignment, checkLevels}
 use Rattle.call_check.specs.Rows.{CheckAnswers, Shows}
 use Rattle.call_check.proofs.Verdicts.{program-is, model-offers}
 use Rattle.correspondence.specs.Accepted.{AcceptedAssignment, CheckWrites}
 use Rattle.correspondence.proofs.Correspond.{shows-accepted, accepted-true, accepted-stable, check-writes}
 use Rattle.correspondence.proofs.Gaps.{value-in, level-in}
 use Rattle.checker_model.specs.Model.{modelLine, modelText, assumedText}
-use Rattle.checker_output.specs.Output.{verdictText, outputOf, checkerText, PrintsModel}
+use Rattle.checker_output.specs.Output.{checkerVerdictText, checkerOutputOf, checkerText, PrintsModel}
 
 abbrev zeros : List ℕ
 zeros = replicate 9890 0
@@ -52,26 +52,26 @@ levels-length = length-replicate {A = ℕ} 126 0
 
 -- the values c and levels m are those of the set M with the levels f
 module _ (n : ℕ) (M : Atoms) (f : ℕ → ℕ) (c m : List ℕ) (v : (i : ℕ) → i < n → valueIn c (suc i) ≡ M (suc i))
-    (l : (i : ℕ) → i < n → levelIn m (suc i) ≡ f (suc i)) where
+    (l : (i : ℕ) → i < n → levelByte m (suc i) ≡ f (suc i)) where
   line-is : modelText n c m ≡ modelLine (select n M) (map f (select n M))
   unfolding modelText
-  line-is = ap (λ (xs : List ℕ). modelLine xs (map (levelIn m) xs)) atoms-are ∙ ap (modelLine (select n M)) levels-are
+  line-is = ap (λ (xs : List ℕ). modelLine xs (map (levelByte m) xs)) atoms-are ∙ ap (modelLine (select n M)) levels-are
     where
       atoms-are : select n (valueIn c) ≡ select n M
       atoms-are =
           each-ext n (λ i. cond (valueIn c i) (i ∷ []) []) (λ i. cond (M i) (i ∷ []) []) (λ i h. ap (λ (b : Bool). cond b (suc i ∷ []) []) (v i h))
 
-      levels-are : map (levelIn m) (select n M) ≡ map f (select n M)
+      levels-are : map (levelByte m) (select n M) ≡ map f (select n M)
       levels-are =
-          map-select (levelIn m) n M
-          ∙ each-ext n (λ i. cond (M i) (levelIn m i ∷ []) []) (λ i. cond (M i) (f i ∷ []) []) (λ i h. ap (λ (x : ℕ). cond (M (suc i)) (x ∷ []) []) (l i h))
+          map-select (levelByte m) n M
+          ∙ each-ext n (λ i. cond (M i) (levelByte m i ∷ []) []) (λ i. cond (M i) (f i ∷ []) []) (λ i h. ap (λ (x : ℕ). cond (M (suc i)) (x ∷ []) []) (l i h))
           ∙ sym (map-select f n M)
 
 -- ---- any text and any answer
 
 module _ (t u : List ℕ) where
   abbrev atoms : ℕ
-  atoms = programOf (readOf t) .atoms
+  atoms = programRead (readOf t) .atoms
 
   -- what the call leaves in buffers of zeros
   abbrev vs : List ℕ
@@ -80,15 +80,15 @@ module _ (t u : List ℕ) where
   abbrev ls : List ℕ
   ls = checkLevels t u 9890 noLevels
 
-  by-answer : checkerText t u ≡ verdictText atoms (checkAnswer t u 9890 126) vs ls
-  unfolding checkerText outputOf checkOf checkAnswer checkAssignment checkLevels
+  by-answer : checkerText t u ≡ checkerVerdictText atoms (checkAnswer t u 9890 126) vs ls
+  unfolding checkerText checkerOutputOf checkOf checkAnswer checkAssignment checkLevels
   by-answer =
       ap₂ (λ (x y : Result CheckRefusal).
-      verdictText atoms (verdictOf atoms (checkOf t u 9890 126)) (assignmentAfter zeroes (varTotal (programOf (readOf t))) x zeros) (levelsAfter atoms y noLevels))
+      checkerVerdictText atoms (checkVerdictOf atoms (checkOf t u 9890 126)) (assignmentAfter zeroes (varTotal (programRead (readOf t))) x zeros) (levelsAfter atoms y noLevels))
       (ap (λ (a : ℕ). checkOf t u a 126) (sym zeros-length)) (ap (checkOf t u 9890) (sym levels-length))
 
-  by-verdict : {v : CheckVerdict} → checkAnswer t u 9890 126 ≡ v → checkerText t u ≡ verdictText atoms v vs ls
-  by-verdict e = by-answer ∙ ap (λ (v : CheckVerdict). verdictText atoms v vs ls) e
+  by-verdict : {v : CheckVerdict} → checkAnswer t u 9890 126 ≡ v → checkerText t u ≡ checkerVerdictText atoms v vs ls
+  by-verdict e = by-answer ∙ ap (λ (v : CheckVerdict). checkerVerdictText atoms v vs ls) e
 
   pub checker-refuses : (r s : ℕ) → CheckAnswers t u 9890 126 r s → checkerText t u ≡ refusedText r s
   checker-refuses r s w = by-verdict (w .answer-is) ∙ ap₂ refusedText (w .row-is) (w .spot-is)
@@ -135,7 +135,7 @@ module _ (t u : List ℕ) where
         value-in P (A .limits .all-atoms) M stable bs size refl (drop (varTotal P) zeros) (drop (P .atoms) noLevels) values-are levels-are (suc i) (is-one i h)
         ∙ sym (ap (λ (b : Bool). b && valueOf bs (suc i)) (is-one i h))
 
-    level-at : (i : ℕ) → i < P .atoms → levelIn ls (suc i) ≡ level P M (suc i)
+    level-at : (i : ℕ) → i < P .atoms → levelByte ls (suc i) ≡ level P M (suc i)
     level-at i h =
         level-in P (A .limits .all-atoms) M stable bs size refl (drop (varTotal P) zeros) (drop (P .atoms) noLevels) values-are levels-are (suc i) (is-one i h)
 

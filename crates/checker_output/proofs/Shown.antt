@@ -19,7 +19,7 @@ use types.Run.{OneOf, miss}
 use denote.Enum.Declared.{tagOf}
 use borrow.Author.Tests.{lt-ltb}
 use Rattle.lists.proofs.Tests.{le-or-lt}
-use Rattle.reader.specs.declared.Reading.{Reading}
+use Rattle.reader.specs.declared.ReadResult.{ReadResult}
 use Rattle.reader.specs.Verdict.{readOf}
 use Rattle.reader.specs.declared.ReadVerdict.{ReadVerdict}
 use Rattle.reader.specs.declared.ReadVerdict.the-variants.{Accepted, Refused as TextRefused}
@@ -27,70 +27,70 @@ use Rattle.program.specs.Arrays.{decoded}
 use Rattle.clause_tables.specs.Tables.{Stored}
 use Rattle.digits.specs.Bytes.{Wrote}
 use Rattle.reader.proofs.Counted.{counted-whole}
-use Rattle.call_results.specs.Results.{Result, programOf}
+use Rattle.call_results.specs.Results.{Result, programRead}
 use Rattle.refusals.specs.declared.CheckRefusal.{CheckRefusal}
 use Rattle.call_check.specs.declared.CheckVerdict.{CheckVerdict}
 use Rattle.call_check.specs.declared.CheckVerdict.the-variants.{Model, Refused}
 use Rattle.call_check.proofs.CheckVerdict.{the-type}
-use Rattle.call_check.specs.Check.{afterReading, checkResult, readResult, verdictOf, Gives}
+use Rattle.call_check.specs.Check.{checkAfterReading, checkResult, callResult, checkVerdictOf, CheckGives}
 use Rattle.checker_model.specs.Model.{shownModel}
-use Rattle.checker_output.specs.Output.{refusedLine, verdictText, resultText, outputOf, outputText, checkerText}
+use Rattle.checker_output.specs.Output.{checkerRefusalLine, checkerVerdictText, resultText, checkerOutputOf, checkerOutput, checkerText}
 
 abbrev isModel : CheckVerdict → Bool
 isModel (Model k h c) = true
 isModel (Refused r) = false
 
 -- a model is shown only of an accepted text
-shown-accepted : (n : ℕ) (v : ReadVerdict) (y : Result CheckRefusal) → isModel (verdictOf n (afterReading v y)) ≡ true → v ≡ Accepted
+shown-accepted : (n : ℕ) (v : ReadVerdict) (y : Result CheckRefusal) → isModel (checkVerdictOf n (checkAfterReading v y)) ≡ true → v ≡ Accepted
 shown-accepted n Accepted y e = refl
 shown-accepted n (TextRefused r) y e = absurd (false≢true e)
 
 -- v, bs and ls are what the check of the answer t of k bytes gives and leaves, with buffers of zeros
-module _ (x : Reading) (t : List ℕ) (k : ℕ) {v : CheckVerdict} {bs ls : List ℕ}
-    (g : Gives (programOf x) (readResult x t k 9890 126) v (replicate 9890 0) bs (replicate 126 0) ls) where
+module _ (x : ReadResult) (t : List ℕ) (k : ℕ) {v : CheckVerdict} {bs ls : List ℕ}
+    (g : CheckGives (programRead x) (callResult x t k 9890 126) v (replicate 9890 0) bs (replicate 126 0) ls) where
   pub model-atoms : (x .verdict ≡ Accepted → Stored (x .program)) → {i j c : ℕ} → v ≡ Model i j c → x .program .atoms ≤ 126
   unfolding decoded
   model-atoms s m =
-      s (shown-accepted (programOf x .atoms) (x .verdict) (checkResult (programOf x) t k 9890 126) (ap isModel (sym (g .0) ∙ m))) .limits .few-atoms
+      s (shown-accepted (programRead x .atoms) (x .verdict) (checkResult (programRead x) t k 9890 126) (ap isModel (sym (g .0) ∙ m))) .limits .few-atoms
 
-  said : verdictText (programOf x .atoms) v bs ls ≡ outputOf x t k
-  unfolding outputOf
+  said : checkerVerdictText (programRead x .atoms) v bs ls ≡ checkerOutputOf x t k
+  unfolding checkerOutputOf
   said =
-      ap (λ (w : CheckVerdict). verdictText (programOf x .atoms) w bs ls) (g .0)
-      ∙ ap (λ (b : List ℕ). verdictText (programOf x .atoms) (verdictOf (programOf x .atoms) (readResult x t k 9890 126)) b ls) (g .1)
-      ∙ ap (verdictText (programOf x .atoms) (verdictOf (programOf x .atoms) (readResult x t k 9890 126)) _) (g .2)
+      ap (λ (w : CheckVerdict). checkerVerdictText (programRead x .atoms) w bs ls) (g .0)
+      ∙ ap (λ (b : List ℕ). checkerVerdictText (programRead x .atoms) (checkVerdictOf (programRead x .atoms) (callResult x t k 9890 126)) b ls) (g .1)
+      ∙ ap (checkerVerdictText (programRead x .atoms) (checkVerdictOf (programRead x .atoms) (callResult x t k 9890 126)) _) (g .2)
 
-  pub text-model : {i j c : ℕ} → v ≡ Model i j c → shownModel (x .program .atoms) c bs ls ≡ outputOf x t k
+  pub text-model : {i j c : ℕ} → v ≡ Model i j c → shownModel (x .program .atoms) c bs ls ≡ checkerOutputOf x t k
   unfolding decoded
-  text-model m = sym (ap (λ (w : CheckVerdict). verdictText (programOf x .atoms) w bs ls) m) ∙ said
+  text-model m = sym (ap (λ (w : CheckVerdict). checkerVerdictText (programRead x .atoms) w bs ls) m) ∙ said
 
   -- v is told to be the second variant
-  pub text-refused : OneOf (1 ∷ []) (tagOf the-type v) → refusedLine v ≡ outputOf x t k
+  pub text-refused : OneOf (1 ∷ []) (tagOf the-type v) → checkerRefusalLine v ≡ checkerOutputOf x t k
   text-refused m = go v m refl ∙ said
     where
-      go : (w : CheckVerdict) → OneOf (1 ∷ []) (tagOf the-type w) → v ≡ w → refusedLine v ≡ verdictText (programOf x .atoms) v bs ls
+      go : (w : CheckVerdict) → OneOf (1 ∷ []) (tagOf the-type w) → v ≡ w → checkerRefusalLine v ≡ checkerVerdictText (programRead x .atoms) v bs ls
       go (Model i j c) m e = absurd (miss (1 ∷ []) 0 tt m)
-      go (Refused q) m e = ap refusedLine e ∙ sym (ap (λ (w : CheckVerdict). verdictText (programOf x .atoms) w bs ls) e)
+      go (Refused q) m e = ap checkerRefusalLine e ∙ sym (ap (λ (w : CheckVerdict). checkerVerdictText (programRead x .atoms) w bs ls) e)
 
 -- the line of a verdict that is known
-pub line-of : {v w : CheckVerdict} {s : List ℕ} → v ≡ w → s ≡ refusedLine w → s ≡ refusedLine v
-line-of e f = f ∙ sym (ap refusedLine e)
+pub line-of : {v w : CheckVerdict} {s : List ℕ} → v ≡ w → s ≡ checkerRefusalLine w → s ≡ checkerRefusalLine v
+line-of e f = f ∙ sym (ap checkerRefusalLine e)
 
 pub same-text : (b : List ℕ) {s t l : List ℕ} {r : ℕ} → s ≡ t → Wrote s b l r → Wrote t b l r
 same-text b {l = l} {r = r} e u = subst (λ (y : List ℕ). Wrote y b l r) e u
 
 -- ---- the front of a text
 
-pub answer-whole : (x : Reading) (u : List ℕ) (a l : ℕ) → readResult x (take 65537 u) (length u) a l ≡ readResult x u (length u) a l
+pub answer-whole : (x : ReadResult) (u : List ℕ) (a l : ℕ) → callResult x (take 65537 u) (length u) a l ≡ callResult x u (length u) a l
 answer-whole x u a l =
-    ⊎-elim (λ (h : length u ≤ 65536). ap (λ (t : List ℕ). readResult x t (length u) a l) (take-all 65537 u (le-trans h (omega arith))))
+    ⊎-elim (λ (h : length u ≤ 65536). ap (λ (t : List ℕ). callResult x t (length u) a l) (take-all 65537 u (le-trans h (omega arith))))
     (λ (h : 65536 < length u). long h (take 65537 u) ∙ sym (long h u)) (le-or-lt (length u) 65536)
   where
-    long : 65536 < length u → (t : List ℕ) → readResult x t (length u) a l ≡ readResult x u (length u) a l
+    long : 65536 < length u → (t : List ℕ) → callResult x t (length u) a l ≡ callResult x u (length u) a l
     long h t = rw (lt-ltb 65536 (length u) h)
 
-pub output-whole : (t u : List ℕ) → outputText (take 65537 t) (length t) (take 65537 u) (length u) ≡ checkerText t u
-unfolding outputText checkerText outputOf
+pub output-whole : (t u : List ℕ) → checkerOutput (take 65537 t) (length t) (take 65537 u) (length u) ≡ checkerText t u
+unfolding checkerOutput checkerText checkerOutputOf
 output-whole t u =
-    ap (λ (x : Reading). resultText (programOf x) (readResult x (take 65537 u) (length u) 9890 126)) (counted-whole t)
-    ∙ ap (resultText (programOf (readOf t))) (answer-whole (readOf t) u 9890 126)
+    ap (λ (x : ReadResult). resultText (programRead x) (callResult x (take 65537 u) (length u) 9890 126)) (counted-whole t)
+    ∙ ap (resultText (programRead (readOf t))) (answer-whole (readOf t) u 9890 126)

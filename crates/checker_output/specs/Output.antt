@@ -1,13 +1,13 @@
 -- The checker's output (document 01, "Programs"; document 02, Q-3).
---   refusedLine v           the line of a refusal, nothing for a model
---   verdictText n v bs ls   the lines of the verdict v, for n atoms and the values bs and levels ls that the check has left in its buffers: those of a model,
---                           with the number of variables that were assumed; or the line of a refusal
---   resultText P x          the lines of the result x, for the program P and buffers of zeros, 9,890 and 126 of them
---   outputOf r u j          the lines for what the reader gave, r, and the answer of j bytes; of one that is not overlong, u is all
---   outputText t k u j      the lines for the program text of k bytes, of which t is all or the front, and the answer likewise
---   checkerText t u         the lines for the program text t and the answer u
---   PrintsModel t u c       they are the line of c, unless c is 0, and the line of the true atoms of the answer's values, completed, ascending, with their
---                           level numbers, in step; these atoms are a stable model of t's program
+--   checkerRefusalLine v           the line of a refusal, nothing for a model
+--   checkerVerdictText n v bs ls   the lines of the verdict v, for n atoms and the values bs and levels ls that the check has left in its buffers: those of a
+--                                  model, with the number of variables that were assumed; or the line of a refusal
+--   resultText P x                 the lines of the result x, for the program P and buffers of zeros, 9,890 and 126 of them
+--   checkerOutputOf r u j          the lines for what the reader gave, r, and the answer of j bytes; of one that is not overlong, u is all
+--   checkerOutput t k u j          the lines for the program text of k bytes, of which t is all or the front, and the answer likewise
+--   checkerText t u                the lines for the program text t and the answer u
+--   PrintsModel t u c              they are the line of c, unless c is 0, and the line of the true atoms of the answer's values, completed, ascending, with
+--                                  their level numbers, in step; these atoms are a stable model of t's program
 -- Assumes nothing.
 use Prim.Native.Nat.{ℕ}
 use mathlib.Core.Path.{_≡_}
@@ -17,42 +17,42 @@ use Rattle.lists.specs.Lists.{select}
 use Rattle.meaning.specs.Program.{Program, Atoms}
 use Rattle.meaning.specs.Stage.{Stable, level}
 use Rattle.encoding.specs.Fill.{trueAtoms}
-use Rattle.reader.specs.declared.Reading.{Reading}
+use Rattle.reader.specs.declared.ReadResult.{ReadResult}
 use Rattle.reader.specs.Verdict.{readOf}
 use Rattle.text.specs.Limits.{Admitted}
 use Rattle.clause_text.specs.Lines.{refusedText}
 use Rattle.reader.specs.Counted.{countedOf}
-use Rattle.answer_form.specs.Reading.{Spotted}
+use Rattle.answer_form.specs.Pieces.{Spotted}
 use Rattle.answer_offers.specs.Offered.{valuesOf}
-use Rattle.call_results.specs.Results.{Result, assignmentAfter, levelsAfter, varTotal, programOf}
+use Rattle.call_results.specs.Results.{Result, assignmentAfter, levelsAfter, varTotal, programRead}
 use Rattle.refusals.specs.declared.CheckRefusal.{CheckRefusal}
 use Rattle.call_check.specs.declared.CheckVerdict.{CheckVerdict}
 use Rattle.call_check.specs.declared.CheckVerdict.the-variants.{Model, Refused}
 use Rattle.refusals.specs.Numbers.{checkNumber, checkSpot}
-use Rattle.call_check.specs.Check.{zeroes, verdictOf, readResult}
+use Rattle.call_check.specs.Check.{zeroes, checkVerdictOf, callResult}
 use Rattle.call_check.specs.Rows.{Offers}
 use Rattle.checker_model.specs.Model.{modelLine, modelText, assumedText}
 
-abbrev pub refusedLine : CheckVerdict → List ℕ
-refusedLine (Model k h c) = []
-refusedLine (Refused r) = refusedText (checkNumber r) (checkSpot r)
+abbrev pub checkerRefusalLine : CheckVerdict → List ℕ
+checkerRefusalLine (Model k h c) = []
+checkerRefusalLine (Refused r) = refusedText (checkNumber r) (checkSpot r)
 
-abbrev pub verdictText : ℕ → CheckVerdict → List ℕ → List ℕ → List ℕ
-verdictText n (Model k h c) bs ls = assumedText c ++ modelText n bs ls
-verdictText n (Refused r) bs ls = refusedText (checkNumber r) (checkSpot r)
+abbrev pub checkerVerdictText : ℕ → CheckVerdict → List ℕ → List ℕ → List ℕ
+checkerVerdictText n (Model k h c) bs ls = assumedText c ++ modelText n bs ls
+checkerVerdictText n (Refused r) bs ls = refusedText (checkNumber r) (checkSpot r)
 
 abbrev pub resultText : Program → Result CheckRefusal → List ℕ
 resultText P x =
-    verdictText (P .atoms) (verdictOf (P .atoms) x) (assignmentAfter zeroes (varTotal P) x (replicate 9890 0)) (levelsAfter (P .atoms) x (replicate 126 0))
+    checkerVerdictText (P .atoms) (checkVerdictOf (P .atoms) x) (assignmentAfter zeroes (varTotal P) x (replicate 9890 0)) (levelsAfter (P .atoms) x (replicate 126 0))
 
-unfoldable pub outputOf : Reading → List ℕ → ℕ → List ℕ
-outputOf r u j = resultText (programOf r) (readResult r u j 9890 126)
+unfoldable pub checkerOutputOf : ReadResult → List ℕ → ℕ → List ℕ
+checkerOutputOf r u j = resultText (programRead r) (callResult r u j 9890 126)
 
-unfoldable pub outputText : List ℕ → ℕ → List ℕ → ℕ → List ℕ
-outputText t k u j = outputOf (countedOf t k) u j
+unfoldable pub checkerOutput : List ℕ → ℕ → List ℕ → ℕ → List ℕ
+checkerOutput t k u j = checkerOutputOf (countedOf t k) u j
 
 unfoldable pub checkerText : List ℕ → List ℕ → List ℕ
-checkerText t u = outputOf (readOf t) u (length u)
+checkerText t u = checkerOutputOf (readOf t) u (length u)
 
 pub record PrintsModel (t u : List ℕ) (c : ℕ) : Type 0 where
   pub program : Program

@@ -5,7 +5,7 @@ use call_check::check_read;
 use checker_model::put_shown_model;
 use clause_text::put_refusal;
 use files::read_file;
-use reader::Reading;
+use reader::ReadResult;
 use reader::read_counted;
 use refusals::check_number;
 use refusals::check_spot;
@@ -15,12 +15,12 @@ ghost use lib.ListN.{length};
 ghost use Rattle.digits.specs.Bytes.{Wrote};
 ghost use Rattle.reader.specs.declared.ReadVerdict.the-variants.{Accepted};
 ghost use Rattle.clause_tables.specs.Tables.{Stored};
-ghost use Rattle.checker_output.specs.Output.{refusedLine, outputOf, outputText};
+ghost use Rattle.checker_output.specs.Output.{checkerRefusalLine, checkerOutputOf, checkerOutput};
 
 // Writes the line of a refusal at the front of the buffer, nothing for a model, and returns how many bytes it has.
 fn put_refused(v: CheckVerdict, out: &mut [u8]) -> usize
     requires { ⌜ 35 ≤ length (now out) ⌝ }
-    ensures { λ r. ⌜ Wrote (refusedLine v) (now (out .entry)) (now (out .exit)) r ⌝ }
+    ensures { λ r. ⌜ Wrote (checkerRefusalLine v) (now (out .entry)) (now (out .exit)) r ⌝ }
 {
     match v {
         CheckVerdict::Model(k, h, c) => 0,
@@ -29,9 +29,9 @@ fn put_refused(v: CheckVerdict, out: &mut [u8]) -> usize
 }
 
 // Writes the checker's lines for a program that was read at the front of the buffer and returns how many bytes they are.
-fn put_checked(x: Reading, answer: &[u8], total: usize, out: &mut [u8]) -> usize
+fn put_checked(x: ReadResult, answer: &[u8], total: usize, out: &mut [u8]) -> usize
     requires { ⌜ (x .verdict ≡ Accepted → Stored (x .program)) × (1131 ≤ length (now out)) ⌝ }
-    ensures { λ r. ⌜ Wrote (outputOf x (now (answer .entry)) total) (now (out .entry)) (now (out .exit)) r ⌝ }
+    ensures { λ r. ⌜ Wrote (checkerOutputOf x (now (answer .entry)) total) (now (out .entry)) (now (out .exit)) r ⌝ }
 {
     let mut assignment = [0u8; 9890];
     let mut levels = [0u8; 126];
@@ -42,10 +42,10 @@ fn put_checked(x: Reading, answer: &[u8], total: usize, out: &mut [u8]) -> usize
     put_shown_model(x.program.atoms, c, &assignment, &levels, &mut *out)
 }
 
-// The same for a program text of `size` bytes and an answer of `total`; of those that are not overlong, `text` and `answer` are all.
+// Writes the checker's lines for a program text of `size` bytes and an answer of `total`; of those that are not overlong, `text` and `answer` are all.
 pub fn put_output(text: &[u8], size: usize, answer: &[u8], total: usize, out: &mut [u8]) -> usize
     requires { ⌜ 1131 ≤ length (now out) ⌝ }
-    ensures { λ r. ⌜ Wrote (outputText (now (text .entry)) size (now (answer .entry)) total) (now (out .entry)) (now (out .exit)) r ⌝ }
+    ensures { λ r. ⌜ Wrote (checkerOutput (now (text .entry)) size (now (answer .entry)) total) (now (out .entry)) (now (out .exit)) r ⌝ }
 {
     let x = read_counted(text, size);
     put_checked(x, answer, total, &mut *out)

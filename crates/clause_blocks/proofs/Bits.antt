@@ -14,16 +14,16 @@ use lib.ListN.{length, set}
 use borrow.Author.Tests.{ne-eqb}
 use Rattle.lists.specs.Lists.{each}
 use Rattle.encoding.specs.Literal.{Literal, var, −_}
-use Rattle.digits.specs.declared.Numeral.{Numeral}
+use Rattle.digits.specs.declared.Digits.{Digits}
 use Rattle.digits.specs.Bytes.{literalsText, lineText}
-use Rattle.digits.specs.Numerals.{numeralOf, numeralText}
-use Rattle.digits.proofs.NumeralLaws.{numeral-text}
+use Rattle.digits.specs.Digits.{digitsOf, digitsText}
+use Rattle.digits.proofs.DigitLaws.{digits-text}
 use Rattle.digits.proofs.Lengths.{literals-append}
 use Rattle.digits.proofs.Begins.{Begins, begins-none, begins-byte}
 use Rattle.clause_walk.specs.Walk.{signed, chainFirst, chainNext}
 use Rattle.clause_slots.specs.declared.Chain.{Chain}
 use Rattle.text.specs.Decimal.{decimal}
-use Rattle.clause_text.specs.Lines.{shown}
+use Rattle.clause_text.specs.Lines.{shownLiteral}
 use Rattle.clause_blocks.specs.Texts.{signText, twoText, threeText, firstText, nextText, bitText, Short, ShortBit}
 
 pub end-stores : (b : List ℕ) → 2 ≤ length b → Begins b (set (set b 0 48) 1 10) (48 ∷ 10 ∷ []) 2
@@ -31,10 +31,10 @@ end-stores b h = begins-byte (begins-byte (begins-none b) 48 (omega (arith, h)))
 
 -- ---- a literal by its sign
 
-pub sign-yes : {p : Bool} (x : Numeral) → p ≡ true → numeralText x ≡ signText p x
+pub sign-yes : {p : Bool} (x : Digits) → p ≡ true → digitsText x ≡ signText p x
 sign-yes x e = ap (λ (p : Bool). signText p x) (sym e)
 
-pub sign-no : {p : Bool} (x : Numeral) → p ≡ false → 45 ∷ numeralText x ≡ signText p x
+pub sign-no : {p : Bool} (x : Digits) → p ≡ false → 45 ∷ digitsText x ≡ signText p x
 sign-no x e = ap (λ (p : Bool). signText p x) (sym e)
 
 pub sign-fits : {t s : List ℕ} {n : ℕ} → t ≡ s → length s ≤ n → length t ≤ n
@@ -52,35 +52,35 @@ sign-first b t h = begins-byte (begins-none b) 45 (omega (arith, h))
 shown-some : (l : Literal) (v : ℕ) → Short v → cond (eqb v 0) [] (l ∷ []) ≡ l ∷ []
 shown-some l v W = ap (λ (d : Bool). cond d [] (l ∷ [])) (ne-eqb v 0 (λ e. omega (arith, e, W .some)))
 
-pub sign-text : (p : Bool) (v : ℕ) → Short v → signText p (numeralOf v) ≡ literalsText (shown (signed p v))
-sign-text true v W = numeral-text v (W .fits) ∙ sym (ap literalsText (shown-some (var v) v W) ∙ append-nil (decimal v ++ (32 ∷ [])))
+pub sign-text : (p : Bool) (v : ℕ) → Short v → signText p (digitsOf v) ≡ literalsText (shownLiteral (signed p v))
+sign-text true v W = digits-text v (W .fits) ∙ sym (ap literalsText (shown-some (var v) v W) ∙ append-nil (decimal v ++ (32 ∷ [])))
 sign-text false zero W = absurd (none (W .some))
   where
     none : 0 < 0 → ⊥
     none h = omega (arith, h)
 sign-text false (suc v) W =
-    ap (λ (t : List ℕ). 45 ∷ t) (numeral-text (suc v) (W .fits))
+    ap (λ (t : List ℕ). 45 ∷ t) (digits-text (suc v) (W .fits))
     ∙ sym (ap literalsText (shown-some (− (suc v)) (suc v) W) ∙ append-nil (45 ∷ (decimal (suc v) ++ (32 ∷ []))))
 
-module _ (p q : Bool) {a b : Numeral} {u v : ℕ} (e : a ≡ numeralOf u) (f : b ≡ numeralOf v) (U : Short u) (W : Short v) where
-  text-two : signText p a ++ signText q b ≡ literalsText (shown (signed p u) ++ shown (signed q v))
+module _ (p q : Bool) {a b : Digits} {u v : ℕ} (e : a ≡ digitsOf u) (f : b ≡ digitsOf v) (U : Short u) (W : Short v) where
+  text-two : signText p a ++ signText q b ≡ literalsText (shownLiteral (signed p u) ++ shownLiteral (signed q v))
   text-two =
       ap₂ (λ (s t : List ℕ). s ++ t) (ap (signText p) e ∙ sign-text p u U) (ap (signText q) f ∙ sign-text q v W)
-      ∙ sym (literals-append (shown (signed p u)) (shown (signed q v)))
+      ∙ sym (literals-append (shownLiteral (signed p u)) (shownLiteral (signed q v)))
 
-  pub line-two : twoText p a q b ≡ lineText (shown (signed p u) ++ shown (signed q v))
+  pub line-two : twoText p a q b ≡ lineText (shownLiteral (signed p u) ++ shownLiteral (signed q v))
   line-two = ap (λ (t : List ℕ). t ++ (48 ∷ 10 ∷ [])) text-two
 
-  pub line-three : (s : Bool) {d : Numeral} {w : ℕ} → d ≡ numeralOf w → Short w
-      → threeText p a q b s d ≡ lineText ((shown (signed p u) ++ shown (signed q v)) ++ shown (signed s w))
+  pub line-three : (s : Bool) {d : Digits} {w : ℕ} → d ≡ digitsOf w → Short w
+      → threeText p a q b s d ≡ lineText ((shownLiteral (signed p u) ++ shownLiteral (signed q v)) ++ shownLiteral (signed s w))
   line-three s {d} {w} g X =
       ap (λ (t : List ℕ). t ++ (48 ∷ 10 ∷ []))
       (ap₂ (λ (s t : List ℕ). s ++ t) text-two (ap (signText s) g ∙ sign-text s w X)
-      ∙ sym (literals-append (shown (signed p u) ++ shown (signed q v)) (shown (signed s w))))
+      ∙ sym (literals-append (shownLiteral (signed p u) ++ shownLiteral (signed q v)) (shownLiteral (signed s w))))
 
 -- ---- the lines of a chain's bit
 
-module _ (c : Chain) {i : ℕ} (W : ShortBit c i) {z x y : Numeral} (e : z ≡ numeralOf (c .z .0)) (f : x ≡ numeralOf (c .x .0)) (h : y ≡ numeralOf (c .y .0)) where
+module _ (c : Chain) {i : ℕ} (W : ShortBit c i) {z x y : Digits} (e : z ≡ digitsOf (c .z .0)) (f : x ≡ digitsOf (c .x .0)) (h : y ≡ digitsOf (c .y .0)) where
   pub first-bit : i ≡ 1 → firstText z x y ≡ bitText c i
   unfolding firstText
   first-bit q =
@@ -93,9 +93,9 @@ module _ (c : Chain) {i : ℕ} (W : ShortBit c i) {z x y : Numeral} (e : z ≡ n
   abbrev lines-by : Bool → List ℕ
   lines-by d =
       each (cond d 3 6)
-      (λ y. lineText (each (cond d (cond (eqb y 3) 3 2) 3) (λ l. shown (cond d (chainFirst (c .z .0) (c .x .0) (c .y .0) y l) (chainNext (c .z .0) (c .x .0) (c .y .0) (c .g .0) y l)))))
+      (λ y. lineText (each (cond d (cond (eqb y 3) 3 2) 3) (λ l. shownLiteral (cond d (chainFirst (c .z .0) (c .x .0) (c .y .0) y l) (chainNext (c .z .0) (c .x .0) (c .y .0) (c .g .0) y l)))))
 
-  pub next-bit : {g : Numeral} → g ≡ numeralOf (c .g .0) → (i ≡ 1 → ⊥) → nextText z x y g ≡ bitText c i
+  pub next-bit : {g : Digits} → g ≡ digitsOf (c .g .0) → (i ≡ 1 → ⊥) → nextText z x y g ≡ bitText c i
   unfolding nextText
   next-bit k q =
       ap₂ app

@@ -1,15 +1,15 @@
-// Whole rows of groups 4 and 5, which have most of the clauses, written into a lent buffer: the digits of a variable are found once for all clauses of
-// the row that have it (document 01, "Clauses, in order").
-use clause_layout::chain_at;
+// Whole blocks of groups 4 and 5, which have most of the clauses, written into a lent buffer: the digits of a variable are found once for all clauses of
+// the block that have it (document 01, "Clauses, in order").
+use clause_layout::chain_of_block;
 use clause_literals::Sizes;
 use clause_literals::level_var;
 use clause_literals::next_var;
 use clause_slots::Chain;
 use clause_slots::chain_bit;
 use clause_tables::Totals;
-use digits::Numeral;
-use digits::numeral_of;
-use digits::put_numeral;
+use digits::Digits;
+use digits::digits_of;
+use digits::put_digits;
 use numbers::Atom;
 ghost use Prim.Native.Nat.{_≤_, _<_};
 ghost use mathlib.Core.Path.{_≡_};
@@ -18,15 +18,15 @@ ghost use mathlib.Core.List.{[], _∷_, _++_};
 ghost use lib.ListN.{length, drop};
 ghost use Rattle.encoding.specs.Variables.{levelVar};
 ghost use Rattle.clause_literals.specs.Sizes.{sizesOf, Bounded};
-ghost use Rattle.digits.specs.Numerals.{numeralOf};
-ghost use Rattle.clause_walk.specs.Walk.{RowAt};
+ghost use Rattle.digits.specs.Digits.{digitsOf};
+ghost use Rattle.clause_walk.specs.Walk.{BlockAt};
 ghost use Rattle.clause_tables.specs.Tables.{programIn, Ready};
-ghost use Rattle.clause_text.specs.Rows.{isRowed, rowText};
-ghost use Rattle.clause_blocks.specs.Texts.{signText, twoText, threeText, firstText, nextText, ShortBit, bitText, lowerText, pairText, pairsText, longText, nextRowText};
+ghost use Rattle.clause_text.specs.Blocks.{isBlockwise, blockText};
+ghost use Rattle.clause_blocks.specs.Texts.{signText, twoText, threeText, firstText, nextText, ShortBit, bitText, lowerText, pairText, pairsText, longText, nextBlockText};
 
 // Each function below writes at the front of the buffer and returns how many bytes it wrote.
 
-// 0 and byte 10.
+// The end of a line: 0 and byte 10.
 fn put_end(buf: &mut [u8]) -> usize
     requires { ⌜ 2 ≤ length (now buf) ⌝ }
     ensures { λ r. ⌜ (r ≡ 2) × (now (buf .exit) ≡ (48 ∷ 10 ∷ []) ++ drop r (now (buf .entry))) ⌝ }
@@ -36,20 +36,20 @@ fn put_end(buf: &mut [u8]) -> usize
     2
 }
 
-// A literal, with the digits of its variable at hand, and one space.
-fn put_sign(positive: bool, x: Numeral, buf: &mut [u8]) -> usize
+// A literal from its sign and the digits of its variable, and one space.
+fn put_sign(positive: bool, x: Digits, buf: &mut [u8]) -> usize
     requires { ⌜ length (signText positive x) ≤ length (now buf) ⌝ }
     ensures { λ r. ⌜ (r ≡ length (signText positive x)) × (now (buf .exit) ≡ signText positive x ++ drop r (now (buf .entry))) ⌝ }
 {
     if positive {
-        return put_numeral(x, &mut *buf);
+        return put_digits(x, &mut *buf);
     }
     buf[0] = 45;
-    1 + put_numeral(x, &mut buf[1..])
+    1 + put_digits(x, &mut buf[1..])
 }
 
-// The line of two such literals, and of three.
-fn put_two(p: bool, x: Numeral, q: bool, y: Numeral, buf: &mut [u8]) -> usize
+// The line of a clause of two literals, by sign and digits, and of three.
+fn put_two(p: bool, x: Digits, q: bool, y: Digits, buf: &mut [u8]) -> usize
     requires { ⌜ length (twoText p x q y) ≤ length (now buf) ⌝ }
     ensures { λ r. ⌜ (r ≡ length (twoText p x q y)) × (now (buf .exit) ≡ twoText p x q y ++ drop r (now (buf .entry))) ⌝ }
 {
@@ -59,7 +59,7 @@ fn put_two(p: bool, x: Numeral, q: bool, y: Numeral, buf: &mut [u8]) -> usize
     at
 }
 
-fn put_three(p: bool, x: Numeral, q: bool, y: Numeral, s: bool, z: Numeral, buf: &mut [u8]) -> usize
+fn put_three(p: bool, x: Digits, q: bool, y: Digits, s: bool, z: Digits, buf: &mut [u8]) -> usize
     requires { ⌜ length (threeText p x q y s z) ≤ length (now buf) ⌝ }
     ensures { λ r. ⌜ (r ≡ length (threeText p x q y s z)) × (now (buf .exit) ≡ threeText p x q y s z ++ drop r (now (buf .entry))) ⌝ }
 {
@@ -73,7 +73,7 @@ fn put_three(p: bool, x: Numeral, q: bool, y: Numeral, s: bool, z: Numeral, buf:
 // ---- group 5
 
 // The lines of a chain's first bit, and of a further one.
-fn put_first_bit(z: Numeral, x: Numeral, y: Numeral, buf: &mut [u8]) -> usize
+fn put_first_bit(z: Digits, x: Digits, y: Digits, buf: &mut [u8]) -> usize
     requires { ⌜ length (firstText z x y) ≤ length (now buf) ⌝ }
     ensures { λ r. ⌜ (r ≡ length (firstText z x y)) × (now (buf .exit) ≡ firstText z x y ++ drop r (now (buf .entry))) ⌝ }
 {
@@ -83,7 +83,7 @@ fn put_first_bit(z: Numeral, x: Numeral, y: Numeral, buf: &mut [u8]) -> usize
     at
 }
 
-fn put_next_bit(z: Numeral, x: Numeral, y: Numeral, g: Numeral, buf: &mut [u8]) -> usize
+fn put_next_bit(z: Digits, x: Digits, y: Digits, g: Digits, buf: &mut [u8]) -> usize
     requires { ⌜ length (nextText z x y g) ≤ length (now buf) ⌝ }
     ensures { λ r. ⌜ (r ≡ length (nextText z x y g)) × (now (buf .exit) ≡ nextText z x y g ++ drop r (now (buf .entry))) ⌝ }
 {
@@ -101,24 +101,24 @@ fn put_bit(c: Chain, i: u16, buf: &mut [u8]) -> usize
     requires { ⌜ (ShortBit c i) × (length (bitText c i) ≤ length (now buf)) ⌝ }
     ensures { λ r. ⌜ (r ≡ length (bitText c i)) × (now (buf .exit) ≡ bitText c i ++ drop r (now (buf .entry))) ⌝ }
 {
-    let z = numeral_of(c.z.0);
-    let x = numeral_of(c.x.0);
-    let y = numeral_of(c.y.0);
+    let z = digits_of(c.z.0);
+    let x = digits_of(c.x.0);
+    let y = digits_of(c.y.0);
     if i == 1 {
         return put_first_bit(z, x, y, &mut *buf);
     }
-    let g = numeral_of(c.g.0);
+    let g = digits_of(c.g.0);
     put_next_bit(z, x, y, g, &mut *buf)
 }
 
 // ---- group 4, atom a; u and v are the digits of u(a,i) and v(a,i)
 
 // The digits of v(a,j).
-fn level_digits(s: Sizes, a: Atom, j: u16) -> Numeral
+fn level_digits(s: Sizes, a: Atom, j: u16) -> Digits
     requires { ⌜ (Bounded s) × (0 < a .0) × (a .0 ≤ 126) × (0 < j) × (j ≤ 7) ⌝ }
-    ensures { λ r. ⌜ r ≡ numeralOf (levelVar (sizesOf s) (a .0) j) ⌝ }
+    ensures { λ r. ⌜ r ≡ digitsOf (levelVar (sizesOf s) (a .0) j) ⌝ }
 {
-    numeral_of(level_var(s, a, j).0)
+    digits_of(level_var(s, a, j).0)
 }
 
 // -v(a,1) to -v(a,k), each followed by one space.
@@ -136,7 +136,7 @@ fn put_lower(s: Sizes, a: Atom, k: u16, buf: &mut [u8]) -> usize
 }
 
 // The two lines of a lower bit, whose variable has the digits x.
-fn put_pair(x: Numeral, u: Numeral, v: Numeral, buf: &mut [u8]) -> usize
+fn put_pair(x: Digits, u: Digits, v: Digits, buf: &mut [u8]) -> usize
     requires { ⌜ length (pairText x u v) ≤ length (now buf) ⌝ }
     ensures { λ r. ⌜ (r ≡ length (pairText x u v)) × (now (buf .exit) ≡ pairText x u v ++ drop r (now (buf .entry))) ⌝ }
 {
@@ -146,7 +146,7 @@ fn put_pair(x: Numeral, u: Numeral, v: Numeral, buf: &mut [u8]) -> usize
 }
 
 // The two lines of each of the k lowest bits.
-fn put_pairs(s: Sizes, a: Atom, k: u16, u: Numeral, v: Numeral, buf: &mut [u8]) -> usize
+fn put_pairs(s: Sizes, a: Atom, k: u16, u: Digits, v: Digits, buf: &mut [u8]) -> usize
     requires { ⌜ (Bounded s) × (0 < a .0) × (a .0 ≤ 126) × (k ≤ 7) × (length (pairsText (sizesOf s) (a .0) k u v) ≤ length (now buf)) ⌝ }
     ensures { λ r. ⌜ (r ≡ length (pairsText (sizesOf s) (a .0) k u v)) × (now (buf .exit) ≡ pairsText (sizesOf s) (a .0) k u v ++ drop r (now (buf .entry))) ⌝ }
 {
@@ -160,7 +160,7 @@ fn put_pairs(s: Sizes, a: Atom, k: u16, u: Numeral, v: Numeral, buf: &mut [u8]) 
 }
 
 // The line of the k lower bits, negated, and of u and v with sign p.
-fn put_long(s: Sizes, a: Atom, k: u16, p: bool, u: Numeral, v: Numeral, buf: &mut [u8]) -> usize
+fn put_long(s: Sizes, a: Atom, k: u16, p: bool, u: Digits, v: Digits, buf: &mut [u8]) -> usize
     requires { ⌜ (Bounded s) × (0 < a .0) × (a .0 ≤ 126) × (k ≤ 7) × (length (longText (sizesOf s) (a .0) k p u v) ≤ length (now buf)) ⌝ }
     ensures { λ r. ⌜ (r ≡ length (longText (sizesOf s) (a .0) k p u v)) × (now (buf .exit) ≡ longText (sizesOf s) (a .0) k p u v ++ drop r (now (buf .entry))) ⌝ }
 {
@@ -169,12 +169,12 @@ fn put_long(s: Sizes, a: Atom, k: u16, p: bool, u: Numeral, v: Numeral, buf: &mu
     at
 }
 
-// The lines of row i.
-fn put_next_row(s: Sizes, a: Atom, i: u16, buf: &mut [u8]) -> usize
-    requires { ⌜ (Bounded s) × (0 < a .0) × (a .0 ≤ 126) × (0 < i) × (i ≤ 7) × (length (nextRowText (sizesOf s) (a .0) i) ≤ length (now buf)) ⌝ }
-    ensures { λ r. ⌜ (r ≡ length (nextRowText (sizesOf s) (a .0) i)) × (now (buf .exit) ≡ nextRowText (sizesOf s) (a .0) i ++ drop r (now (buf .entry))) ⌝ }
+// Group 4, atom a: the lines of block i.
+fn put_next_block(s: Sizes, a: Atom, i: u16, buf: &mut [u8]) -> usize
+    requires { ⌜ (Bounded s) × (0 < a .0) × (a .0 ≤ 126) × (0 < i) × (i ≤ 7) × (length (nextBlockText (sizesOf s) (a .0) i) ≤ length (now buf)) ⌝ }
+    ensures { λ r. ⌜ (r ≡ length (nextBlockText (sizesOf s) (a .0) i)) × (now (buf .exit) ≡ nextBlockText (sizesOf s) (a .0) i ++ drop r (now (buf .entry))) ⌝ }
 {
-    let u = numeral_of(next_var(s, a, i).0);
+    let u = digits_of(next_var(s, a, i).0);
     let v = level_digits(s, a, i);
     let mut at = put_pairs(s, a, i - 1, u, v, &mut *buf);
     at += put_long(s, a, i - 1, false, u, v, &mut buf[at..]);
@@ -184,8 +184,8 @@ fn put_next_row(s: Sizes, a: Atom, i: u16, buf: &mut [u8]) -> usize
 
 // ---- both groups
 
-// The lines of the clauses of row i of item a of group g.
-pub fn put_row<'a>(
+// The lines of the clauses of block i of item a of group g.
+pub fn put_block<'a>(
     t: Totals,
     heads: &'a [u16],
     starts: &'a [u16],
@@ -198,12 +198,12 @@ pub fn put_row<'a>(
     i: u16,
     buf: &mut [u8],
 ) -> usize
-    requires { ⌜ (Ready t (now heads) (now starts) (now bodies) (now before) (now partners) (now owners)) × (RowAt (programIn (t .sizes) (now heads) (now starts) (now bodies)) (t .sizes .w) g a i) × (isRowed g ≡ true) × (length (rowText (programIn (t .sizes) (now heads) (now starts) (now bodies)) (t .sizes .w) g a i) ≤ length (now buf)) ⌝ }
-    ensures { λ r. ⌜ (r ≡ length (rowText (programIn (t .sizes) (now (heads .entry)) (now (starts .entry)) (now (bodies .entry))) (t .sizes .w) g a i)) × (now (buf .exit) ≡ rowText (programIn (t .sizes) (now (heads .entry)) (now (starts .entry)) (now (bodies .entry))) (t .sizes .w) g a i ++ drop r (now (buf .entry))) ⌝ }
+    requires { ⌜ (Ready t (now heads) (now starts) (now bodies) (now before) (now partners) (now owners)) × (BlockAt (programIn (t .sizes) (now heads) (now starts) (now bodies)) (t .sizes .w) g a i) × (isBlockwise g ≡ true) × (length (blockText (programIn (t .sizes) (now heads) (now starts) (now bodies)) (t .sizes .w) g a i) ≤ length (now buf)) ⌝ }
+    ensures { λ r. ⌜ (r ≡ length (blockText (programIn (t .sizes) (now (heads .entry)) (now (starts .entry)) (now (bodies .entry))) (t .sizes .w) g a i)) × (now (buf .exit) ≡ blockText (programIn (t .sizes) (now (heads .entry)) (now (starts .entry)) (now (bodies .entry))) (t .sizes .w) g a i ++ drop r (now (buf .entry))) ⌝ }
 {
     if g == 5 {
-        let c = chain_at(t, heads, starts, bodies, before, partners, owners, g, a, i);
+        let c = chain_of_block(t, heads, starts, bodies, before, partners, owners, g, a, i);
         return put_bit(c, chain_bit(t.sizes.w, i), &mut *buf);
     }
-    put_next_row(t.sizes, Atom(a), i, &mut *buf)
+    put_next_block(t.sizes, Atom(a), i, &mut *buf)
 }

@@ -1,13 +1,13 @@
 -- What the code asks and answers, over plain numbers and heads.
---   varied-1, varied-2, fixed-rest     whether the items of group g have one size
---   size-3 to size-rest, size-fits     that size, from 1 to 78
+--   varied-1, varied-2, fixed-rest      whether the items of group g have one size
+--   size-3 to size-rest, size-fits      that size, from 1 to 78
 --   count-low, count-high, count-fits, count-front     heads that are at most a, counted one by one
---   group-1, group-2, group-rest       how many clauses a group has, as the code finds it
---   last-in, in-last, before-last      group 7, from its end
+--   group-1, group-2, group-rest        how many clauses a group has, as the code finds it
+--   last-in, in-last, before-last       group 7, from its end
 --   atoms-before, rule-size, item-even how many clauses items have, as the code finds it
---   atoms-all, atoms-fit, falls-2      the search in group 2
---   row-below, rows-end, items-..      the numbers of rows and items at hand
---   spot-is                            the spot made from them
+--   atoms-all, atoms-fit, falls-2       the search in group 2
+--   block-below, blocks-end, items-..   the numbers of blocks and items
+--   coordinates-is                      the coordinates made from them
 -- Assumes nothing.
 use Prim.Native.Nat.{ℕ, suc, pred, _+_, _-_, _*_, _/_, _%_, _≤_, _<_}
 use native.Mathlib.Nat.{mul-le-mul}
@@ -27,15 +27,15 @@ use Rattle.lists.proofs.Growing.{count-le}
 use Rattle.lists.specs.Lists.{sum}
 use Rattle.meaning.specs.Program.{Program}
 use Rattle.clause_literals.specs.Sizes.{Bounded}
-use Rattle.clause_walk.specs.Walk.{itemCount, rowCount, size, RowAt, At}
+use Rattle.clause_walk.specs.Walk.{itemCount, blockCount, size, BlockAt, At}
 use Rattle.clause_tables.specs.declared.Totals.{Totals}
 use Rattle.clause_tables.specs.Tables.{Tabled}
 use Rattle.clause_table_laws.proofs.Elements as elements
 use Rattle.clause_table_laws.proofs.Bounds.{items-fit}
-use Rattle.clause_layout.specs.Numbers.{itemsOf, rowsOf}
-use Rattle.clause_places.specs.Places.{spot}
-use Rattle.clause_places.proofs.Steps.{items-is, rows-is}
-use Rattle.clause_finding.specs.declared.Found.{Found}
+use Rattle.clause_layout.specs.Numbers.{itemsOf, blocksOf}
+use Rattle.clause_places.specs.Places.{coordinates}
+use Rattle.clause_places.proofs.Steps.{items-is, blocks-is}
+use Rattle.clause_finding.specs.declared.PartFound.{PartFound}
 use Rattle.clause_finding.specs.Falls.{Passed, Falls, Between}
 use Rattle.clause_finding.specs.Sizes.{itemSize, groupSize, lowCount, isFixed, fixedSize}
 use Rattle.clause_finding.proofs.Falling.{between-all, falls-even}
@@ -180,7 +180,7 @@ module _ {P : Program} {t : Totals} {hs ss bs ks xs ys : List ℕ} (T : Tabled P
   atoms-fit B = omega (arith, B .within, items-fit P (T .limits) 2)
 
   -- in group g, which is 2
-  pub falls-2 : {g left : ℕ} {r : Found} → g ≡ 2 → Falls (itemCount P 2) (itemSize P w 2) left r → Falls (itemCount P g) (itemSize P w g) left r
+  pub falls-2 : {g left : ℕ} {r : PartFound} → g ≡ 2 → Falls (itemCount P 2) (itemSize P w 2) left r → Falls (itemCount P g) (itemSize P w g) left r
   falls-2 {g} {left} {r} e F = subst (λ (k : ℕ). Falls (itemCount P k) (itemSize P w k) left r) (sym e) F
 
   pub left-2 : {g left : ℕ} → g ≡ 2 → left < gs g → left < gs 2
@@ -199,14 +199,14 @@ module _ {P : Program} {t : Totals} {hs ss bs ks xs ys : List ℕ} (T : Tabled P
     pub even-fits : left / k < 500
     even-fits = omega (arith, item-even .at .within, items-fit P (T .limits) g)
 
-  -- ---- the numbers of rows and items
+  -- ---- the numbers of blocks and items
 
   module _ (g : ℕ) {n i : ℕ} where
-    pub row-below : n ≡ rowsOf (t .sizes) g → i < n → i < rowCount P w g
-    row-below e h = subst (λ (k : ℕ). i < k) (e ∙ rows-is T g) h
+    pub block-below : n ≡ blocksOf (t .sizes) g → i < n → i < blockCount P w g
+    block-below e h = subst (λ (k : ℕ). i < k) (e ∙ blocks-is T g) h
 
-    pub rows-end : n ≡ rowsOf (t .sizes) g → n ≤ i → rowCount P w g ≤ i
-    rows-end e h = subst (λ (k : ℕ). k ≤ i) (e ∙ rows-is T g) h
+    pub blocks-end : n ≡ blocksOf (t .sizes) g → n ≤ i → blockCount P w g ≤ i
+    blocks-end e h = subst (λ (k : ℕ). k ≤ i) (e ∙ blocks-is T g) h
 
     pub item-below : n ≡ itemsOf t g → i < n → i < itemCount P g
     item-below e h = subst (λ (k : ℕ). i < k) (e ∙ items-is T g) h
@@ -214,16 +214,16 @@ module _ {P : Program} {t : Totals} {hs ss bs ks xs ys : List ℕ} (T : Tabled P
     pub items-end : n ≡ itemsOf t g → n ≤ i → itemCount P g ≤ i
     items-end e h = subst (λ (k : ℕ). k ≤ i) (e ∙ items-is T g) h
 
-  -- row i of the item, where the search is
-  pub row-here : {g a i left at : ℕ} → 0 < g → g ≤ 7 → 0 < a → a ≤ itemCount P g → Passed (rowCount P w g) (size P w g a) left i at → RowAt P w g a i
-  row-here h l p q s = record { group-some = h; group-in = l; item-some = p; item-in = q; row-some = s .some; row-in = s .within }
+  -- block i of the item, where the search is
+  pub block-here : {g a i left at : ℕ} → 0 < g → g ≤ 7 → 0 < a → a ≤ itemCount P g → Passed (blockCount P w g) (size P w g a) left i at → BlockAt P w g a i
+  block-here h l p q s = record { group-some = h; group-in = l; item-some = p; item-in = q; block-some = s .some; block-in = s .within }
 
-  -- row 1 of item a, where the search is
-  pub item-here : {g a left at : ℕ} → 0 < g → g ≤ 7 → Passed (itemCount P g) (itemSize P w g) left a at → RowAt P w g a 1
-  item-here {g} h l s = record { group-some = h; group-in = l; item-some = s .some; item-in = s .within; row-some = omega arith; row-in = row-some }
+  -- block 1 of item a, where the search is
+  pub item-here : {g a left at : ℕ} → 0 < g → g ≤ 7 → Passed (itemCount P g) (itemSize P w g) left a at → BlockAt P w g a 1
+  item-here {g} h l s = record { group-some = h; group-in = l; item-some = s .some; item-in = s .within; block-some = omega arith; block-in = block-some }
     where
-      row-some : 0 < rowCount P w g
-      row-some = subst (λ (k : ℕ). 0 < k) (rows-is T g) (go (eqb g 2) (eqb g 4) (eqb g 5))
+      block-some : 0 < blockCount P w g
+      block-some = subst (λ (k : ℕ). 0 < k) (blocks-is T g) (go (eqb g 2) (eqb g 4) (eqb g 5))
         where
           go : (b2 b4 b5 : Bool) → 0 < cond b2 (suc (t .sizes .m)) (cond b4 w (cond b5 (w + w) 1))
           go true b4 b5 = omega arith
@@ -232,21 +232,21 @@ module _ {P : Program} {t : Totals} {hs ss bs ks xs ys : List ℕ} (T : Tabled P
           go false false false = omega arith
 
   module _ {g a i y : ℕ} (A : At P w g a i y) where
-    pub rows-left : {r : ℕ} → r ≡ rowsOf (t .sizes) g → i ≤ r
-    rows-left e = subst (λ (k : ℕ). i ≤ k) (sym (e ∙ rows-is T g)) (A .row-at .row-in)
+    pub blocks-left : {r : ℕ} → r ≡ blocksOf (t .sizes) g → i ≤ r
+    blocks-left e = subst (λ (k : ℕ). i ≤ k) (sym (e ∙ blocks-is T g)) (A .block-at .block-in)
 
     pub items-left : {n : ℕ} → n ≡ itemsOf t g → a ≤ n
-    items-left e = subst (λ (k : ℕ). a ≤ k) (sym (e ∙ items-is T g)) (A .row-at .item-in)
+    items-left e = subst (λ (k : ℕ). a ≤ k) (sym (e ∙ items-is T g)) (A .block-at .item-in)
 
-    pub spot-is : {x r n : ℕ} → x ≡ size P w g a i → r ≡ rowsOf (t .sizes) g → n ≡ itemsOf t g
-        → record { group = g; item = a; row = i; clause = y; clauses = x - y; rows = r - i; items = n - a } ≡ spot P w g a i y
-    spot-is p q e =
+    pub coordinates-is : {x r n : ℕ} → x ≡ size P w g a i → r ≡ blocksOf (t .sizes) g → n ≡ itemsOf t g
+        → record { group = g; item = a; block = i; clause = y; clauses = x - y; blocks = r - i; items = n - a } ≡ coordinates P w g a i y
+    coordinates-is p q e =
         λ j. record {
           group = g;
           item = a;
-          row = i;
+          block = i;
           clause = y;
           clauses = p j - y;
-          rows = (q ∙ rows-is T g) j - i;
+          blocks = (q ∙ blocks-is T g) j - i;
           items = (e ∙ items-is T g) j - a;
         }

@@ -1,9 +1,9 @@
 -- How many clauses items and groups have.
---   item-length, group-length, spots-length    as many spots as the sizes say
+--   item-length, group-length, all-coordinates-length   as many coordinates as the sizes say
 --   fixed-item      each item of group 3, 4, 5 or 7
 --   rule-item       an item of group 1 or 6
 --   atoms-sum       the first a items of group 2
---   bodies-group, atoms-group, fixed-group     group 1, group 2, and groups 3, 4, 5 and 7, from the tables
+--   bodies-group, atoms-group, fixed-group              group 1, group 2, and groups 3, 4, 5 and 7, from the tables
 --   groups-all      all groups have C clauses
 -- Assumes nothing.
 use Prim.Native.Nat.{ℕ, zero, suc, pred, _+_, _-_, _*_, _≤_, _<_}
@@ -21,13 +21,13 @@ use Rattle.lists.proofs.Tests.{le-or-lt}
 use Rattle.lists.proofs.Growing.{one}
 use Rattle.lists.proofs.Tables.{sum-ext, sum-add, sum-const, sum-zero, length-tab, length-each}
 use Rattle.meaning.specs.Program.{Program}
-use Rattle.clause_walk.specs.Walk.{itemCount, rowCount, size, size2, headOf, bodyCount, chainSize, chainBit}
+use Rattle.clause_walk.specs.Walk.{itemCount, blockCount, size, size2, headOf, bodyCount, chainSize, chainBit}
 use Rattle.program.specs.Arrays.{kept}
 use Rattle.clause_tables.specs.declared.Totals.{Totals}
 use Rattle.clause_tables.specs.Tables.{Tabled}
 use Rattle.clause_table_laws.proofs.Elements.{rules-are, atoms-are, width-pos, head-is, head-atom, start-at}
 use Rattle.clause_layout.specs.Numbers.{itemsOf}
-use Rattle.clause_places.specs.Places.{spot, rowSpots, itemSpots, groupSpots, spots}
+use Rattle.clause_places.specs.Places.{coordinates, blockCoordinates, itemCoordinates, groupCoordinates, allCoordinates}
 use Rattle.clause_places.proofs.Steps.{items-is}
 use Rattle.clause_places.proofs.Numbers.{count-is}
 use Rattle.clause_finding.specs.Sizes.{itemSize, groupSize, lowCount, isFixed, fixedSize}
@@ -54,21 +54,21 @@ low-more m hs a =
     more h (inr p) (inl q) = ap₂ _+_ (ap one (lt-leb h a p)) (ap one (eq-eqb h (suc a) (omega (arith, p, q)))) ∙ sym (ap one (le-leb h (suc a) q))
     more h (inr p) (inr q) = ap₂ _+_ (ap one (lt-leb h a p)) (ap one (ne-eqb h (suc a) (λ e. omega (arith, e, q)))) ∙ sym (ap one (lt-leb h (suc a) q))
 
--- ---- the spots
+-- ---- the coordinates
 
 module _ (P : Program) (w : ℕ) where
-  pub item-length : (g a : ℕ) → length (itemSpots P w g a) ≡ itemSize P w g a
+  pub item-length : (g a : ℕ) → length (itemCoordinates P w g a) ≡ itemSize P w g a
   item-length g a =
-      length-each (rowCount P w g) (rowSpots P w g a)
-      ∙ sum-ext (rowCount P w g) _ (size P w g a) (λ i h. length-tab (size P w g a (suc i)) (spot P w g a (suc i)))
+      length-each (blockCount P w g) (blockCoordinates P w g a)
+      ∙ sum-ext (blockCount P w g) _ (size P w g a) (λ i h. length-tab (size P w g a (suc i)) (coordinates P w g a (suc i)))
 
-  pub group-length : (g : ℕ) → length (groupSpots P w g) ≡ groupSize P w g
+  pub group-length : (g : ℕ) → length (groupCoordinates P w g) ≡ groupSize P w g
   group-length g =
-      length-each (itemCount P g) (itemSpots P w g) ∙ sum-ext (itemCount P g) _ (itemSize P w g) (λ a h. item-length g (suc a))
+      length-each (itemCount P g) (itemCoordinates P w g) ∙ sum-ext (itemCount P g) _ (itemSize P w g) (λ a h. item-length g (suc a))
 
-  spots-length : length (spots P w) ≡ sum 7 (groupSize P w)
-  unfolding spots
-  spots-length = length-each 7 (groupSpots P w) ∙ sum-ext 7 (λ g. length (groupSpots P w g)) (groupSize P w) (λ g h. group-length (suc g))
+  all-coordinates-length : length (allCoordinates P w) ≡ sum 7 (groupSize P w)
+  unfolding allCoordinates
+  all-coordinates-length = length-each 7 (groupCoordinates P w) ∙ sum-ext 7 (λ g. length (groupCoordinates P w g)) (groupSize P w) (λ g h. group-length (suc g))
 
 -- ---- items
 
@@ -96,7 +96,7 @@ pair-sum (suc k) p =
 
 module _ (P : Program) (w : ℕ) where
   pub fixed-item : 0 < w → (g : ℕ) → 0 < g → g ≤ 7 → isFixed g ≡ true → (a : ℕ) → itemSize P w g a ≡ fixedSize w g
-  unfolding rowCount size
+  unfolding blockCount size
   fixed-item p zero h k e a = absurd (not-suc-le-zero h)
   fixed-item p (suc zero) h k e a = absurd (false≢true e)
   fixed-item p (suc (suc zero)) h k e a = absurd (false≢true e)
@@ -108,7 +108,7 @@ module _ (P : Program) (w : ℕ) where
   fixed-item p (suc (suc (suc (suc (suc (suc (suc (suc g)))))))) h k e a = absurd (omega (arith, k))
 
   pub rule-item : (g : ℕ) → 0 < g → g ≤ 7 → isFixed g ≡ false → (g ≡ 2 → ⊥) → (a : ℕ) → size P w g a 1 ≡ itemSize P w g a
-  unfolding rowCount size
+  unfolding blockCount size
   rule-item zero h k e f a = absurd (not-suc-le-zero h)
   rule-item (suc zero) h k e f a = sym (zero-add (size P w 1 a 1))
   rule-item (suc (suc zero)) h k e f a = absurd (f refl)
@@ -122,7 +122,7 @@ module _ (P : Program) (w : ℕ) where
 -- ---- from the tables
 
 rule-clauses : (P : Program) (w r : ℕ) → itemSize P w 1 r ≡ suc (bodyCount P r)
-unfolding rowCount size
+unfolding blockCount size
 rule-clauses P w r = zero-add (suc (bodyCount P r))
 
 first-start : {P : Program} {t : Totals} {hs ss bs ks xs ys : List ℕ} → Tabled P t hs ss bs ks xs ys → getD ss 0 0 + 0 ≡ 0
@@ -147,7 +147,7 @@ module _ {P : Program} {t : Totals} {hs ss bs ks xs ys : List ℕ} (T : Tabled P
       less i = omega arith
 
   atom-item : (a : ℕ) → headCount m hs a + 1 ≡ itemSize P w 2 a
-  unfolding rowCount size
+  unfolding blockCount size
   atom-item a =
       ap₂ _+_
       (ap (λ (k : ℕ). headCount k hs a) rules
@@ -203,7 +203,7 @@ module _ {P : Program} {t : Totals} {hs ss bs ks xs ys : List ℕ} (T : Tabled P
       ∙ sum-const (itemCount P g) (fixedSize w g))
 
   pub groups-all : sum 7 (groupSize P w) ≡ t .clauses
-  groups-all = sym (spots-length P w) ∙ count-is T
+  groups-all = sym (all-coordinates-length P w) ∙ count-is T
 
   pub last-group : groupSize P w 7 ≡ t .sizes .n
   last-group = sym (fixed-group 7 (omega arith) (omega arith) refl) ∙ omega arith

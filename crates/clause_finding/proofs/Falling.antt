@@ -2,7 +2,7 @@
 --   passed-first, passed-on      the search begins with all clauses left, and passes a part whose clauses are no more
 --   falls-here, falls-last       fewer clauses than the part has fall into it, and so does what is left at the last part
 --   falls-more                   further parts change nothing
---   between-all, between-low, between-high, falls-between    the search by halving
+--   between-all, between-low, between-high, falls-between    the binary search
 --   falls-even                   parts of one size are passed by a division
 --   each-falls                   an element of several lists in one stands in the list that it falls into
 -- Assumes nothing.
@@ -15,7 +15,7 @@ use mathlib.Core.List.{List}
 use lib.ListN.{length, getD}
 use Rattle.lists.specs.Lists.{sum, each}
 use Rattle.lists.proofs.Tables.{sum-ext, sum-const, getD-each}
-use Rattle.clause_finding.specs.declared.Found.{Found}
+use Rattle.clause_finding.specs.declared.PartFound.{PartFound}
 use Rattle.clause_finding.specs.Falls.{Passed, Falls, Between}
 
 -- the last term, apart
@@ -94,11 +94,11 @@ module _ {n : ℕ} {f : ℕ → ℕ} {x : ℕ} where
       below : x / k < n
       below = div-lt-iff-lt-mul {x = x} {y = n} p .1 (subst (λ (s : ℕ). x < s) (evenly n (omega arith)) h)
 
-pub falls-more : {n k : ℕ} {f : ℕ → ℕ} {x : ℕ} {r : Found} → n ≤ k → Falls n f x r → Falls k f x r
+pub falls-more : {n k : ℕ} {f : ℕ → ℕ} {x : ℕ} {r : PartFound} → n ≤ k → Falls n f x r → Falls k f x r
 falls-more h F =
     record { at = record { some = F .at .some; within = le-trans (F .at .within) h; left-are = F .at .left-are }; inside = F .inside }
 
-pub each-falls : {A : Type 0} (n : ℕ) (f : ℕ → List A) (g : ℕ → ℕ) (d : A) (x : ℕ) (r : Found) → ((i : ℕ) → length (f i) ≡ g i)
+pub each-falls : {A : Type 0} (n : ℕ) (f : ℕ → List A) (g : ℕ → ℕ) (d : A) (x : ℕ) (r : PartFound) → ((i : ℕ) → length (f i) ≡ g i)
     → Falls n g x r → getD (each n f) x d ≡ getD (f (r .number)) (r .left) d
 each-falls n f g d x r e F =
     ap (λ (k : ℕ). getD (each n f) k d) (sym (ap (λ (s : ℕ). s + r .left) (sum-ext i _ g (λ k h. e (suc k))) ∙ F .at .left-are))

@@ -12,10 +12,10 @@ use lib.Dec.{eqb, leb}
 use lib.ListN.{getD}
 use Rattle.lists.specs.Lists.{sum}
 use Rattle.meaning.specs.Program.{Program}
-use Rattle.clause_walk.specs.Walk.{itemCount, rowCount, size}
+use Rattle.clause_walk.specs.Walk.{itemCount, blockCount, size}
 
 abbrev pub itemSize : Program → ℕ → ℕ → ℕ → ℕ
-itemSize P w g a = sum (rowCount P w g) (size P w g a)
+itemSize P w g a = sum (blockCount P w g) (size P w g a)
 
 abbrev pub groupSize : Program → ℕ → ℕ → ℕ
 groupSize P w g = sum (itemCount P g) (itemSize P w g)

@@ -1,9 +1,9 @@
-// The place of clause j, found by passing whole groups, items and rows.
+// The place of clause j, found by passing whole groups, items and blocks.
 use clause_layout::items;
-use clause_layout::rows;
+use clause_layout::block_count;
 use clause_layout::size;
 use clause_places::Place;
-use clause_places::Spot;
+use clause_places::Coordinates;
 use clause_places::start;
 use clause_tables::Totals;
 use numbers::wide;
@@ -11,14 +11,14 @@ ghost use Prim.Native.Nat.{_+_, _*_, _≤_, _<_};
 ghost use mathlib.Core.Path.{_≡_};
 ghost use mathlib.Core.Bool.{false};
 ghost use lib.ListN.{length, getD};
-ghost use Rattle.clause_walk.specs.Walk.{itemCount, rowCount, size as sizeAt, At};
+ghost use Rattle.clause_walk.specs.Walk.{itemCount, blockCount, size as sizeAt, At};
 ghost use Rattle.clause_tables.specs.Tables.{programIn, Ready};
-ghost use Rattle.clause_places.specs.Places.{spot, placeAt};
+ghost use Rattle.clause_places.specs.Places.{coordinates, placeAt};
 ghost use Rattle.clause_finding.specs.Falls.{Falls};
 ghost use Rattle.clause_finding.specs.Sizes.{itemSize, groupSize, lowCount, isFixed, fixedSize};
 
 // A part, from 1, of several that follow one another, and how many clauses of that part stand before the one looked for.
-pub struct Found {
+pub struct PartFound {
     pub number: u16,
     pub left: usize,
 }
@@ -109,7 +109,7 @@ fn group_size<'a>(
     wide(items(t, g)) * fixed_size(wide(t.sizes.w), g)
 }
 
-// The group with the clause behind `left` others.
+// The group with the clause after `left` others.
 fn find_group<'a>(
     t: Totals,
     heads: &'a [u16],
@@ -119,13 +119,13 @@ fn find_group<'a>(
     partners: &'a [u16],
     owners: &'a [u16],
     left: usize,
-) -> Found
+) -> PartFound
     requires { ⌜ (Ready t (now heads) (now starts) (now bodies) (now before) (now partners) (now owners)) × (left < t .clauses) ⌝ }
     ensures { λ r. ⌜ Falls 7 (groupSize (programIn (t .sizes) (now (heads .entry)) (now (starts .entry)) (now (bodies .entry))) (t .sizes .w)) left r ⌝ }
 {
     let last = t.clauses - wide(t.sizes.n);
     if last <= left {
-        return Found {
+        return PartFound {
             number: 7,
             left: left - last,
         };
@@ -135,7 +135,7 @@ fn find_group<'a>(
     while g < 6 {
         let k = group_size(t, heads, starts, bodies, before, partners, owners, g);
         if at < k {
-            return Found {
+            return PartFound {
                 number: g,
                 left: at,
             };
@@ -143,13 +143,13 @@ fn find_group<'a>(
         at -= k;
         g += 1;
     }
-    Found {
+    PartFound {
         number: g,
         left: at,
     }
 }
 
-// Group 2: the atom with the clause behind `left` others of the group, by halving.
+// Group 2: the atom with the clause after `left` others of the group, by binary search.
 fn find_atom<'a>(
     t: Totals,
     heads: &'a [u16],
@@ -159,7 +159,7 @@ fn find_atom<'a>(
     partners: &'a [u16],
     owners: &'a [u16],
     left: usize,
-) -> Found
+) -> PartFound
     requires { ⌜ (Ready t (now heads) (now starts) (now bodies) (now before) (now partners) (now owners)) × (left < groupSize (programIn (t .sizes) (now heads) (now starts) (now bodies)) (t .sizes .w) 2) ⌝ }
     ensures { λ r. ⌜ Falls (itemCount (programIn (t .sizes) (now (heads .entry)) (now (starts .entry)) (now (bodies .entry))) 2) (itemSize (programIn (t .sizes) (now (heads .entry)) (now (starts .entry)) (now (bodies .entry))) (t .sizes .w) 2) left r ⌝ }
 {
@@ -173,13 +173,13 @@ fn find_atom<'a>(
             low = middle;
         }
     }
-    Found {
+    PartFound {
         number: high,
         left: left - atoms_size(t.sizes.m, heads, low),
     }
 }
 
-// The rule of group 1 or 6 with the clause behind `left` others of the group.
+// The rule of group 1 or 6 with the clause after `left` others of the group.
 fn find_rule<'a>(
     t: Totals,
     heads: &'a [u16],
@@ -190,7 +190,7 @@ fn find_rule<'a>(
     owners: &'a [u16],
     g: u16,
     left: usize,
-) -> Found
+) -> PartFound
     requires { ⌜ (Ready t (now heads) (now starts) (now bodies) (now before) (now partners) (now owners)) × (0 < g) × (g ≤ 7) × (isFixed g ≡ false) × (g ≡ 2 → ⊥) × (left < groupSize (programIn (t .sizes) (now heads) (now starts) (now bodies)) (t .sizes .w) g) ⌝ }
     ensures { λ r. ⌜ Falls (itemCount (programIn (t .sizes) (now (heads .entry)) (now (starts .entry)) (now (bodies .entry))) g) (itemSize (programIn (t .sizes) (now (heads .entry)) (now (starts .entry)) (now (bodies .entry))) (t .sizes .w) g) left r ⌝ }
 {
@@ -200,7 +200,7 @@ fn find_rule<'a>(
     while a < n {
         let k = wide(size(t, heads, starts, bodies, before, partners, owners, g, a, 1));
         if at < k {
-            return Found {
+            return PartFound {
                 number: a,
                 left: at,
             };
@@ -208,13 +208,13 @@ fn find_rule<'a>(
         at -= k;
         a += 1;
     }
-    Found {
+    PartFound {
         number: a,
         left: at,
     }
 }
 
-// The item of group g with the clause behind `left` others of the group. Items of one size are passed by a division.
+// The item of group g with the clause after `left` others of the group. Items of one size are passed by a division.
 fn find_item<'a>(
     t: Totals,
     heads: &'a [u16],
@@ -225,14 +225,14 @@ fn find_item<'a>(
     owners: &'a [u16],
     g: u16,
     left: usize,
-) -> Found
+) -> PartFound
     requires { ⌜ (Ready t (now heads) (now starts) (now bodies) (now before) (now partners) (now owners)) × (0 < g) × (g ≤ 7) × (left < groupSize (programIn (t .sizes) (now heads) (now starts) (now bodies)) (t .sizes .w) g) ⌝ }
     ensures { λ r. ⌜ Falls (itemCount (programIn (t .sizes) (now (heads .entry)) (now (starts .entry)) (now (bodies .entry))) g) (itemSize (programIn (t .sizes) (now (heads .entry)) (now (starts .entry)) (now (bodies .entry))) (t .sizes .w) g) left r ⌝ }
 {
     if is_fixed(g) {
         let k = fixed_size(wide(t.sizes.w), g);
         let q = left / k;
-        return Found {
+        return PartFound {
             number: q as u16 + 1,
             left: left % k,
         };
@@ -243,8 +243,8 @@ fn find_item<'a>(
     find_rule(t, heads, starts, bodies, before, partners, owners, g, left)
 }
 
-// The row of item a of group g with the clause behind `left` others of the item.
-fn find_row<'a>(
+// The block of item a of group g with the clause after `left` others of the item.
+fn find_block<'a>(
     t: Totals,
     heads: &'a [u16],
     starts: &'a [u16],
@@ -255,17 +255,17 @@ fn find_row<'a>(
     g: u16,
     a: u16,
     left: usize,
-) -> Found
+) -> PartFound
     requires { ⌜ (Ready t (now heads) (now starts) (now bodies) (now before) (now partners) (now owners)) × (0 < g) × (g ≤ 7) × (0 < a) × (a ≤ itemCount (programIn (t .sizes) (now heads) (now starts) (now bodies)) g) × (left < itemSize (programIn (t .sizes) (now heads) (now starts) (now bodies)) (t .sizes .w) g a) ⌝ }
-    ensures { λ r. ⌜ Falls (rowCount (programIn (t .sizes) (now (heads .entry)) (now (starts .entry)) (now (bodies .entry))) (t .sizes .w) g) (sizeAt (programIn (t .sizes) (now (heads .entry)) (now (starts .entry)) (now (bodies .entry))) (t .sizes .w) g a) left r ⌝ }
+    ensures { λ r. ⌜ Falls (blockCount (programIn (t .sizes) (now (heads .entry)) (now (starts .entry)) (now (bodies .entry))) (t .sizes .w) g) (sizeAt (programIn (t .sizes) (now (heads .entry)) (now (starts .entry)) (now (bodies .entry))) (t .sizes .w) g a) left r ⌝ }
 {
-    let n = rows(t.sizes, g);
+    let n = block_count(t.sizes, g);
     let mut i: u16 = 1;
     let mut at = left;
     while i < n {
         let k = wide(size(t, heads, starts, bodies, before, partners, owners, g, a, i));
         if at < k {
-            return Found {
+            return PartFound {
                 number: i,
                 left: at,
             };
@@ -273,14 +273,14 @@ fn find_row<'a>(
         at -= k;
         i += 1;
     }
-    Found {
+    PartFound {
         number: i,
         left: at,
     }
 }
 
-// Where clause y of row i of item a of group g stands.
-fn spot_at<'a>(
+// Where clause y of block i of item a of group g stands.
+fn coordinates_at<'a>(
     t: Totals,
     heads: &'a [u16],
     starts: &'a [u16],
@@ -292,17 +292,17 @@ fn spot_at<'a>(
     a: u16,
     i: u16,
     y: u16,
-) -> Spot
+) -> Coordinates
     requires { ⌜ (Ready t (now heads) (now starts) (now bodies) (now before) (now partners) (now owners)) × (At (programIn (t .sizes) (now heads) (now starts) (now bodies)) (t .sizes .w) g a i y) ⌝ }
-    ensures { λ r. ⌜ r ≡ spot (programIn (t .sizes) (now (heads .entry)) (now (starts .entry)) (now (bodies .entry))) (t .sizes .w) g a i y ⌝ }
+    ensures { λ r. ⌜ r ≡ coordinates (programIn (t .sizes) (now (heads .entry)) (now (starts .entry)) (now (bodies .entry))) (t .sizes .w) g a i y ⌝ }
 {
-    Spot {
+    Coordinates {
         group: g,
         item: a,
-        row: i,
+        block: i,
         clause: y,
         clauses: size(t, heads, starts, bodies, before, partners, owners, g, a, i) - y,
-        rows: rows(t.sizes, g) - i,
+        blocks: block_count(t.sizes, g) - i,
         items: items(t, g) - a,
     }
 }
@@ -336,7 +336,7 @@ pub fn place_of<'a>(
         g.number,
         g.left,
     );
-    let i = find_row(
+    let i = find_block(
         t,
         heads,
         starts,
@@ -350,7 +350,7 @@ pub fn place_of<'a>(
     );
     Place {
         number: j,
-        spot: spot_at(
+        coordinates: coordinates_at(
             t,
             heads,
             starts,

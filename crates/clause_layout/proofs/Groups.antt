@@ -1,4 +1,4 @@
--- Sizes, numbers of slots and slots of a program whose tables are at hand, group by group, as the code asks for them.
+-- Sizes, numbers of slots and slots of a program whose tables are given, group by group, as the code asks for them.
 -- Assumes nothing.
 use Prim.Native.Nat.{ℕ, suc, _+_, _-_, _*_, _≤_, _<_}
 use native.Mathlib.Nat.{le-trans, add-zero}
@@ -16,8 +16,8 @@ use Rattle.encoding.specs.Literal.{Literal}
 use Rattle.encoding.specs.Clauses.{sizes, pairCount, pairsBefore}
 use Rattle.encoding.specs.Variables.{Sizes, bodyVar, foundsVar}
 use Rattle.clause_literals.specs.Sizes.{sizesOf, Bounded}
-use Rattle.clause_walk.specs.Walk.{headsOf, headOf, positives, bodyOf, bodyCount, itemCount, rowCount, size, slots, slot, ofHead, slots1, slot1, slot3, slot4, slots4, slot5, slots6, slot6, size6, chainSize, chainSlots, chainBit, impliedSlot, bitOf, RowAt, At}
-use Rattle.clause_slots.specs.Signed.{held}
+use Rattle.clause_walk.specs.Walk.{headsOf, headOf, positives, bodyOf, bodyCount, itemCount, blockCount, size, slots, slot, ofHead, slots1, slot1, slot3, slot4, slots4, slot5, slots6, slot6, size6, chainSize, chainSlots, chainBit, impliedSlot, bitOf, BlockAt, At}
+use Rattle.clause_slots.specs.Signed.{slotLiteral}
 use Rattle.clause_tables.specs.declared.Totals.{Totals}
 use Rattle.clause_tables.specs.Tables.{Tabled}
 use Rattle.clause_table_laws.proofs.Elements as elements
@@ -77,17 +77,17 @@ module _ (P : Program) (w a i y l : ℕ) where
   unfolding itemCount
   items2 = refl
 
-  rows2 : rowCount P w 2 ≡ suc (length (P .rules))
-  unfolding rowCount
-  rows2 = refl
+  blocks2 : blockCount P w 2 ≡ suc (length (P .rules))
+  unfolding blockCount
+  blocks2 = refl
 
-  rows4 : rowCount P w 4 ≡ w
-  unfolding rowCount
-  rows4 = refl
+  blocks4 : blockCount P w 4 ≡ w
+  unfolding blockCount
+  blocks4 = refl
 
-  rows5 : rowCount P w 5 ≡ w + w
-  unfolding rowCount
-  rows5 = refl
+  blocks5 : blockCount P w 5 ≡ w + w
+  unfolding blockCount
+  blocks5 = refl
 
 module _ {P : Program} {t : Totals} {hs ss bs ks xs ys : List ℕ} (T : Tabled P t hs ss bs ks xs ys) where
   abbrev w : ℕ
@@ -117,12 +117,12 @@ module _ {P : Program} {t : Totals} {hs ss bs ks xs ys : List ℕ} (T : Tabled P
 
   -- ---- items by group
 
-  module _ {g a i : ℕ} (R : RowAt P w g a i) where
+  module _ {g a i : ℕ} (R : BlockAt P w g a i) where
     item-is : (k : ℕ) → g ≡ k → a ≤ itemCount P k
     item-is k e = subst (λ (x : ℕ). a ≤ itemCount P x) e (R .item-in)
 
-    row-is : (k : ℕ) → g ≡ k → i ≤ rowCount P w k
-    row-is k e = subst (λ (x : ℕ). i ≤ rowCount P w x) e (R .row-in)
+    block-is : (k : ℕ) → g ≡ k → i ≤ blockCount P w k
+    block-is k e = subst (λ (x : ℕ). i ≤ blockCount P w x) e (R .block-in)
 
     pub rule1 : g ≡ 1 → a ≤ length (P .rules)
     rule1 e = subst (λ (x : ℕ). a ≤ x) (items1 P w a i 0 0) (item-is 1 e)
@@ -139,14 +139,14 @@ module _ {P : Program} {t : Totals} {hs ss bs ks xs ys : List ℕ} (T : Tabled P
     pub atom4 : g ≡ 4 → a ≤ 126
     atom4 e = le-trans (subst (λ (x : ℕ). a ≤ x) (items4 P w a i 0 0) (item-is 4 e)) (elements.atoms-fit P t hs ss bs ks xs ys T)
 
-    pub row2 : g ≡ 2 → i ≤ suc (length (P .rules))
-    row2 e = subst (λ (x : ℕ). i ≤ x) (rows2 P w a i 0 0) (row-is 2 e)
+    pub block2 : g ≡ 2 → i ≤ suc (length (P .rules))
+    block2 e = subst (λ (x : ℕ). i ≤ x) (blocks2 P w a i 0 0) (block-is 2 e)
 
-    pub row4 : g ≡ 4 → i ≤ w
-    row4 e = subst (λ (x : ℕ). i ≤ x) (rows4 P w a i 0 0) (row-is 4 e)
+    pub block4 : g ≡ 4 → i ≤ w
+    block4 e = subst (λ (x : ℕ). i ≤ x) (blocks4 P w a i 0 0) (block-is 4 e)
 
-    pub row5 : g ≡ 5 → i ≤ w + w
-    row5 e = subst (λ (x : ℕ). i ≤ x) (rows5 P w a i 0 0) (row-is 5 e)
+    pub block5 : g ≡ 5 → i ≤ w + w
+    block5 e = subst (λ (x : ℕ). i ≤ x) (blocks5 P w a i 0 0) (block-is 5 e)
 
     -- ---- the starts of a rule
 
@@ -203,7 +203,7 @@ module _ {P : Program} {t : Totals} {hs ss bs ks xs ys : List ℕ} (T : Tabled P
         go : (i ≤ length (P .rules)) ⊎ (length (P .rules) < i) → impliedSize m hs a i ≡ cond (leb i (length (P .rules))) (cond (eqb (headOf P i) a) 1 0) 1
         go (inl h) =
             ap (λ (b : Bool). cond b 1 (cond (eqb (getD hs (i - 1) 0) a) 1 0)) (le-ltb m i (subst (λ (k : ℕ). i ≤ k) (sym rules-are) h))
-            ∙ ap (λ (k : ℕ). cond (eqb k a) 1 0) (elements.head-is P t hs ss bs ks xs ys T i (R .row-some) h)
+            ∙ ap (λ (k : ℕ). cond (eqb k a) 1 0) (elements.head-is P t hs ss bs ks xs ys T i (R .block-some) h)
             ∙ sym (ap (λ (b : Bool). cond b (cond (eqb (headOf P i) a) 1 0) 1) (le-leb i (length (P .rules)) h))
         go (inr h) =
             ap (λ (b : Bool). cond b 1 (cond (eqb (getD hs (i - 1) 0) a) 1 0)) (lt-ltb m i (subst (λ (k : ℕ). k < i) (sym rules-are) h))
@@ -231,7 +231,7 @@ module _ {P : Program} {t : Totals} {hs ss bs ks xs ys : List ℕ} (T : Tabled P
     -- ---- what the calls ask
 
     pub bits4 : g ≡ 4 → i ≤ 7
-    bits4 e = le-trans (row4 e) (bounded .bits)
+    bits4 e = le-trans (block4 e) (bounded .bits)
 
     pub heads-in : m ≤ length hs
     heads-in = subst (λ (k : ℕ). m ≤ k) (sym (elements.heads-length P t hs ss bs ks xs ys T)) (bounded .rules)
@@ -259,7 +259,7 @@ module _ {P : Program} {t : Totals} {hs ss bs ks xs ys : List ℕ} (T : Tabled P
     pub pair-asks : {b h : ℕ} → g ≡ 5 → b ≡ getD xs (a - 1) 0 → h ≡ getD ys (a - 1) 0
         → Bounded (t .sizes) × (0 < a) × (a ≤ 500) × (0 < b) × (b ≤ 126) × (0 < h) × (h ≤ 126) × (0 < i) × (i ≤ w + w)
     pair-asks {b} {h} e p q =
-        (bounded, R .item-some, le-trans (pair5 e) (elements.pairs-fit P (T .limits)), subst (λ (k : ℕ). 0 < k) (sym p) (x .0), subst (λ (k : ℕ). k ≤ 126) (sym p) (x .1), subst (λ (k : ℕ). 0 < k) (sym q) (z .0), subst (λ (k : ℕ). k ≤ 126) (sym q) (z .1), R .row-some, row5 e)
+        (bounded, R .item-some, le-trans (pair5 e) (elements.pairs-fit P (T .limits)), subst (λ (k : ℕ). 0 < k) (sym p) (x .0), subst (λ (k : ℕ). k ≤ 126) (sym p) (x .1), subst (λ (k : ℕ). 0 < k) (sym q) (z .0), subst (λ (k : ℕ). k ≤ 126) (sym q) (z .1), R .block-some, block5 e)
       where
         x : (0 < getD xs (a - 1) 0) × (getD xs (a - 1) 0 ≤ 126)
         x = elements.partner-in P t hs ss bs ks xs ys T a (R .item-some) (pair5 e)
@@ -270,8 +270,8 @@ module _ {P : Program} {t : Totals} {hs ss bs ks xs ys : List ℕ} (T : Tabled P
   -- ---- slots
 
   module _ {g a i y : ℕ} (A : At P w g a i y) where
-    R : RowAt P w g a i
-    R = A .row-at
+    R : BlockAt P w g a i
+    R = A .block-at
 
     slots-at : (k : ℕ) → g ≡ k → slots P w k a i y ≡ slots P w g a i y
     slots-at k e = ap (λ (x : ℕ). slots P w x a i y) (sym e)
@@ -318,15 +318,15 @@ module _ {P : Program} {t : Totals} {hs ss bs ks xs ys : List ℕ} (T : Tabled P
     -- ---- the literal in slot l
 
     module _ (l : ℕ) where
-      slot-at : (k : ℕ) → g ≡ k → held (slot P w k a i y l) ≡ held (slot P w g a i y l)
-      slot-at k e = ap (λ (x : ℕ). held (slot P w x a i y l)) (sym e)
+      slot-at : (k : ℕ) → g ≡ k → slotLiteral (slot P w k a i y l) ≡ slotLiteral (slot P w g a i y l)
+      slot-at k e = ap (λ (x : ℕ). slotLiteral (slot P w x a i y l)) (sym e)
 
       -- the group's literal is that of the program's sizes
       with-sizes : (f : Sizes → Literal) {x : Literal} → x ≡ f (sizesOf (t .sizes)) → x ≡ f (sizes P w)
       with-sizes f q = q ∙ ap f sizes-are
 
       pub slot-pair : {b h : ℕ} {x : Literal} → g ≡ 5 → b ≡ getD xs (a - 1) 0 → h ≡ getD ys (a - 1) 0 → x ≡ slot5 (sizesOf (t .sizes)) a b h i y l
-          → x ≡ held (slot P w g a i y l)
+          → x ≡ slotLiteral (slot P w g a i y l)
       unfolding slot
       slot-pair {b} {h} e p q u =
           with-sizes (λ S. slot5 S a b h i y l) u
@@ -334,7 +334,7 @@ module _ {P : Program} {t : Totals} {hs ss bs ks xs ys : List ℕ} (T : Tabled P
           ∙ slot-at 5 e
 
       pub slot-body : {b c d : ℕ} {x : Literal} → g ≡ 1 → b ≡ getD ss (2 * (a - 1) + 0) 0 → c ≡ getD ss (2 * (a - 1) + 1) 0 → d ≡ getD ss (2 * (a - 1) + 2) 0
-          → x ≡ slot1 (sizesOf (t .sizes)) a (take (d - b) (drop b bs)) (c - b) y l → x ≡ held (slot P w g a i y l)
+          → x ≡ slot1 (sizesOf (t .sizes)) a (take (d - b) (drop b bs)) (c - b) y l → x ≡ slotLiteral (slot P w g a i y l)
       unfolding slot
       slot-body {b} {c} {d} e p q r u =
           with-sizes (λ S. slot1 S a (take (d - b) (drop b bs)) (c - b) y l) u
@@ -342,9 +342,9 @@ module _ {P : Program} {t : Totals} {hs ss bs ks xs ys : List ℕ} (T : Tabled P
           (ap₂ (λ (d b : ℕ). take (d - b) (drop b bs)) r p ∙ body-is R (rule1 R e)) (ap₂ (λ (c b : ℕ). c - b) q p ∙ span1 R (rule1 R e))
           ∙ slot-at 1 e
 
-      head-is : (base : ℕ) (v : ℕ → ℕ) → ((r : ℕ) → base + r ≡ v r) → held (ofHead (take m hs) a (λ r. base + r) l) ≡ held (ofHead (headsOf P) a v l)
+      head-is : (base : ℕ) (v : ℕ → ℕ) → ((r : ℕ) → base + r ≡ v r) → slotLiteral (ofHead (take m hs) a (λ r. base + r) l) ≡ slotLiteral (ofHead (headsOf P) a v l)
       head-is base v f =
-          ap₂ (λ (xs : List ℕ) (v : ℕ → ℕ). held (ofHead xs a v l)) (elements.heads-taken P t hs ss bs ks xs ys T) (λ t r. f r t)
+          ap₂ (λ (xs : List ℕ) (v : ℕ → ℕ). slotLiteral (ofHead xs a v l)) (elements.heads-taken P t hs ss bs ks xs ys T) (λ t r. f r t)
 
       pub supported-slot : g ≡ 2 → m < i → slot P w g a i y l ≡ ofHead (headsOf P) a (bodyVar (sizes P w)) l
       unfolding slot
@@ -352,27 +352,27 @@ module _ {P : Program} {t : Totals} {hs ss bs ks xs ys : List ℕ} (T : Tabled P
           ap (λ (x : ℕ). slot P w x a i y l) e
           ∙ ap (λ (b : Bool). cond b (impliedSlot (sizes P w) a i l ∷ []) (ofHead (headsOf P) a (bodyVar (sizes P w)) l)) (lt-leb i (length (P .rules)) (subst (λ (k : ℕ). k < i) rules-are h))
 
-      pub slot-supported : {x : Literal} → g ≡ 2 → m < i → x ≡ held (ofHead (take m hs) a (λ r. t .sizes .n + r) l) → x ≡ held (slot P w g a i y l)
+      pub slot-supported : {x : Literal} → g ≡ 2 → m < i → x ≡ slotLiteral (ofHead (take m hs) a (λ r. t .sizes .n + r) l) → x ≡ slotLiteral (slot P w g a i y l)
       slot-supported e h u =
-          u ∙ head-is (t .sizes .n) (bodyVar (sizes P w)) (λ r. ap (λ (S : Sizes). bodyVar S r) sizes-are) ∙ sym (ap held (supported-slot e h))
+          u ∙ head-is (t .sizes .n) (bodyVar (sizes P w)) (λ r. ap (λ (S : Sizes). bodyVar S r) sizes-are) ∙ sym (ap slotLiteral (supported-slot e h))
 
-      pub slot-implied : {x : Literal} → g ≡ 2 → i ≤ m → x ≡ impliedSlot (sizesOf (t .sizes)) a i l → x ≡ held (slot P w g a i y l)
+      pub slot-implied : {x : Literal} → g ≡ 2 → i ≤ m → x ≡ impliedSlot (sizesOf (t .sizes)) a i l → x ≡ slotLiteral (slot P w g a i y l)
       unfolding slot
       slot-implied e h u =
           with-sizes (λ S. impliedSlot S a i l) u
-          ∙ sym (ap (λ (b : Bool). held (cond b (impliedSlot (sizes P w) a i l ∷ []) (ofHead (headsOf P) a (bodyVar (sizes P w)) l))) (le-leb i (length (P .rules)) (subst (λ (k : ℕ). i ≤ k) rules-are h)))
+          ∙ sym (ap (λ (b : Bool). slotLiteral (cond b (impliedSlot (sizes P w) a i l ∷ []) (ofHead (headsOf P) a (bodyVar (sizes P w)) l))) (le-leb i (length (P .rules)) (subst (λ (k : ℕ). i ≤ k) rules-are h)))
           ∙ slot-at 2 e
 
-      pub slot-zero : {x : Literal} → g ≡ 3 → x ≡ slot3 (sizesOf (t .sizes)) a y l → x ≡ held (slot P w g a i y l)
+      pub slot-zero : {x : Literal} → g ≡ 3 → x ≡ slot3 (sizesOf (t .sizes)) a y l → x ≡ slotLiteral (slot P w g a i y l)
       unfolding slot
       slot-zero e u = with-sizes (λ S. slot3 S a y l) u ∙ slot-at 3 e
 
-      pub slot-next : {x : Literal} → g ≡ 4 → x ≡ slot4 (sizesOf (t .sizes)) a i y l → x ≡ held (slot P w g a i y l)
+      pub slot-next : {x : Literal} → g ≡ 4 → x ≡ slot4 (sizesOf (t .sizes)) a i y l → x ≡ slotLiteral (slot P w g a i y l)
       unfolding slot
       slot-next e u = with-sizes (λ S. slot4 S a i y l) u ∙ slot-at 4 e
 
       pub slot-rule : {h k b : ℕ} {x : Literal} → g ≡ 6 → h ≡ getD hs (a - 1) 0 → k ≡ getD ks (a - 1) 0 → b ≡ getD ss (2 * (a - 1) + 1) 0 - getD ss (2 * (a - 1) + 0) 0
-          → x ≡ slot6 (sizesOf (t .sizes)) a h k b y l → x ≡ held (slot P w g a i y l)
+          → x ≡ slot6 (sizesOf (t .sizes)) a h k b y l → x ≡ slotLiteral (slot P w g a i y l)
       unfolding slot
       slot-rule {h} {k} {b} e p q r u =
           with-sizes (λ S. slot6 S a h k b y l) u
@@ -380,9 +380,9 @@ module _ {P : Program} {t : Totals} {hs ss bs ks xs ys : List ℕ} (T : Tabled P
           ∙ ap (λ (b : ℕ). slot6 (sizes P w) a (headOf P a) (pairsBefore P a) b y l) (r ∙ span1 R (rule6 R e))
           ∙ slot-at 6 e
 
-      pub slot-last : {x : Literal} → Last g → x ≡ held (ofHead (take m hs) a (λ r. t .sizes .n + m + r) l) → x ≡ held (slot P w g a i y l)
+      pub slot-last : {x : Literal} → Last g → x ≡ slotLiteral (ofHead (take m hs) a (λ r. t .sizes .n + m + r) l) → x ≡ slotLiteral (slot P w g a i y l)
       slot-last f u =
-          u ∙ head-is (t .sizes .n + m) (foundsVar (sizes P w)) (λ r. ap (λ (S : Sizes). foundsVar S r) sizes-are) ∙ sym (ap held (last-slot P w g a i y l f))
+          u ∙ head-is (t .sizes .n + m) (foundsVar (sizes P w)) (λ r. ap (λ (S : Sizes). foundsVar S r) sizes-are) ∙ sym (ap slotLiteral (last-slot P w g a i y l f))
 
       -- ---- what the calls ask
 

@@ -1,10 +1,10 @@
 -- Parts: parts of lists, and what stands in them
 -- Heads: the next rule whose head is an atom
--- Groups: the numbers of a program whose tables are at hand, group by group
+-- Groups: the numbers of a program whose tables are given, group by group
 -- Passed: the slots that are passed because they are empty
 pub mod Parts
 pub mod Heads
 pub mod Groups
 pub mod Passed
--- RowChains: the chain of a row, and the slots of group 5 from it
-pub mod RowChains
+-- BlockChains: the chain of a block, and the slots of group 5 from it
+pub mod BlockChains

@@ -25,7 +25,7 @@ front-fits xs m h k = subst (λ (n : ℕ). n ≤ 500) (sym (length-take-le m xs 
 pub front-slots : (xs : List ℕ) (m l : ℕ) → m ≤ length xs → l ≤ m + 1 → l ≤ length (take m xs) + 1
 front-slots xs m l h q = subst (λ (n : ℕ). l ≤ n + 1) (sym (length-take-le m xs h)) q
 
--- the clauses of a row of group 2, by the tests that the code makes
+-- the clauses of a block of group 2, by the tests that the code makes
 module _ (m i a : ℕ) (hs : List ℕ) where
   pub implied-past : m < i → 1 ≡ impliedSize m hs a i
   implied-past h = rw (lt-ltb m i h)

@@ -1,5 +1,5 @@
--- The slots that `past_empty` passes, in a program whose tables are at hand.
---   Passed P w g a i y l r    no slot of the clause behind slot l, up to slot r, holds a literal
+-- The slots that `past_empty` passes, in a program whose tables are given.
+--   Passed P w g a i y l r    no slot of the clause after slot l, up to slot r, holds a literal
 --   passed                    so it is with what `past_empty` gives
 --   passed-each               the literals of the first r slots are those of the first l
 -- Assumes nothing.
@@ -64,7 +64,7 @@ module _ {P : Program} {t : Totals} {hs ss bs ks xs ys : List ℕ} (T : Tabled P
   by-heads v e f =
       record {
         on = omega (arith, next-from (take m hs) a (l - 1));
-        within = subst (λ (k : ℕ). nextHead (take m hs) a (l - 1) + 1 ≤ k) e (omega (arith, next-in hs m a (l - 1) (heads-in T (A .row-at)) (omega (arith, subst (λ (k : ℕ). l ≤ k) (sym e) h))));
+        within = subst (λ (k : ℕ). nextHead (take m hs) a (l - 1) + 1 ≤ k) e (omega (arith, next-in hs m a (l - 1) (heads-in T (A .block-at)) (omega (arith, subst (λ (k : ℕ). l ≤ k) (sym e) h))));
         empty = λ q n k. f q ∙ others-empty (headsOf P) a v l q p n (subst (λ (xs : List ℕ). q ≤ nextHead xs a (l - 1) + 1) (elements.heads-taken P t hs ss bs ks xs ys T) k);
       }
 

@@ -1,11 +1,11 @@
--- Numbers of items, rows, clauses and slots, from the totals and the heads.
+-- Numbers of items, blocks, clauses and slots, from the totals and the heads.
 --   itemsOf t g       how many items group g has, from the totals
---   rowsOf s g        how many rows an item of group g has, from the sizes
---   impliedSize       group 2: how many clauses row i of atom a has, from m and the heads
+--   blocksOf s g      how many blocks an item of group g has, from the sizes
+--   impliedSize       group 2: how many clauses block i of atom a has, from m and the heads
 --   nextHead hs a i   the first index of hs, from i on, where a stands; if there is none, the length, or i where that is more
 --   isAt hs a i       a stands at index i
 --   amongEight hs a i a stands at one of the eight indexes from i on
---   pastEmpty         how many slots are done once the empty ones behind slot l are passed, from m and the heads
+--   pastEmpty         how many slots are done once the empty ones after slot l are passed, from m and the heads
 -- Assumes nothing.
 use Prim.Native.Nat.{ℕ, suc, _+_, _-_}
 use mathlib.Core.Bool.{Bool, _||_, cond}
@@ -18,8 +18,8 @@ use Rattle.clause_tables.specs.declared.Totals.{Totals}
 abbrev pub itemsOf : Totals → ℕ → ℕ
 itemsOf t g = cond (eqb g 1) (t .sizes .m) (cond (eqb g 5) (t .pairs) (cond (eqb g 6) (t .sizes .m) (t .sizes .n)))
 
-abbrev pub rowsOf : Sizes → ℕ → ℕ
-rowsOf s g = cond (eqb g 2) (suc (s .m)) (cond (eqb g 4) (s .w) (cond (eqb g 5) (s .w + s .w) 1))
+abbrev pub blocksOf : Sizes → ℕ → ℕ
+blocksOf s g = cond (eqb g 2) (suc (s .m)) (cond (eqb g 4) (s .w) (cond (eqb g 5) (s .w + s .w) 1))
 
 abbrev pub impliedSize : ℕ → List ℕ → ℕ → ℕ → ℕ
 impliedSize m hs a i = cond (ltb m i) 1 (cond (eqb (getD hs (i - 1) 0) a) 1 0)

@@ -1,4 +1,4 @@
-// The walk of the clause list by its numbers: how many items, rows, clauses and slots there are, and the literal in a slot.
+// The walk of the clause list by its numbers: how many items, blocks, clauses and slots there are, and the literal in a slot.
 use clause_literals::Sizes;
 use clause_slots::Chain;
 use clause_slots::Signed;
@@ -28,14 +28,14 @@ ghost use Prim.Native.Nat.{_+_, _-_, _*_, _^_, _≤_, _<_};
 ghost use mathlib.Core.Path.{_≡_};
 ghost use lib.ListN.{length, getD, take, drop};
 ghost use Rattle.clause_literals.specs.Sizes.{sizesOf, Bounded};
-ghost use Rattle.clause_slots.specs.Signed.{literalIn, held};
+ghost use Rattle.clause_slots.specs.Signed.{literalIn, slotLiteral};
 ghost use Rattle.clause_walk.specs.Walk.{slots1, slot1, ofHead, size as sizeAt, slots as slotsAt, slot as slotAt};
 ghost use Rattle.clause_tables.specs.Tables.{programIn, Ready};
-ghost use Rattle.clause_walk.specs.Walk.{RowAt, At};
-ghost use Rattle.clause_layout.specs.RowChain.{chainAt};
-ghost use Rattle.clause_layout.specs.Numbers.{itemsOf, rowsOf, impliedSize, isAt, amongEight, nextHead, pastEmpty};
+ghost use Rattle.clause_walk.specs.Walk.{BlockAt, At};
+ghost use Rattle.clause_layout.specs.BlockChain.{chainOfBlock};
+ghost use Rattle.clause_layout.specs.Numbers.{itemsOf, blocksOf, impliedSize, isAt, amongEight, nextHead, pastEmpty};
 
-// How many items group g has, and how many rows each of them has.
+// How many items group g has, and how many blocks each of them has.
 pub fn items(t: Totals, g: u16) -> u16
     ensures { λ r. ⌜ r ≡ itemsOf t g ⌝ }
 {
@@ -51,9 +51,9 @@ pub fn items(t: Totals, g: u16) -> u16
     t.sizes.n
 }
 
-pub fn rows(s: Sizes, g: u16) -> u16
+pub fn block_count(s: Sizes, g: u16) -> u16
     requires { ⌜ Bounded s ⌝ }
-    ensures { λ r. ⌜ r ≡ rowsOf s g ⌝ }
+    ensures { λ r. ⌜ r ≡ blocksOf s g ⌝ }
 {
     if g == 2 {
         return s.m + 1;
@@ -67,7 +67,7 @@ pub fn rows(s: Sizes, g: u16) -> u16
     1
 }
 
-// Element j, from 0.
+// Element j of xs, from 0.
 fn element(xs: &[u16], j: usize) -> u16
     requires { ⌜ j < length (now xs) ⌝ }
     ensures { λ r. ⌜ r ≡ getD (now (xs .entry)) j 0 ⌝ }
@@ -75,7 +75,7 @@ fn element(xs: &[u16], j: usize) -> u16
     xs[j]
 }
 
-// Entry k, from 1.
+// Entry k of xs, from 1.
 pub fn entry(xs: &[u16], k: u16) -> u16
     requires { ⌜ (0 < k) × (k ≤ length (now xs)) ⌝ }
     ensures { λ r. ⌜ r ≡ getD (now (xs .entry)) (k - 1) 0 ⌝ }
@@ -126,12 +126,12 @@ fn body_part(
 // Groups 2 and 7, atom a: slot l of its last clause.
 fn heads_part(m: u16, heads: &[u16], a: Atom, base: u16, l: u16) -> Signed
     requires { ⌜ (base ≤ 626) × (m ≤ 500) × (m ≤ length (now heads)) × (0 < l) × (l ≤ m + 1) ⌝ }
-    ensures { λ x. ⌜ literalIn x ≡ held (ofHead (take m (now (heads .entry))) (a .0) (λ r. base + r) l) ⌝ }
+    ensures { λ x. ⌜ literalIn x ≡ slotLiteral (ofHead (take m (now (heads .entry))) (a .0) (λ r. base + r) l) ⌝ }
 {
     head_slot(&heads[..m as usize], a, base, l)
 }
 
-// Group 2, atom a: how many clauses row i has.
+// Group 2, atom a: how many clauses block i has.
 fn implied_size(m: u16, heads: &[u16], a: Atom, i: u16) -> u16
     requires { ⌜ (m ≤ length (now heads)) × (0 < i) ⌝ }
     ensures { λ r. ⌜ r ≡ impliedSize m (now (heads .entry)) (a .0) i ⌝ }
@@ -145,7 +145,7 @@ fn implied_size(m: u16, heads: &[u16], a: Atom, i: u16) -> u16
     0
 }
 
-// How many clauses row i of item a of group g has.
+// How many clauses block i of item a of group g has.
 pub fn size<'a>(
     t: Totals,
     heads: &'a [u16],
@@ -158,7 +158,7 @@ pub fn size<'a>(
     a: u16,
     i: u16,
 ) -> u16
-    requires { ⌜ (Ready t (now heads) (now starts) (now bodies) (now before) (now partners) (now owners)) × (RowAt (programIn (t .sizes) (now heads) (now starts) (now bodies)) (t .sizes .w) g a i) ⌝ }
+    requires { ⌜ (Ready t (now heads) (now starts) (now bodies) (now before) (now partners) (now owners)) × (BlockAt (programIn (t .sizes) (now heads) (now starts) (now bodies)) (t .sizes .w) g a i) ⌝ }
     ensures { λ r. ⌜ r ≡ sizeAt (programIn (t .sizes) (now (heads .entry)) (now (starts .entry)) (now (bodies .entry))) (t .sizes .w) g a i ⌝ }
 {
     let s = t.sizes;
@@ -183,7 +183,7 @@ pub fn size<'a>(
     1
 }
 
-// How many slots clause y of that row has.
+// How many slots clause y of block i of item a of group g has.
 pub fn slots<'a>(
     t: Totals,
     heads: &'a [u16],
@@ -241,7 +241,7 @@ pub fn slot<'a>(
     l: u16,
 ) -> Signed
     requires { ⌜ (Ready t (now heads) (now starts) (now bodies) (now before) (now partners) (now owners)) × (At (programIn (t .sizes) (now heads) (now starts) (now bodies)) (t .sizes .w) g a i y) × (0 < l) × (l ≤ slotsAt (programIn (t .sizes) (now heads) (now starts) (now bodies)) (t .sizes .w) g a i y) ⌝ }
-    ensures { λ x. ⌜ literalIn x ≡ held (slotAt (programIn (t .sizes) (now (heads .entry)) (now (starts .entry)) (now (bodies .entry))) (t .sizes .w) g a i y l) ⌝ }
+    ensures { λ x. ⌜ literalIn x ≡ slotLiteral (slotAt (programIn (t .sizes) (now (heads .entry)) (now (starts .entry)) (now (bodies .entry))) (t .sizes .w) g a i y l) ⌝ }
 {
     let s = t.sizes;
     if g == 5 {
@@ -329,7 +329,7 @@ pub fn next_head(heads: &[u16], a: Atom, from: u16) -> u16
     i as u16
 }
 
-// Groups 2 and 7, atom a: how many slots of its last clause are done once the empty ones behind slot l are passed.
+// Groups 2 and 7, atom a: how many slots of its last clause are done once the empty ones after slot l are passed.
 fn past_others(m: u16, heads: &[u16], a: Atom, l: u16) -> u16
     requires { ⌜ (m ≤ 500) × (m ≤ length (now heads)) × (0 < l) ⌝ }
     ensures { λ r. ⌜ r ≡ nextHead (take m (now (heads .entry))) (a .0) (l - 1) + 1 ⌝ }
@@ -337,7 +337,7 @@ fn past_others(m: u16, heads: &[u16], a: Atom, l: u16) -> u16
     next_head(&heads[..m as usize], a, l - 1) + 1
 }
 
-// How many slots of a clause of row i of item a of group g are done once the empty ones behind slot l are passed.
+// How many slots of a clause of block i of item a of group g are done once the empty ones after slot l are passed.
 pub fn past_empty(m: u16, heads: &[u16], g: u16, a: u16, i: u16, l: u16) -> u16
     requires { ⌜ (m ≤ 500) × (m ≤ length (now heads)) × (0 < l) ⌝ }
     ensures { λ r. ⌜ r ≡ pastEmpty m (now (heads .entry)) g a i l ⌝ }
@@ -353,8 +353,8 @@ pub fn past_empty(m: u16, heads: &[u16], g: u16, a: u16, i: u16, l: u16) -> u16
     l
 }
 
-// The variables of the chain's bit of row i of pair a, in group 5; of no use in the other groups.
-pub fn chain_at<'a>(
+// The variables of the chain's bit of block i of pair a, in group 5; of no use in the other groups.
+pub fn chain_of_block<'a>(
     t: Totals,
     heads: &'a [u16],
     starts: &'a [u16],
@@ -366,8 +366,8 @@ pub fn chain_at<'a>(
     a: u16,
     i: u16,
 ) -> Chain
-    requires { ⌜ (Ready t (now heads) (now starts) (now bodies) (now before) (now partners) (now owners)) × (RowAt (programIn (t .sizes) (now heads) (now starts) (now bodies)) (t .sizes .w) g a i) ⌝ }
-    ensures { λ r. ⌜ r ≡ chainAt (programIn (t .sizes) (now (heads .entry)) (now (starts .entry)) (now (bodies .entry))) (t .sizes .w) g a i ⌝ }
+    requires { ⌜ (Ready t (now heads) (now starts) (now bodies) (now before) (now partners) (now owners)) × (BlockAt (programIn (t .sizes) (now heads) (now starts) (now bodies)) (t .sizes .w) g a i) ⌝ }
+    ensures { λ r. ⌜ r ≡ chainOfBlock (programIn (t .sizes) (now (heads .entry)) (now (starts .entry)) (now (bodies .entry))) (t .sizes .w) g a i ⌝ }
 {
     if g == 5 {
         let b = Atom(entry(partners, a));
@@ -382,7 +382,7 @@ pub fn chain_at<'a>(
     }
 }
 
-// What `slot` gives, with the row's chain at hand.
+// What `slot` gives, from the block's chain.
 pub fn literal_in<'a>(
     t: Totals,
     heads: &'a [u16],
@@ -398,8 +398,8 @@ pub fn literal_in<'a>(
     y: u16,
     l: u16,
 ) -> Signed
-    requires { ⌜ (Ready t (now heads) (now starts) (now bodies) (now before) (now partners) (now owners)) × (At (programIn (t .sizes) (now heads) (now starts) (now bodies)) (t .sizes .w) g a i y) × (0 < l) × (l ≤ slotsAt (programIn (t .sizes) (now heads) (now starts) (now bodies)) (t .sizes .w) g a i y) × (c ≡ chainAt (programIn (t .sizes) (now heads) (now starts) (now bodies)) (t .sizes .w) g a i) ⌝ }
-    ensures { λ x. ⌜ literalIn x ≡ held (slotAt (programIn (t .sizes) (now (heads .entry)) (now (starts .entry)) (now (bodies .entry))) (t .sizes .w) g a i y l) ⌝ }
+    requires { ⌜ (Ready t (now heads) (now starts) (now bodies) (now before) (now partners) (now owners)) × (At (programIn (t .sizes) (now heads) (now starts) (now bodies)) (t .sizes .w) g a i y) × (0 < l) × (l ≤ slotsAt (programIn (t .sizes) (now heads) (now starts) (now bodies)) (t .sizes .w) g a i y) × (c ≡ chainOfBlock (programIn (t .sizes) (now heads) (now starts) (now bodies)) (t .sizes .w) g a i) ⌝ }
+    ensures { λ x. ⌜ literalIn x ≡ slotLiteral (slotAt (programIn (t .sizes) (now (heads .entry)) (now (starts .entry)) (now (bodies .entry))) (t .sizes .w) g a i y l) ⌝ }
 {
     if g == 5 {
         return chain_literal(c, chain_bit(t.sizes.w, i), y, l);

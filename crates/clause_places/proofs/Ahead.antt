@@ -1,9 +1,9 @@
--- The spots of the clauses follow one another.
+-- The coordinates of the clauses follow one another.
 --   each-after, tab-after   tables from their first element on
---   after-past         the numbers that add nothing are passed
---   Stands P w c       a clause stands at c
---   Chained xs         each spot of xs is a clause's, and what follows it in xs is what follows it in the walk
---   spots-chained      the spots of the clauses are so, and follow the place before the first group
+--   after-past                the numbers that add nothing are passed
+--   Stands P w c              a clause stands at c
+--   Chained xs                each of the coordinates xs is a clause's, and what follows it in xs is what follows it in the walk
+--   all-coordinates-chained   the coordinates of the clauses are so, and follow the place before the first group
 -- Assumes nothing.
 use Prim.Native.Nat.{ℕ, zero, suc, _+_, _-_, _≤_, _<_}
 use native.Mathlib.Nat.{zero-add, suc-add}
@@ -13,10 +13,10 @@ use mathlib.Core.List.{List, [], _∷_, _++_, append-assoc}
 use Rattle.lists.specs.Lists.{tab, each}
 use Rattle.lists.proofs.Tables.{each-front}
 use Rattle.meaning.specs.Program.{Program}
-use Rattle.clause_walk.specs.Walk.{itemCount, rowCount, size, At}
-use Rattle.clause_places.specs.declared.Spot.{Spot}
-use Rattle.clause_places.specs.Places.{spot, rowSpots, itemSpots, groupSpots, spots, before}
-use Rattle.clause_places.specs.Ahead.{after, groupsAhead, itemsAhead, rowsAhead, ahead}
+use Rattle.clause_walk.specs.Walk.{itemCount, blockCount, size, At}
+use Rattle.clause_places.specs.declared.Coordinates.{Coordinates}
+use Rattle.clause_places.specs.Places.{coordinates, blockCoordinates, itemCoordinates, groupCoordinates, allCoordinates, groupStart}
+use Rattle.clause_places.specs.Ahead.{after, groupsAhead, itemsAhead, blocksAhead, ahead}
 
 module _ {A : Type 0} where
   after-shift : (d k : ℕ) (f : ℕ → List A) → after d (suc k) f ≡ after d k (λ i. f (suc i))
@@ -46,91 +46,91 @@ module _ {A : Type 0} where
       shift x k = omega arith
 
 module _ (P : Program) (w : ℕ) where
-  abbrev pub AtSpot : Spot → Type 0
-  AtSpot c = At P w (c .group) (c .item) (c .row) (c .clause)
+  abbrev pub AtCoordinates : Coordinates → Type 0
+  AtCoordinates c = At P w (c .group) (c .item) (c .block) (c .clause)
 
-  -- a spot where a clause stands
-  pub record Stands (c : Spot) : Type 0 where
-    pub at : AtSpot c
-    pub is : c ≡ spot P w (c .group) (c .item) (c .row) (c .clause)
+  -- coordinates where a clause stands
+  pub record Stands (c : Coordinates) : Type 0 where
+    pub at : AtCoordinates c
+    pub is : c ≡ coordinates P w (c .group) (c .item) (c .block) (c .clause)
 
-  pub data Chained : List Spot → Type 0 where
+  pub data Chained : List Coordinates → Type 0 where
     end : Chained []
-    link : {c : Spot} {cs : List Spot} → Stands c → ahead P w c ≡ cs → Chained cs → Chained (c ∷ cs)
+    link : {c : Coordinates} {cs : List Coordinates} → Stands c → ahead P w c ≡ cs → Chained cs → Chained (c ∷ cs)
 
-  -- ---- the spots of the clauses are chained, level by level
+  -- ---- the coordinates of the clauses are chained, level by level
 
-  chain-row : (g a i d y : ℕ) (cs : List Spot) → ((x : ℕ) → 0 < x → x ≤ size P w g a i → At P w g a i x)
-      → 0 < y → y + d ≡ suc (size P w g a i) → cs ≡ rowsAhead P w g a i (itemCount P g - a) (rowCount P w g - i) → Chained cs
-      → Chained (after d y (λ x. spot P w g a i x ∷ []) ++ cs)
-  chain-row g a i zero y cs at p q e ch = ch
-  chain-row g a i (suc d) y cs at p q e ch =
+  chain-block : (g a i d y : ℕ) (cs : List Coordinates) → ((x : ℕ) → 0 < x → x ≤ size P w g a i → At P w g a i x)
+      → 0 < y → y + d ≡ suc (size P w g a i) → cs ≡ blocksAhead P w g a i (itemCount P g - a) (blockCount P w g - i) → Chained cs
+      → Chained (after d y (λ x. coordinates P w g a i x ∷ []) ++ cs)
+  chain-block g a i zero y cs at p q e ch = ch
+  chain-block g a i (suc d) y cs at p q e ch =
       link
       (record { at = at y p (omega (arith, q)); is = refl })
-      (ap₂ (λ (k : ℕ) (xs : List Spot). after k (suc y) (λ x. spot P w g a i x ∷ []) ++ xs) (left (size P w g a i) q) (sym e))
-      (chain-row g a i d (suc y) cs at (omega arith) (omega (arith, q)) e ch)
+      (ap₂ (λ (k : ℕ) (xs : List Coordinates). after k (suc y) (λ x. coordinates P w g a i x ∷ []) ++ xs) (left (size P w g a i) q) (sym e))
+      (chain-block g a i d (suc y) cs at (omega arith) (omega (arith, q)) e ch)
     where
       left : (s : ℕ) → y + suc d ≡ suc s → s - y ≡ d
       left s q = omega (arith, q)
 
-  chain-rows : (g a d i : ℕ) (cs : List Spot)
-      → ((j x : ℕ) → 0 < j → j ≤ rowCount P w g → 0 < x → x ≤ size P w g a j → At P w g a j x)
-      → 0 < i → i + d ≡ suc (rowCount P w g) → cs ≡ itemsAhead P w g a (itemCount P g - a) → Chained cs
-      → Chained (after d i (rowSpots P w g a) ++ cs)
-  chain-rows g a zero i cs at p q e ch = ch
-  chain-rows g a (suc d) i cs at p q e ch =
+  chain-blocks : (g a d i : ℕ) (cs : List Coordinates)
+      → ((j x : ℕ) → 0 < j → j ≤ blockCount P w g → 0 < x → x ≤ size P w g a j → At P w g a j x)
+      → 0 < i → i + d ≡ suc (blockCount P w g) → cs ≡ itemsAhead P w g a (itemCount P g - a) → Chained cs
+      → Chained (after d i (blockCoordinates P w g a) ++ cs)
+  chain-blocks g a zero i cs at p q e ch = ch
+  chain-blocks g a (suc d) i cs at p q e ch =
       subst Chained
-      (ap (λ (xs : List Spot). xs ++ (after d (suc i) (rowSpots P w g a) ++ cs)) (sym (tab-after (size P w g a i) (spot P w g a i)))
-      ∙ sym (append-assoc (rowSpots P w g a i) (after d (suc i) (rowSpots P w g a)) cs))
-      (chain-row g a i (size P w g a i) 1 (after d (suc i) (rowSpots P w g a) ++ cs)
+      (ap (λ (xs : List Coordinates). xs ++ (after d (suc i) (blockCoordinates P w g a) ++ cs)) (sym (tab-after (size P w g a i) (coordinates P w g a i)))
+      ∙ sym (append-assoc (blockCoordinates P w g a i) (after d (suc i) (blockCoordinates P w g a)) cs))
+      (chain-block g a i (size P w g a i) 1 (after d (suc i) (blockCoordinates P w g a) ++ cs)
       (λ x. at i x p (omega (arith, q))) (omega arith) (omega arith)
-      (ap₂ (λ (k : ℕ) (xs : List Spot). after k (suc i) (rowSpots P w g a) ++ xs) (sym (left (rowCount P w g) q)) e)
-      (chain-rows g a d (suc i) cs at (omega arith) (omega (arith, q)) e ch))
+      (ap₂ (λ (k : ℕ) (xs : List Coordinates). after k (suc i) (blockCoordinates P w g a) ++ xs) (sym (left (blockCount P w g) q)) e)
+      (chain-blocks g a d (suc i) cs at (omega arith) (omega (arith, q)) e ch))
     where
       left : (s : ℕ) → i + suc d ≡ suc s → s - i ≡ d
       left s q = omega (arith, q)
 
-  chain-items : (g d a : ℕ) (cs : List Spot)
-      → ((b j x : ℕ) → 0 < b → b ≤ itemCount P g → 0 < j → j ≤ rowCount P w g → 0 < x → x ≤ size P w g b j → At P w g b j x)
+  chain-items : (g d a : ℕ) (cs : List Coordinates)
+      → ((b j x : ℕ) → 0 < b → b ≤ itemCount P g → 0 < j → j ≤ blockCount P w g → 0 < x → x ≤ size P w g b j → At P w g b j x)
       → 0 < a → a + d ≡ suc (itemCount P g) → cs ≡ groupsAhead P w g → Chained cs
-      → Chained (after d a (itemSpots P w g) ++ cs)
+      → Chained (after d a (itemCoordinates P w g) ++ cs)
   chain-items g zero a cs at p q e ch = ch
   chain-items g (suc d) a cs at p q e ch =
       subst Chained
-      (ap (λ (xs : List Spot). xs ++ (after d (suc a) (itemSpots P w g) ++ cs)) (sym (each-after (rowCount P w g) (rowSpots P w g a)))
-      ∙ sym (append-assoc (itemSpots P w g a) (after d (suc a) (itemSpots P w g)) cs))
-      (chain-rows g a (rowCount P w g) 1 (after d (suc a) (itemSpots P w g) ++ cs)
+      (ap (λ (xs : List Coordinates). xs ++ (after d (suc a) (itemCoordinates P w g) ++ cs)) (sym (each-after (blockCount P w g) (blockCoordinates P w g a)))
+      ∙ sym (append-assoc (itemCoordinates P w g a) (after d (suc a) (itemCoordinates P w g)) cs))
+      (chain-blocks g a (blockCount P w g) 1 (after d (suc a) (itemCoordinates P w g) ++ cs)
       (λ j x. at a j x p (omega (arith, q))) (omega arith) (omega arith)
-      (ap₂ (λ (k : ℕ) (xs : List Spot). after k (suc a) (itemSpots P w g) ++ xs) (sym (left (itemCount P g) q)) e)
+      (ap₂ (λ (k : ℕ) (xs : List Coordinates). after k (suc a) (itemCoordinates P w g) ++ xs) (sym (left (itemCount P g) q)) e)
       (chain-items g d (suc a) cs at (omega arith) (omega (arith, q)) e ch))
     where
       left : (s : ℕ) → a + suc d ≡ suc s → s - a ≡ d
       left s q = omega (arith, q)
 
-  chain-groups : (d g : ℕ) → 0 < g → g + d ≡ 8 → Chained (after d g (groupSpots P w))
+  chain-groups : (d g : ℕ) → 0 < g → g + d ≡ 8 → Chained (after d g (groupCoordinates P w))
   chain-groups zero g p q = end
   chain-groups (suc d) g p q =
       subst Chained
-      (ap (λ (xs : List Spot). xs ++ after d (suc g) (groupSpots P w)) (sym (each-after (itemCount P g) (itemSpots P w g))))
-      (chain-items g (itemCount P g) 1 (after d (suc g) (groupSpots P w))
+      (ap (λ (xs : List Coordinates). xs ++ after d (suc g) (groupCoordinates P w)) (sym (each-after (itemCount P g) (itemCoordinates P w g))))
+      (chain-items g (itemCount P g) 1 (after d (suc g) (groupCoordinates P w))
       (λ b j x p₁ q₁ p₂ q₂ p₃ q₃. record {
-        row-at = record { group-some = p; group-in = omega (arith, q); item-some = p₁; item-in = q₁; row-some = p₂; row-in = q₂ };
+        block-at = record { group-some = p; group-in = omega (arith, q); item-some = p₁; item-in = q₁; block-some = p₂; block-in = q₂ };
         clause-some = p₃;
         clause-in = q₃;
       }) (omega arith) (omega arith)
-      (ap (λ (k : ℕ). after k (suc g) (groupSpots P w)) (left q))
+      (ap (λ (k : ℕ). after k (suc g) (groupCoordinates P w)) (left q))
       (chain-groups d (suc g) (omega arith) (omega (arith, q))))
     where
       left : g + suc d ≡ 8 → d ≡ 7 - g
       left q = omega (arith, q)
 
-  pub spots-chained : Chained (spots P w)
-  unfolding spots
-  spots-chained = subst Chained (sym (each-after 7 (groupSpots P w))) (chain-groups 7 1 (omega arith) (omega arith))
+  pub all-coordinates-chained : Chained (allCoordinates P w)
+  unfolding allCoordinates
+  all-coordinates-chained = subst Chained (sym (each-after 7 (groupCoordinates P w))) (chain-groups 7 1 (omega arith) (omega arith))
 
   -- they follow the place before the first group
-  pub ahead-first : ahead P w (before P 1) ≡ spots P w
-  unfolding spots
+  pub ahead-first : ahead P w (groupStart P 1) ≡ allCoordinates P w
+  unfolding allCoordinates
   ahead-first =
-      ap (λ (xs : List Spot). xs ++ after 6 2 (groupSpots P w)) (sym (each-after (itemCount P 1) (itemSpots P w 1)))
-      ∙ sym (each-after 7 (groupSpots P w))
+      ap (λ (xs : List Coordinates). xs ++ after 6 2 (groupCoordinates P w)) (sym (each-after (itemCount P 1) (itemCoordinates P w 1)))
+      ∙ sym (each-after 7 (groupCoordinates P w))

@@ -1,6 +1,6 @@
--- The place behind a row, where the item has a further row.
---   behind-sum                 the number of the row's last clause fits
---   behind-adds, behind-at     the further row
+-- The place after a block, where the item has a further block.
+--   behind-sum                 the number of the block's last clause fits
+--   behind-adds, behind-at     the further block
 --   behind-is                  its first place
 --   place-listed               a place with a clause is that of a clause in the list
 -- Assumes nothing.
@@ -13,21 +13,21 @@ use mathlib.Core.List.{List, _∷_}
 use lib.ListN.{length, List·getD-eq-default}
 use Rattle.lists.proofs.Tests.{le-or-lt}
 use Rattle.meaning.specs.Program.{Program}
-use Rattle.clause_walk.specs.Walk.{size, RowAt}
+use Rattle.clause_walk.specs.Walk.{size, BlockAt}
 use Rattle.clause_tables.specs.declared.Totals.{Totals}
 use Rattle.clause_tables.specs.Tables.{Tabled}
 use Rattle.clause_places.specs.declared.Place.{Place}
-use Rattle.clause_places.specs.declared.Spot.{Spot}
-use Rattle.clause_places.specs.Places.{spots, before, past, spotAt, placeAt}
+use Rattle.clause_places.specs.declared.Coordinates.{Coordinates}
+use Rattle.clause_places.specs.Places.{allCoordinates, groupStart, past, coordinatesAt, placeAt}
 use Rattle.clause_places.proofs.Numbers.{count-is, number-fits}
-use Rattle.clause_places.proofs.RowPlaces.{last-is, behind, further-adds, further-at, further-row}
+use Rattle.clause_places.proofs.BlockPlaces.{last-is, behind, further-adds, further-at, further-block}
 
--- behind the last clause
-spot-past : (P : Program) (w j : ℕ) → length (spots P w) < j → spotAt P w j ≡ past
-unfolding spotAt
-spot-past P w j h = List·getD-eq-default (before P 1 ∷ spots P w) past h
+-- after the last clause
+coordinates-past : (P : Program) (w j : ℕ) → length (allCoordinates P w) < j → coordinatesAt P w j ≡ past
+unfolding coordinatesAt
+coordinates-past P w j h = List·getD-eq-default (groupStart P 1 ∷ allCoordinates P w) past h
 
-pub place-listed : {P : Program} {t : Totals} {hs ss bs ks xs ys : List ℕ} (T : Tabled P t hs ss bs ks xs ys) {c : Place} → c ≡ placeAt P (t .sizes .w) (c .number) → 0 < c .spot .clause → c .number ≤ t .clauses
+pub place-listed : {P : Program} {t : Totals} {hs ss bs ks xs ys : List ℕ} (T : Tabled P t hs ss bs ks xs ys) {c : Place} → c ≡ placeAt P (t .sizes .w) (c .number) → 0 < c .coordinates .clause → c .number ≤ t .clauses
 place-listed {P} {t} T {c} e p = go (le-or-lt (c .number) (t .clauses))
   where
     go : (c .number ≤ t .clauses) ⊎ (t .clauses < c .number) → c .number ≤ t .clauses
@@ -37,55 +37,55 @@ place-listed {P} {t} T {c} e p = go (le-or-lt (c .number) (t .clauses))
         (omega (
           arith,
           p,
-          ap (λ (d : Place). d .spot .clause) e,
-          ap (λ (d : Spot). d .clause) (spot-past P (t .sizes .w) (c .number) (subst (λ (n : ℕ). n < c .number) (sym (count-is T)) l)),
+          ap (λ (d : Place). d .coordinates .clause) e,
+          ap (λ (d : Coordinates). d .clause) (coordinates-past P (t .sizes .w) (c .number) (subst (λ (n : ℕ). n < c .number) (sym (count-is T)) l)),
         ))
 
 module _ {P : Program} {t : Totals} {hs ss bs ks xs ys : List ℕ} (T : Tabled P t hs ss bs ks xs ys) {c : Place} (e : c ≡ placeAt P (t .sizes .w) (c .number)) (h : c .number ≤ t .clauses) where
-  -- the place of the row's last clause
+  -- the place of the block's last clause
   abbrev end : Place
   end =
       record {
-        number = c .number + c .spot .clauses;
-        spot =
+        number = c .number + c .coordinates .clauses;
+        coordinates =
             record {
-              group = c .spot .group;
-              item = c .spot .item;
-              row = c .spot .row;
-              clause = c .spot .clause + c .spot .clauses;
+              group = c .coordinates .group;
+              item = c .coordinates .item;
+              block = c .coordinates .block;
+              clause = c .coordinates .clause + c .coordinates .clauses;
               clauses = 0;
-              rows = c .spot .rows;
-              items = c .spot .items;
+              blocks = c .coordinates .blocks;
+              items = c .coordinates .items;
             };
       }
 
-  end-is : (end ≡ placeAt P (t .sizes .w) (c .number + c .spot .clauses)) × (c .number + c .spot .clauses ≤ t .clauses) × (end .spot .clauses ≡ 0)
+  end-is : (end ≡ placeAt P (t .sizes .w) (c .number + c .coordinates .clauses)) × (c .number + c .coordinates .clauses ≤ t .clauses) × (end .coordinates .clauses ≡ 0)
   end-is = (last-is T e h .0, last-is T e h .1, refl)
 
-  pub behind-sum : c .number + c .spot .clauses ≤ 53690
+  pub behind-sum : c .number + c .coordinates .clauses ≤ 53690
   behind-sum = le-trans (last-is T e h .1) (number-fits T)
 
-  module _ (r : 0 < c .spot .rows) where
-    pub behind-adds : c .spot .row + 1 ≤ 501
+  module _ (r : 0 < c .coordinates .blocks) where
+    pub behind-adds : c .coordinates .block + 1 ≤ 501
     behind-adds = further-adds T end-is r
 
-    pub behind-at : RowAt P (t .sizes .w) (c .spot .group) (c .spot .item) (c .spot .row + 1)
+    pub behind-at : BlockAt P (t .sizes .w) (c .coordinates .group) (c .coordinates .item) (c .coordinates .block + 1)
     behind-at = further-at T end-is r
 
-    pub behind-is : {x : ℕ} → x ≡ size P (t .sizes .w) (c .spot .group) (c .spot .item) (c .spot .row + 1) → 0 < x
+    pub behind-is : {x : ℕ} → x ≡ size P (t .sizes .w) (c .coordinates .group) (c .coordinates .item) (c .coordinates .block + 1) → 0 < x
         → (record {
-          number = c .number + c .spot .clauses + 1;
-          spot =
+          number = c .number + c .coordinates .clauses + 1;
+          coordinates =
               record {
-                group = c .spot .group;
-                item = c .spot .item;
-                row = c .spot .row + 1;
+                group = c .coordinates .group;
+                item = c .coordinates .item;
+                block = c .coordinates .block + 1;
                 clause = 1;
                 clauses = x - 1;
-                rows = c .spot .rows - 1;
-                items = c .spot .items;
+                blocks = c .coordinates .blocks - 1;
+                items = c .coordinates .items;
               };
         }
-        ≡ placeAt P (t .sizes .w) (suc (c .number + c .spot .clauses)))
-        × (c .number + c .spot .clauses ≤ t .clauses)
-    behind-is q p = behind T end-is (further-row T end-is r q p)
+        ≡ placeAt P (t .sizes .w) (suc (c .number + c .coordinates .clauses)))
+        × (c .number + c .coordinates .clauses ≤ t .clauses)
+    behind-is q p = behind T end-is (further-block T end-is r q p)

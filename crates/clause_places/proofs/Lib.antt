@@ -1,12 +1,12 @@
--- Ahead: the spots of the clauses follow one another
+-- Ahead: the coordinates of the clauses follow one another
 -- Steps: the steps of the search for the next clause
--- HeadRow: the next row of an atom of group 2 that holds a clause
+-- HeadBlock: the next block of an atom of group 2 that holds a clause
 -- Numbers: the clauses by their numbers
 pub mod Ahead
 pub mod Steps
-pub mod HeadRow
+pub mod HeadBlock
 pub mod Numbers
--- RowPlaces: the places of a row
-pub mod RowPlaces
--- Behind: the place behind a row, where the item has a further row
+-- BlockPlaces: the places of a block
+pub mod BlockPlaces
+-- Behind: the place after a block, where the item has a further block
 pub mod Behind

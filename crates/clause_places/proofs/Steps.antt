@@ -14,15 +14,15 @@ use borrow.Author.Tests.{lt-ltb, le-ltb, ltb-true, ltb-false}
 use Rattle.lists.proofs.Tests.{le-or-lt}
 use Rattle.meaning.specs.Program.{Program}
 use Rattle.encoding.specs.Clauses.{pairCount}
-use Rattle.clause_walk.specs.Walk.{itemCount, rowCount, size, RowAt}
+use Rattle.clause_walk.specs.Walk.{itemCount, blockCount, size, BlockAt}
 use Rattle.clause_tables.specs.declared.Totals.{Totals}
 use Rattle.clause_tables.specs.Tables.{Tabled}
 use Rattle.clause_table_laws.proofs.Elements.{rules-are, atoms-are, pairs-are, bounded}
-use Rattle.clause_table_laws.proofs.Bounds.{items-fit, rows-fit, size-fits}
-use Rattle.clause_layout.specs.Numbers.{itemsOf, rowsOf}
-use Rattle.clause_places.specs.declared.Spot.{Spot}
-use Rattle.clause_places.specs.Places.{spot, rowSpots, itemSpots, groupSpots, before, past, spotAt, placeAt}
-use Rattle.clause_places.specs.Ahead.{after, groupsAhead, itemsAhead, rowsAhead, clausesAhead, ahead, firstOf, In, isOver, Onward}
+use Rattle.clause_table_laws.proofs.Bounds.{items-fit, blocks-fit, size-fits}
+use Rattle.clause_layout.specs.Numbers.{itemsOf, blocksOf}
+use Rattle.clause_places.specs.declared.Coordinates.{Coordinates}
+use Rattle.clause_places.specs.Places.{coordinates, blockCoordinates, itemCoordinates, groupCoordinates, groupStart, past, coordinatesAt, placeAt}
+use Rattle.clause_places.specs.Ahead.{after, groupsAhead, itemsAhead, blocksAhead, clausesAhead, ahead, firstOf, In, isOver, Onward}
 use Rattle.clause_places.proofs.Ahead.{each-after, tab-after}
 
 -- ---- numbers
@@ -39,57 +39,57 @@ shifted i k h = omega (arith, h)
 -- ---- what is ahead
 
 module _ (P : Program) (w : ℕ) where
-  pub into-row : (g a i y items k : ℕ) → clausesAhead P w g a (suc i) 0 items k (size P w g a (suc i)) ≡ clausesAhead P w g a i y items (suc k) 0
-  into-row g a i y items k =
-      ap (λ (xs : List Spot). xs ++ rowsAhead P w g a (suc i) items k) (sym (tab-after (size P w g a (suc i)) (spot P w g a (suc i))))
-      ∙ sym (append-assoc (rowSpots P w g a (suc i)) (after k (suc (suc i)) (rowSpots P w g a)) (itemsAhead P w g a items))
+  pub into-block : (g a i y items k : ℕ) → clausesAhead P w g a (suc i) 0 items k (size P w g a (suc i)) ≡ clausesAhead P w g a i y items (suc k) 0
+  into-block g a i y items k =
+      ap (λ (xs : List Coordinates). xs ++ blocksAhead P w g a (suc i) items k) (sym (tab-after (size P w g a (suc i)) (coordinates P w g a (suc i))))
+      ∙ sym (append-assoc (blockCoordinates P w g a (suc i)) (after k (suc (suc i)) (blockCoordinates P w g a)) (itemsAhead P w g a items))
 
-  into-item : (g a i y k : ℕ) → clausesAhead P w g (suc a) 0 0 k (rowCount P w g) 0 ≡ clausesAhead P w g a i y (suc k) 0 0
+  into-item : (g a i y k : ℕ) → clausesAhead P w g (suc a) 0 0 k (blockCount P w g) 0 ≡ clausesAhead P w g a i y (suc k) 0 0
   into-item g a i y k =
-      ap (λ (xs : List Spot). xs ++ itemsAhead P w g (suc a) k) (sym (each-after (rowCount P w g) (rowSpots P w g (suc a))))
-      ∙ sym (append-assoc (itemSpots P w g (suc a)) (after k (suc (suc a)) (itemSpots P w g)) (groupsAhead P w g))
+      ap (λ (xs : List Coordinates). xs ++ itemsAhead P w g (suc a) k) (sym (each-after (blockCount P w g) (blockCoordinates P w g (suc a))))
+      ∙ sym (append-assoc (itemCoordinates P w g (suc a)) (after k (suc (suc a)) (itemCoordinates P w g)) (groupsAhead P w g))
 
-  into-group : (g a i y : ℕ) → g < 7 → ahead P w (before P (suc g)) ≡ clausesAhead P w g a i y 0 0 0
+  into-group : (g a i y : ℕ) → g < 7 → ahead P w (groupStart P (suc g)) ≡ clausesAhead P w g a i y 0 0 0
   into-group g a i y h =
-      ap (λ (xs : List Spot). xs ++ groupsAhead P w (suc g)) (sym (each-after (itemCount P (suc g)) (itemSpots P w (suc g))))
-      ∙ sym (ap (λ (k : ℕ). after k (suc g) (groupSpots P w)) (one-left g h))
+      ap (λ (xs : List Coordinates). xs ++ groupsAhead P w (suc g)) (sym (each-after (itemCount P (suc g)) (itemCoordinates P w (suc g))))
+      ∙ sym (ap (λ (k : ℕ). after k (suc g) (groupCoordinates P w)) (one-left g h))
     where
       one-left : (g : ℕ) → g < 7 → 7 - g ≡ suc (7 - suc g)
       one-left g h = omega (arith, h)
 
   none-ahead : (g a i y : ℕ) → 6 < g → clausesAhead P w g a i y 0 0 0 ≡ []
-  none-ahead g a i y h = ap (λ (k : ℕ). after k (suc g) (groupSpots P w)) (none g h)
+  none-ahead g a i y h = ap (λ (k : ℕ). after k (suc g) (groupCoordinates P w)) (none g h)
     where
       none : (g : ℕ) → 6 < g → 7 - g ≡ 0
       none g h = omega (arith, h)
 
 -- ---- the test for the end
 
-module _ (c : Spot) where
-  pub over-row : 0 < c .rows → false ≡ isOver c
-  over-row h = rw (lt-ltb 0 (c .rows) h)
+module _ (c : Coordinates) where
+  pub over-block : 0 < c .blocks → false ≡ isOver c
+  over-block h = rw (lt-ltb 0 (c .blocks) h)
 
-  pub over-item : c .rows ≤ 0 → 0 < c .items → false ≡ isOver c
-  over-item h k = rw (le-ltb 0 (c .rows) h, lt-ltb 0 (c .items) k)
+  pub over-item : c .blocks ≤ 0 → 0 < c .items → false ≡ isOver c
+  over-item h k = rw (le-ltb 0 (c .blocks) h, lt-ltb 0 (c .items) k)
 
-  pub over-group : c .rows ≤ 0 → c .items ≤ 0 → ltb 6 (c .group) ≡ isOver c
-  over-group h k = rw (le-ltb 0 (c .rows) h, le-ltb 0 (c .items) k)
+  pub over-group : c .blocks ≤ 0 → c .items ≤ 0 → ltb 6 (c .group) ≡ isOver c
+  over-group h k = rw (le-ltb 0 (c .blocks) h, le-ltb 0 (c .items) k)
 
   -- what holds at the end
   pub record Ended : Type 0 where
-    pub no-row : c .rows ≡ 0
+    pub no-block : c .blocks ≡ 0
     pub no-item : c .items ≡ 0
     pub no-group : 6 < c .group
 
   pub over-true : isOver c ≡ true → Ended
-  over-true e = go (le-or-lt (c .rows) 0) (le-or-lt (c .items) 0)
+  over-true e = go (le-or-lt (c .blocks) 0) (le-or-lt (c .items) 0)
     where
-      go : (c .rows ≤ 0) ⊎ (0 < c .rows) → (c .items ≤ 0) ⊎ (0 < c .items) → Ended
-      go (inr h) q = absurd (not-So true (sym (over-row h ∙ e)) refl)
+      go : (c .blocks ≤ 0) ⊎ (0 < c .blocks) → (c .items ≤ 0) ⊎ (0 < c .items) → Ended
+      go (inr h) q = absurd (not-So true (sym (over-block h ∙ e)) refl)
       go (inl h) (inr k) = absurd (not-So true (sym (over-item h k ∙ e)) refl)
-      go (inl h) (inl k) = record { no-row = omega (arith, h); no-item = omega (arith, k); no-group = ltb-true 6 (c .group) (over-group h k ∙ e) }
+      go (inl h) (inl k) = record { no-block = omega (arith, h); no-item = omega (arith, k); no-group = ltb-true 6 (c .group) (over-group h k ∙ e) }
 
-  pub group-left : isOver c ≡ false → c .rows ≤ 0 → c .items ≤ 0 → c .group < 7
+  pub group-left : isOver c ≡ false → c .blocks ≤ 0 → c .items ≤ 0 → c .group < 7
   group-left e h k = omega (arith, ltb-false 6 (c .group) (over-group h k ∙ e))
 
 -- ---- steps
@@ -107,118 +107,118 @@ module _ {P : Program} {t : Totals} {hs ss bs ks xs ys : List ℕ} (T : Tabled P
       ap₂ (λ (m k : ℕ). cond (eqb g 1) m (cond (eqb g 5) k (cond (eqb g 6) m (t .sizes .n)))) (rules-are P t hs ss bs ks xs ys T) (pairs-are P t hs ss bs ks xs ys T)
       ∙ ap (λ (n : ℕ). cond (eqb g 1) (length (P .rules)) (cond (eqb g 5) (pairCount P) (cond (eqb g 6) (length (P .rules)) n))) (atoms-are P t hs ss bs ks xs ys T)
 
-  pub rows-is : (g : ℕ) → rowsOf (t .sizes) g ≡ rowCount P w g
-  unfolding rowCount
-  rows-is g = ap (λ (m : ℕ). cond (eqb g 2) (suc m) (cond (eqb g 4) w (cond (eqb g 5) (w + w) 1))) (rules-are P t hs ss bs ks xs ys T)
+  pub blocks-is : (g : ℕ) → blocksOf (t .sizes) g ≡ blockCount P w g
+  unfolding blockCount
+  blocks-is g = ap (λ (m : ℕ). cond (eqb g 2) (suc m) (cond (eqb g 4) w (cond (eqb g 5) (w + w) 1))) (rules-are P t hs ss bs ks xs ys T)
 
-  module _ {c : Spot} (I : In P w c) where
+  module _ {c : Coordinates} (I : In P w c) where
     item-fits : c .item + c .items ≤ 500
     item-fits = subst (λ (k : ℕ). k ≤ 500) (sym (I .items-are)) (items-fit P (T .limits) (c .group))
 
-    -- a further row of the item
-    module _ (z : c .clauses ≡ 0) (h : 0 < c .rows) where
-      some-row : 0 < c .rows + c .clauses
-      some-row = omega (arith, h)
+    -- a further block of the item
+    module _ (z : c .clauses ≡ 0) (h : 0 < c .blocks) where
+      some-block : 0 < c .blocks + c .clauses
+      some-block = omega (arith, h)
 
-      row-end : c .row + c .rows ≡ rowCount P w (c .group)
-      row-end = I .rows-are some-row .1
+      block-end : c .block + c .blocks ≡ blockCount P w (c .group)
+      block-end = I .blocks-are some-block .1
 
-      row-fits : c .row + c .rows ≤ 501
-      row-fits = subst (λ (k : ℕ). k ≤ 501) (sym row-end) (rows-fit P (T .limits) w (c .group) bits)
+      block-fits : c .block + c .blocks ≤ 501
+      block-fits = subst (λ (k : ℕ). k ≤ 501) (sym block-end) (blocks-fit P (T .limits) w (c .group) bits)
 
-      pub row-adds : c .row + 1 ≤ 501
-      row-adds = omega (arith, row-fits, h)
+      pub block-adds : c .block + 1 ≤ 501
+      block-adds = omega (arith, block-fits, h)
 
-      pub row-at : RowAt P w (c .group) (c .item) (c .row + 1)
-      row-at =
+      pub block-at : BlockAt P w (c .group) (c .item) (c .block + 1)
+      block-at =
           record {
             group-some = I .group-some;
             group-in = I .group-in;
-            item-some = I .rows-are some-row .0;
+            item-some = I .blocks-are some-block .0;
             item-in = omega (arith, I .items-are);
-            row-some = omega arith;
-            row-in = omega (arith, row-end, h);
+            block-some = omega arith;
+            block-in = omega (arith, block-end, h);
           }
 
-      pub row-onward : {x : ℕ} → x ≡ size P w (c .group) (c .item) (c .row + 1)
-          → Onward P w c (record { group = c .group; item = c .item; row = c .row + 1; clause = 0; clauses = x; rows = c .rows - 1; items = c .items })
-      row-onward {x} e =
+      pub block-onward : {x : ℕ} → x ≡ size P w (c .group) (c .item) (c .block + 1)
+          → Onward P w c (record { group = c .group; item = c .item; block = c .block + 1; clause = 0; clauses = x; blocks = c .blocks - 1; items = c .items })
+      block-onward {x} e =
           record {
             same =
-                ap (λ (k : ℕ). clausesAhead P w (c .group) (c .item) (c .row + 1) 0 (c .items) (c .rows - 1) k) e
-                ∙ ap (λ (i : ℕ). clausesAhead P w (c .group) (c .item) i 0 (c .items) (c .rows - 1) (size P w (c .group) (c .item) i)) (one-more (c .row))
-                ∙ into-row P w (c .group) (c .item) (c .row) (c .clause) (c .items) (c .rows - 1)
-                ∙ ap₂ (λ (k d : ℕ). clausesAhead P w (c .group) (c .item) (c .row) (c .clause) (c .items) k d) (one-less (c .rows) h) (sym z);
+                ap (λ (k : ℕ). clausesAhead P w (c .group) (c .item) (c .block + 1) 0 (c .items) (c .blocks - 1) k) e
+                ∙ ap (λ (i : ℕ). clausesAhead P w (c .group) (c .item) i 0 (c .items) (c .blocks - 1) (size P w (c .group) (c .item) i)) (one-more (c .block))
+                ∙ into-block P w (c .group) (c .item) (c .block) (c .clause) (c .items) (c .blocks - 1)
+                ∙ ap₂ (λ (k d : ℕ). clausesAhead P w (c .group) (c .item) (c .block) (c .clause) (c .items) k d) (one-less (c .blocks) h) (sym z);
             within =
                 record {
                   group-some = I .group-some;
                   group-in = I .group-in;
                   items-are = I .items-are;
-                  rows-are = λ q. (I .rows-are some-row .0, shifted (c .row) (c .rows) h ∙ row-end);
+                  blocks-are = λ q. (I .blocks-are some-block .0, shifted (c .block) (c .blocks) h ∙ block-end);
                   clauses-are = λ q. (omega arith, zero-add x ∙ e);
                 };
             nearer = omega (arith, h);
           }
 
     -- a further item of the group
-    module _ (z : c .clauses ≡ 0) (n : c .rows ≤ 0) (h : 0 < c .items) where
+    module _ (z : c .clauses ≡ 0) (n : c .blocks ≤ 0) (h : 0 < c .items) where
       pub item-adds : c .item + 1 ≤ 500
       item-adds = omega (arith, item-fits, h)
 
-      pub item-onward : {x : ℕ} → x ≡ rowsOf (t .sizes) (c .group)
-          → Onward P w c (record { group = c .group; item = c .item + 1; row = 0; clause = 0; clauses = 0; rows = x; items = c .items - 1 })
+      pub item-onward : {x : ℕ} → x ≡ blocksOf (t .sizes) (c .group)
+          → Onward P w c (record { group = c .group; item = c .item + 1; block = 0; clause = 0; clauses = 0; blocks = x; items = c .items - 1 })
       item-onward {x} e =
           record {
             same =
-                ap₂ (λ (k a : ℕ). clausesAhead P w (c .group) a 0 0 (c .items - 1) k 0) (e ∙ rows-is (c .group)) (one-more (c .item))
-                ∙ into-item P w (c .group) (c .item) (c .row) (c .clause) (c .items - 1)
-                ∙ ap (λ (k : ℕ). clausesAhead P w (c .group) (c .item) (c .row) (c .clause) k 0 0) (one-less (c .items) h)
-                ∙ ap₂ (λ (k d : ℕ). clausesAhead P w (c .group) (c .item) (c .row) (c .clause) (c .items) k d) (sym none) (sym z);
+                ap₂ (λ (k a : ℕ). clausesAhead P w (c .group) a 0 0 (c .items - 1) k 0) (e ∙ blocks-is (c .group)) (one-more (c .item))
+                ∙ into-item P w (c .group) (c .item) (c .block) (c .clause) (c .items - 1)
+                ∙ ap (λ (k : ℕ). clausesAhead P w (c .group) (c .item) (c .block) (c .clause) k 0 0) (one-less (c .items) h)
+                ∙ ap₂ (λ (k d : ℕ). clausesAhead P w (c .group) (c .item) (c .block) (c .clause) (c .items) k d) (sym none) (sym z);
             within =
                 record {
                   group-some = I .group-some;
                   group-in = I .group-in;
                   items-are = shifted (c .item) (c .items) h ∙ I .items-are;
-                  rows-are = λ q. (omega arith, zero-add x ∙ e ∙ rows-is (c .group));
+                  blocks-are = λ q. (omega arith, zero-add x ∙ e ∙ blocks-is (c .group));
                   clauses-are = λ q. absurd (not-suc-le-zero q);
                 };
-            nearer = omega (arith, h, subst (λ (k : ℕ). k ≤ 501) (sym (e ∙ rows-is (c .group))) (rows-fit P (T .limits) w (c .group) bits));
+            nearer = omega (arith, h, subst (λ (k : ℕ). k ≤ 501) (sym (e ∙ blocks-is (c .group))) (blocks-fit P (T .limits) w (c .group) bits));
           }
         where
-          none : c .rows ≡ 0
+          none : c .blocks ≡ 0
           none = omega (arith, n)
 
     -- a further group
-    module _ (z : c .clauses ≡ 0) (v : isOver c ≡ false) (n : c .rows ≤ 0) (q : c .items ≤ 0) where
+    module _ (z : c .clauses ≡ 0) (v : isOver c ≡ false) (n : c .blocks ≤ 0) (q : c .items ≤ 0) where
       left : c .group < 7
       left = group-left c v n q
 
-      pub group-onward : {x : ℕ} {d : Spot} → x ≡ itemsOf t (c .group + 1)
-          → d ≡ record { group = c .group + 1; item = 0; row = 0; clause = 0; clauses = 0; rows = 0; items = x } → Onward P w c d
-      group-onward {x} {d} e u = subst (λ (d : Spot). Onward P w c d) (sym (u ∙ ap₂ group-begun (one-more (c .group)) (e ∙ items-is (c .group + 1) ∙ ap (itemCount P) (one-more (c .group))))) onward
+      pub group-onward : {x : ℕ} {d : Coordinates} → x ≡ itemsOf t (c .group + 1)
+          → d ≡ record { group = c .group + 1; item = 0; block = 0; clause = 0; clauses = 0; blocks = 0; items = x } → Onward P w c d
+      group-onward {x} {d} e u = subst (λ (d : Coordinates). Onward P w c d) (sym (u ∙ ap₂ group-begun (one-more (c .group)) (e ∙ items-is (c .group + 1) ∙ ap (itemCount P) (one-more (c .group))))) onward
         where
-          group-begun : ℕ → ℕ → Spot
-          group-begun g k = record { group = g; item = 0; row = 0; clause = 0; clauses = 0; rows = 0; items = k }
+          group-begun : ℕ → ℕ → Coordinates
+          group-begun g k = record { group = g; item = 0; block = 0; clause = 0; clauses = 0; blocks = 0; items = k }
 
-          no-rows : c .rows ≡ 0
-          no-rows = omega (arith, n)
+          no-blocks : c .blocks ≡ 0
+          no-blocks = omega (arith, n)
 
           no-items : c .items ≡ 0
           no-items = omega (arith, q)
 
-          onward : Onward P w c (before P (suc (c .group)))
+          onward : Onward P w c (groupStart P (suc (c .group)))
           onward =
               record {
                 same =
-                    into-group P w (c .group) (c .item) (c .row) (c .clause) left
-                    ∙ ap₂ (λ (k d : ℕ). clausesAhead P w (c .group) (c .item) (c .row) (c .clause) k 0 d) (sym no-items) (sym z)
-                    ∙ ap (λ (k : ℕ). clausesAhead P w (c .group) (c .item) (c .row) (c .clause) (c .items) k (c .clauses)) (sym no-rows);
+                    into-group P w (c .group) (c .item) (c .block) (c .clause) left
+                    ∙ ap₂ (λ (k d : ℕ). clausesAhead P w (c .group) (c .item) (c .block) (c .clause) k 0 d) (sym no-items) (sym z)
+                    ∙ ap (λ (k : ℕ). clausesAhead P w (c .group) (c .item) (c .block) (c .clause) (c .items) k (c .clauses)) (sym no-blocks);
                 within =
                     record {
                       group-some = omega arith;
                       group-in = left;
                       items-are = zero-add (itemCount P (suc (c .group)));
-                      rows-are = λ q. absurd (omega (arith, q));
+                      blocks-are = λ q. absurd (omega (arith, q));
                       clauses-are = λ q. absurd (not-suc-le-zero q);
                     };
                 nearer = omega (arith, left, items-fit P (T .limits) (suc (c .group)));
@@ -226,22 +226,22 @@ module _ {P : Program} {t : Totals} {hs ss bs ks xs ys : List ℕ} (T : Tabled P
 
   -- ---- the end of the search
 
-  pub nothing-follows : (c : Spot) → c .clauses ≡ 0 → isOver c ≡ true → past ≡ firstOf (ahead P w c)
+  pub nothing-follows : (c : Coordinates) → c .clauses ≡ 0 → isOver c ≡ true → past ≡ firstOf (ahead P w c)
   nothing-follows c z v =
       ap firstOf
       (sym
-      (ap₂ (λ (k d : ℕ). clausesAhead P w (c .group) (c .item) (c .row) (c .clause) k (c .rows) d) (E .no-item) z
-      ∙ ap (λ (k : ℕ). clausesAhead P w (c .group) (c .item) (c .row) (c .clause) 0 k 0) (E .no-row)
-      ∙ none-ahead P w (c .group) (c .item) (c .row) (c .clause) (E .no-group)))
+      (ap₂ (λ (k d : ℕ). clausesAhead P w (c .group) (c .item) (c .block) (c .clause) k (c .blocks) d) (E .no-item) z
+      ∙ ap (λ (k : ℕ). clausesAhead P w (c .group) (c .item) (c .block) (c .clause) 0 k 0) (E .no-block)
+      ∙ none-ahead P w (c .group) (c .item) (c .block) (c .clause) (E .no-group)))
     where
       E : Ended c
       E = over-true c v
 
-  module _ (c : Spot) (I : In P w c) (f : c .clauses ≡ 0 → ⊥) where
+  module _ (c : Coordinates) (I : In P w c) (f : c .clauses ≡ 0 → ⊥) where
     some : 0 < c .clauses
     some = pos-of-ne-zero f
 
-    more-clauses : 0 < c .rows + c .clauses
+    more-clauses : 0 < c .blocks + c .clauses
     more-clauses = omega (arith, some)
 
     pub clause-adds : c .clause + 1 ≤ 503
@@ -250,29 +250,29 @@ module _ {P : Program} {t : Totals} {hs ss bs ks xs ys : List ℕ} (T : Tabled P
           arith,
           some,
           I .clauses-are some .1,
-          size-fits P (T .limits) w (c .group) (c .item) (c .row) bits
+          size-fits P (T .limits) w (c .group) (c .item) (c .block) bits
               (record {
                 group-some = I .group-some;
                 group-in = I .group-in;
-                item-some = I .rows-are more-clauses .0;
+                item-some = I .blocks-are more-clauses .0;
                 item-in = omega (arith, I .items-are);
-                row-some = I .clauses-are some .0;
-                row-in = omega (arith, I .rows-are more-clauses .1);
+                block-some = I .clauses-are some .0;
+                block-in = omega (arith, I .blocks-are more-clauses .1);
               }),
         )
 
-    pub clause-follows : record { group = c .group; item = c .item; row = c .row; clause = c .clause + 1; clauses = c .clauses - 1; rows = c .rows; items = c .items } ≡ firstOf (ahead P w c)
+    pub clause-follows : record { group = c .group; item = c .item; block = c .block; clause = c .clause + 1; clauses = c .clauses - 1; blocks = c .blocks; items = c .items } ≡ firstOf (ahead P w c)
     clause-follows =
         (λ i. record {
           group = c .group;
           item = c .item;
-          row = c .row;
+          block = c .block;
           clause = one-more (c .clause) i;
-          clauses = less (size P w (c .group) (c .item) (c .row)) (c .clause) (c .clauses) (I .clauses-are some .1) i;
-          rows = rest (rowCount P w (c .group)) (c .row) (c .rows) (I .rows-are more-clauses .1) i;
+          clauses = less (size P w (c .group) (c .item) (c .block)) (c .clause) (c .clauses) (I .clauses-are some .1) i;
+          blocks = rest (blockCount P w (c .group)) (c .block) (c .blocks) (I .blocks-are more-clauses .1) i;
           items = rest (itemCount P (c .group)) (c .item) (c .items) (I .items-are) i;
         })
-        ∙ ap (λ (k : ℕ). firstOf (clausesAhead P w (c .group) (c .item) (c .row) (c .clause) (c .items) (c .rows) k)) (one-less (c .clauses) some)
+        ∙ ap (λ (k : ℕ). firstOf (clausesAhead P w (c .group) (c .item) (c .block) (c .clause) (c .items) (c .blocks) k)) (one-less (c .clauses) some)
       where
         less : (s y k : ℕ) → y + k ≡ s → k - 1 ≡ s - suc y
         less s y k e = omega (arith, e)
@@ -282,10 +282,10 @@ module _ {P : Program} {t : Totals} {hs ss bs ks xs ys : List ℕ} (T : Tabled P
 
   -- ---- the place before the first clause
 
-  pub started : {x : ℕ} {d : Spot} → x ≡ itemsOf t 1 → d ≡ record { group = 1; item = 0; row = 0; clause = 0; clauses = 0; rows = 0; items = x }
-      → record { number = 0; spot = d } ≡ placeAt P w 0
-  unfolding spotAt
-  started {x} {d} e u = ap (λ (c : Spot). record { number = 0; spot = c }) (u ∙ ap first-begun (e ∙ items-is 1))
+  pub started : {x : ℕ} {d : Coordinates} → x ≡ itemsOf t 1 → d ≡ record { group = 1; item = 0; block = 0; clause = 0; clauses = 0; blocks = 0; items = x }
+      → record { number = 0; coordinates = d } ≡ placeAt P w 0
+  unfolding coordinatesAt
+  started {x} {d} e u = ap (λ (c : Coordinates). record { number = 0; coordinates = c }) (u ∙ ap first-begun (e ∙ items-is 1))
     where
-      first-begun : ℕ → Spot
-      first-begun k = record { group = 1; item = 0; row = 0; clause = 0; clauses = 0; rows = 0; items = k }
+      first-begun : ℕ → Coordinates
+      first-begun k = record { group = 1; item = 0; block = 0; clause = 0; clauses = 0; blocks = 0; items = k }

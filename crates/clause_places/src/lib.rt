@@ -1,7 +1,7 @@
 // The walk of the clause list from clause to clause.
 use clause_layout::items;
 use clause_layout::next_head;
-use clause_layout::rows;
+use clause_layout::block_count;
 use clause_layout::size;
 use clause_tables::Totals;
 use numbers::Atom;
@@ -10,46 +10,46 @@ ghost use mathlib.Core.Path.{_≡_};
 ghost use mathlib.Core.Bool.{false};
 ghost use lib.ListN.{length};
 ghost use Rattle.clause_tables.specs.Tables.{programIn, Ready};
-ghost use Rattle.clause_places.specs.Places.{placeAt, furtherRow};
-ghost use Rattle.clause_places.specs.Ahead.{ahead, firstOf, In, isOver, headRow, Onward};
+ghost use Rattle.clause_places.specs.Places.{placeAt, furtherBlock};
+ghost use Rattle.clause_places.specs.Ahead.{ahead, firstOf, In, isOver, headBlock, Onward};
 
-// A clause's group, item, row and number in its row, and how many clauses follow in the row, rows in the item and items in the group.
-pub struct Spot {
+// A clause's group, item, block and number in its block, and how many clauses follow in the block, blocks in the item and items in the group.
+pub struct Coordinates {
     pub group: u16,
     pub item: u16,
-    pub row: u16,
+    pub block: u16,
     pub clause: u16,
     pub clauses: u16,
-    pub rows: u16,
+    pub blocks: u16,
     pub items: u16,
 }
 
-// A clause by its number, with where it stands. Number 0 is before the first clause.
+// A clause by its number, with its coordinates. Number 0 is before the first clause.
 pub struct Place {
     pub number: usize,
-    pub spot: Spot,
+    pub coordinates: Coordinates,
 }
 
 // Before the first of the `count` items of group g.
-fn entered(g: u16, count: u16) -> Spot
-    ensures { λ r. ⌜ r ≡ record { group = g; item = 0; row = 0; clause = 0; clauses = 0; rows = 0; items = count } ⌝ }
+fn group_start(g: u16, count: u16) -> Coordinates
+    ensures { λ r. ⌜ r ≡ record { group = g; item = 0; block = 0; clause = 0; clauses = 0; blocks = 0; items = count } ⌝ }
 {
-    Spot {
+    Coordinates {
         group: g,
         item: 0,
-        row: 0,
+        block: 0,
         clause: 0,
         clauses: 0,
-        rows: 0,
+        blocks: 0,
         items: count,
     }
 }
 
-// Whether no row, item or group follows.
-fn over(c: Spot) -> bool
+// Whether no block, item or group follows.
+fn is_over(c: Coordinates) -> bool
     ensures { λ r. ⌜ r ≡ isOver c ⌝ }
 {
-    if 0 < c.rows {
+    if 0 < c.blocks {
         return false;
     }
     if 0 < c.items {
@@ -58,24 +58,24 @@ fn over(c: Spot) -> bool
     6 < c.group
 }
 
-// Group 2: the next row of the item, an atom, that holds a clause: that of the next rule with this head, or the last row.
-fn head_row(m: u16, heads: &[u16], c: Spot) -> Spot
-    requires { ⌜ (m ≤ 500) × (m ≤ length (now heads)) × (c .row ≤ m) ⌝ }
-    ensures { λ r. ⌜ r ≡ headRow m (now (heads .entry)) c ⌝ }
+// Group 2: the next block of the item, an atom, that holds a clause: that of the next rule with this head, or the last block.
+fn head_block(m: u16, heads: &[u16], c: Coordinates) -> Coordinates
+    requires { ⌜ (m ≤ 500) × (m ≤ length (now heads)) × (c .block ≤ m) ⌝ }
+    ensures { λ r. ⌜ r ≡ headBlock m (now (heads .entry)) c ⌝ }
 {
-    let j = next_head(&heads[..m as usize], Atom(c.item), c.row);
-    Spot {
+    let j = next_head(&heads[..m as usize], Atom(c.item), c.block);
+    Coordinates {
         group: c.group,
         item: c.item,
-        row: j + 1,
+        block: j + 1,
         clause: 0,
         clauses: 1,
-        rows: m - j,
+        blocks: m - j,
         items: c.items,
     }
 }
 
-// The next row of the item, in group 2 the next one that holds a clause, the next item of the group or the next group.
+// The next block of the item, in group 2 the next one that holds a clause, the next item of the group or the next group.
 fn step<'a>(
     t: Totals,
     heads: &'a [u16],
@@ -84,44 +84,44 @@ fn step<'a>(
     before: &'a [u16],
     partners: &'a [u16],
     owners: &'a [u16],
-    c: Spot,
-) -> Spot
+    c: Coordinates,
+) -> Coordinates
     requires { ⌜ (Ready t (now heads) (now starts) (now bodies) (now before) (now partners) (now owners)) × (In (programIn (t .sizes) (now heads) (now starts) (now bodies)) (t .sizes .w) c) × (c .clauses ≡ 0) × (isOver c ≡ false) ⌝ }
     ensures { λ r. ⌜ Onward (programIn (t .sizes) (now (heads .entry)) (now (starts .entry)) (now (bodies .entry))) (t .sizes .w) c r ⌝ }
 {
     let g = c.group;
     let a = c.item;
-    if 0 < c.rows {
+    if 0 < c.blocks {
         if g == 2 {
-            return head_row(t.sizes.m, heads, c);
+            return head_block(t.sizes.m, heads, c);
         }
-        let i = c.row + 1;
-        return Spot {
+        let i = c.block + 1;
+        return Coordinates {
             group: g,
             item: a,
-            row: i,
+            block: i,
             clause: 0,
             clauses: size(t, heads, starts, bodies, before, partners, owners, g, a, i),
-            rows: c.rows - 1,
+            blocks: c.blocks - 1,
             items: c.items,
         };
     }
     if 0 < c.items {
-        return Spot {
+        return Coordinates {
             group: g,
             item: a + 1,
-            row: 0,
+            block: 0,
             clause: 0,
             clauses: 0,
-            rows: rows(t.sizes, g),
+            blocks: block_count(t.sizes, g),
             items: c.items - 1,
         };
     }
-    entered(g + 1, items(t, g + 1))
+    group_start(g + 1, items(t, g + 1))
 }
 
-// The first clause that follows c.
-fn seek<'a>(
+// The coordinates of the first clause that follows c.
+fn next_coordinates<'a>(
     t: Totals,
     heads: &'a [u16],
     starts: &'a [u16],
@@ -129,25 +129,25 @@ fn seek<'a>(
     before: &'a [u16],
     partners: &'a [u16],
     owners: &'a [u16],
-    c: Spot,
-) -> Spot
+    c: Coordinates,
+) -> Coordinates
     requires { ⌜ (Ready t (now heads) (now starts) (now bodies) (now before) (now partners) (now owners)) × (In (programIn (t .sizes) (now heads) (now starts) (now bodies)) (t .sizes .w) c) ⌝ }
     ensures { λ r. ⌜ r ≡ firstOf (ahead (programIn (t .sizes) (now (heads .entry)) (now (starts .entry)) (now (bodies .entry))) (t .sizes .w) c) ⌝ }
 {
     let mut at = c;
     while at.clauses == 0 {
-        if over(at) {
-            return entered(8, 0);
+        if is_over(at) {
+            return group_start(8, 0);
         }
         at = step(t, heads, starts, bodies, before, partners, owners, at);
     }
-    Spot {
+    Coordinates {
         group: at.group,
         item: at.item,
-        row: at.row,
+        block: at.block,
         clause: at.clause + 1,
         clauses: at.clauses - 1,
-        rows: at.rows,
+        blocks: at.blocks,
         items: at.items,
     }
 }
@@ -167,7 +167,7 @@ pub fn start<'a>(
 {
     Place {
         number: 0,
-        spot: entered(1, items(t, 1)),
+        coordinates: group_start(1, items(t, 1)),
     }
 }
 
@@ -187,11 +187,11 @@ pub fn next<'a>(
 {
     Place {
         number: c.number + 1,
-        spot: seek(t, heads, starts, bodies, before, partners, owners, c.spot),
+        coordinates: next_coordinates(t, heads, starts, bodies, before, partners, owners, c.coordinates),
     }
 }
 
-// The place of the last clause of c's row.
+// The place of the last clause of c's block.
 fn last<'a>(
     t: Totals,
     heads: &'a [u16],
@@ -203,25 +203,25 @@ fn last<'a>(
     c: Place,
 ) -> Place
     requires { ⌜ (Ready t (now heads) (now starts) (now bodies) (now before) (now partners) (now owners)) × (c ≡ placeAt (programIn (t .sizes) (now heads) (now starts) (now bodies)) (t .sizes .w) (c .number)) × (c .number ≤ t .clauses) ⌝ }
-    ensures { λ r. ⌜ (r ≡ placeAt (programIn (t .sizes) (now (heads .entry)) (now (starts .entry)) (now (bodies .entry))) (t .sizes .w) (c .number + c .spot .clauses)) × (c .number + c .spot .clauses ≤ t .clauses) × (r .spot .clauses ≡ 0) ⌝ }
+    ensures { λ r. ⌜ (r ≡ placeAt (programIn (t .sizes) (now (heads .entry)) (now (starts .entry)) (now (bodies .entry))) (t .sizes .w) (c .number + c .coordinates .clauses)) × (c .number + c .coordinates .clauses ≤ t .clauses) × (r .coordinates .clauses ≡ 0) ⌝ }
 {
-    let s = c.spot;
+    let s = c.coordinates;
     Place {
         number: c.number + s.clauses as usize,
-        spot: Spot {
+        coordinates: Coordinates {
             group: s.group,
             item: s.item,
-            row: s.row,
+            block: s.block,
             clause: s.clause + s.clauses,
             clauses: 0,
-            rows: s.rows,
+            blocks: s.blocks,
             items: s.items,
         },
     }
 }
 
-// The place of the clause after the last one of c's row.
-pub fn past_row<'a>(
+// The place of the clause after the last one of c's block.
+pub fn past_block<'a>(
     t: Totals,
     heads: &'a [u16],
     starts: &'a [u16],
@@ -232,27 +232,27 @@ pub fn past_row<'a>(
     c: Place,
 ) -> Place
     requires { ⌜ (Ready t (now heads) (now starts) (now bodies) (now before) (now partners) (now owners)) × (c ≡ placeAt (programIn (t .sizes) (now heads) (now starts) (now bodies)) (t .sizes .w) (c .number)) × (c .number ≤ t .clauses) ⌝ }
-    ensures { λ r. ⌜ (r ≡ placeAt (programIn (t .sizes) (now (heads .entry)) (now (starts .entry)) (now (bodies .entry))) (t .sizes .w) (suc (c .number + c .spot .clauses))) × (c .number + c .spot .clauses ≤ t .clauses) ⌝ }
+    ensures { λ r. ⌜ (r ≡ placeAt (programIn (t .sizes) (now (heads .entry)) (now (starts .entry)) (now (bodies .entry))) (t .sizes .w) (suc (c .number + c .coordinates .clauses))) × (c .number + c .coordinates .clauses ≤ t .clauses) ⌝ }
 {
     let end = last(t, heads, starts, bodies, before, partners, owners, c);
     next(t, heads, starts, bodies, before, partners, owners, end)
 }
 
-// The place of the first clause of the next row of c's item, which has k clauses.
-pub fn further_row(c: Place, k: u16) -> Place
-    requires { ⌜ (c .number + c .spot .clauses ≤ 53690) × (c .spot .row + 1 ≤ 501) × (0 < c .spot .rows) × (0 < k) ⌝ }
-    ensures { λ r. ⌜ r ≡ furtherRow c k ⌝ }
+// The place of the first clause of the next block of c's item, which has k clauses.
+pub fn further_block(c: Place, k: u16) -> Place
+    requires { ⌜ (c .number + c .coordinates .clauses ≤ 53690) × (c .coordinates .block + 1 ≤ 501) × (0 < c .coordinates .blocks) × (0 < k) ⌝ }
+    ensures { λ r. ⌜ r ≡ furtherBlock c k ⌝ }
 {
-    let s = c.spot;
+    let s = c.coordinates;
     Place {
         number: c.number + s.clauses as usize + 1,
-        spot: Spot {
+        coordinates: Coordinates {
             group: s.group,
             item: s.item,
-            row: s.row + 1,
+            block: s.block + 1,
             clause: 1,
             clauses: k - 1,
-            rows: s.rows - 1,
+            blocks: s.blocks - 1,
             items: s.items,
         },
     }

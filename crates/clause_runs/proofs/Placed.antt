@@ -72,7 +72,7 @@ module _ {P : Program} {t : Totals} {hs ss bs ks xs ys : List ℕ} (T : Tabled P
   -- ---- at the place of clause n
 
   pub clause-is : {c : Place} → c ≡ placeAt P w (c .number) → 0 < c .number → c .number ≤ t .clauses
-      → lineText (clauseAt P w (c .spot .group) (c .spot .item) (c .spot .row) (c .spot .clause)) ≡ lineOf P (c .number)
+      → lineText (clauseAt P w (c .coordinates .group) (c .coordinates .item) (c .coordinates .block) (c .coordinates .clause)) ≡ lineOf P (c .number)
   clause-is {c} e p h = ap lineText (placed-clause T e p h) ∙ line-of-clause (c .number) p h
 
   -- ---- lengths

@@ -26,7 +26,7 @@ use Rattle.clause_tables.specs.declared.Totals.{Totals}
 use Rattle.clause_tables.specs.Tables.{Tabled}
 use Rattle.clause_places.specs.declared.Place.{Place}
 use Rattle.clause_places.specs.Places.{placeAt}
-use Rattle.clause_runs.specs.declared.Part.{Part}
+use Rattle.clause_runs.specs.declared.RunPart.{RunPart}
 use Rattle.clause_runs.proofs.Placed.{lines-count, line-short, clauses-short}
 use Rattle.clause_places.proofs.Numbers.{own-number, number-is}
 use Rattle.clause_runs.specs.Lines.{linesOf, lineOf, fitting, partIn, runBytesIn}
@@ -40,7 +40,7 @@ joined-append (x ∷ xs) ys = ap (λ (zs : List ℕ). x ++ zs) (joined-append xs
 joined-take : (ls : List (List ℕ)) (k m : ℕ) → joined (take (k + m) ls) ≡ joined (take k ls) ++ joined (take m (drop k ls))
 joined-take ls k m = ap joined (take-add k m ls) ∙ joined-append (take k ls) (take m (drop k ls))
 
--- m lines fit, and those behind them as far as they fit what is left
+-- m lines fit, and those after them as far as they fit what is left
 fitting-some : (ls : List (List ℕ)) (n m : ℕ) → m ≤ length ls → length (joined (take m ls)) ≤ n
     → fitting n ls ≡ m + fitting (n - length (joined (take m ls))) (drop m ls)
 fitting-some ls n zero h f = ap (λ (k : ℕ). fitting k ls) (less n) ∙ sym (zero-add (fitting (n - 0) ls))
@@ -156,7 +156,7 @@ module _ (all : List (List ℕ)) (j : ℕ) (b₀ : List ℕ) where
     pub written-bytes : lines ≡ fitting (length b₀) ls → to ≡ length (joined (take (fitting (length b₀) ls) ls))
     written-bytes e = G .bytes-are ∙ ap (λ (k : ℕ). length (joined (take k ls))) e
 
--- ---- of a program whose tables are at hand, at place `at`
+-- ---- of a program whose tables are given, at place `at`
 
 module _ {P : Program} {t : Totals} {hs ss bs ks xs ys : List ℕ} (T : Tabled P t hs ss bs ks xs ys) (j : ℕ) (b₀ : List ℕ) where
   abbrev w : ℕ
@@ -197,7 +197,7 @@ module _ {P : Program} {t : Totals} {hs ss bs ks xs ys : List ℕ} (T : Tabled P
         line-asks = subst (λ (k : ℕ). length (lineOf P (at .number)) ≤ k) (sym (tail-length b to)) fit
 
       -- some lines are written into the lent tail
-      module _ {q : Part} {l : List ℕ} (u : Taken P w (at .number) q (take (length b - to) (drop to b)) l) where
+      module _ {q : RunPart} {l : List ℕ} (u : Taken P w (at .number) q (take (length b - to) (drop to b)) l) where
         onward : Going (linesOf P) j b₀ (at .number + q .lines) (lines + q .lines) (to + q .bytes) (putMid to (length b - to) b l)
         onward =
             goes-on (linesOf P) j b₀ G (q .lines) (u .listed) (subst (λ (k : ℕ). q .bytes ≤ k) (tail-length b to) (u .in-room)) (u .bytes-are) (u .text-is)
@@ -240,16 +240,16 @@ fitting-room (l ∷ ls) n = go (fitting-room ls (n - length l)) (le-or-lt (lengt
         subst (λ (d : Bool). length (joined (take (cond d (suc (fitting (n - length l) ls)) 0) (l ∷ ls))) ≤ n) (sym (lt-leb (length l) n h)) (omega arith)
 
 module _ {P : Program} {t : Totals} {hs ss bs ks xs ys : List ℕ} (T : Tabled P t hs ss bs ks xs ys) where
-  module _ (j n : ℕ) {q : Part} (e : q ≡ partIn P (t .sizes .w) j n) where
+  module _ (j n : ℕ) {q : RunPart} (e : q ≡ partIn P (t .sizes .w) j n) where
     pub part-bytes : q .bytes ≤ n
-    part-bytes = subst (λ (x : Part). x .bytes ≤ n) (sym e) (fitting-room (drop j (linesOf P)) n)
+    part-bytes = subst (λ (x : RunPart). x .bytes ≤ n) (sym e) (fitting-room (drop j (linesOf P)) n)
 
     module _ (h : j ≤ t .clauses) where
       number-then : q .place .number ≡ j + fitting n (drop j (linesOf P))
-      number-then = ap (λ (x : Part). x .place .number) e
+      number-then = ap (λ (x : RunPart). x .place .number) e
 
       pub part-place : q .place ≡ placeAt P (t .sizes .w) (q .place .number)
-      part-place = own-number T (ap (λ (x : Part). x .place) e)
+      part-place = own-number T (ap (λ (x : RunPart). x .place) e)
 
       pub part-within : q .place .number ≤ suc (t .clauses)
       part-within =

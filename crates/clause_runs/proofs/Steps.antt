@@ -1,7 +1,7 @@
--- One line, and the lines of a whole row, written at the front of a buffer.
+-- One line, and the lines of a whole block, written at the front of a buffer.
 --   one-taken     one line
---   row-asks      what is asked at the first clause of a row
---   row-taken     the lines of a row
+--   block-asks    what is asked at the first clause of a block
+--   block-taken   the lines of a block
 -- Assumes nothing.
 use Prim.Native.Nat.{ℕ, zero, suc, pred, _+_, _≤_, _<_}
 use native.Mathlib.Nat.{le-trans}
@@ -15,16 +15,16 @@ use Rattle.lists.specs.Lists.{each, joined}
 use Rattle.lists.proofs.Tables.{each-ext}
 use Rattle.meaning.specs.Program.{Program}
 use Rattle.digits.specs.Bytes.{lineText}
-use Rattle.clause_walk.specs.Walk.{size, clauseAt, RowAt}
+use Rattle.clause_walk.specs.Walk.{size, clauseAt, BlockAt}
 use Rattle.clause_tables.specs.declared.Totals.{Totals}
 use Rattle.clause_tables.specs.Tables.{Tabled}
-use Rattle.clause_places.specs.declared.Spot.{Spot}
+use Rattle.clause_places.specs.declared.Coordinates.{Coordinates}
 use Rattle.clause_places.specs.declared.Place.{Place}
 use Rattle.clause_places.specs.Places.{placeAt}
 use Rattle.clause_places.proofs.Numbers.{placed-at}
-use Rattle.clause_places.proofs.RowPlaces.{along, place-some, row-size}
-use Rattle.clause_text.specs.Rows.{isRowed, rowText}
-use Rattle.clause_blocks.proofs.RowTexts.{row-short}
+use Rattle.clause_places.proofs.BlockPlaces.{along, place-some, block-size}
+use Rattle.clause_text.specs.Blocks.{isBlockwise, blockText}
+use Rattle.clause_blocks.proofs.BlockTexts.{block-short}
 use Rattle.clause_runs.specs.Lines.{linesOf, lineOf}
 use Rattle.clause_runs.specs.Taken.{Taken}
 use Rattle.clause_runs.proofs.Placed.{lines-count, clause-is}
@@ -64,53 +64,53 @@ module _ {P : Program} {t : Totals} {hs ss bs ks xs ys : List ℕ} (T : Tabled P
       more : (n : ℕ) → suc n ≡ n + 1
       more n = omega arith
 
-  -- ---- the lines of the row that begins at c
+  -- ---- the lines of the block that begins at c
 
-  module _ (z : c .spot .clause ≡ 1) where
+  module _ (z : c .coordinates .clause ≡ 1) where
     some : 0 < c .number
     some = place-some T e h (omega (arith, z))
 
-    size-is : c .spot .clauses + 1 ≡ size P w (c .spot .group) (c .spot .item) (c .spot .row)
-    size-is = omega (arith, z, row-size T e h some)
+    size-is : c .coordinates .clauses + 1 ≡ size P w (c .coordinates .group) (c .coordinates .item) (c .coordinates .block)
+    size-is = omega (arith, z, block-size T e h some)
 
-    pub row-asks : isRowed (c .spot .group) ≡ true → {n : ℕ} → 3008 ≤ n
-        → (Tabled P t hs ss bs ks xs ys) × (RowAt P w (c .spot .group) (c .spot .item) (c .spot .row)) × (isRowed (c .spot .group) ≡ true)
-        × (length (rowText P w (c .spot .group) (c .spot .item) (c .spot .row)) ≤ n)
-    row-asks r f = (T, placed-at T e some h .row-at, r, le-trans (row-short T (placed-at T e some h .row-at) r) f)
+    pub block-asks : isBlockwise (c .coordinates .group) ≡ true → {n : ℕ} → 3008 ≤ n
+        → (Tabled P t hs ss bs ks xs ys) × (BlockAt P w (c .coordinates .group) (c .coordinates .item) (c .coordinates .block)) × (isBlockwise (c .coordinates .group) ≡ true)
+        × (length (blockText P w (c .coordinates .group) (c .coordinates .item) (c .coordinates .block)) ≤ n)
+    block-asks r f = (T, placed-at T e some h .block-at, r, le-trans (block-short T (placed-at T e some h .block-at) r) f)
 
-    -- line by line, as far as the row goes
-    line-at : (y : ℕ) → y ≤ c .spot .clauses → getD (linesOf P) (c .number + y) [] ≡ lineText (clauseAt P w (c .spot .group) (c .spot .item) (c .spot .row) (suc y))
+    -- line by line, as far as the block goes
+    line-at : (y : ℕ) → y ≤ c .coordinates .clauses → getD (linesOf P) (c .number + y) [] ≡ lineText (clauseAt P w (c .coordinates .group) (c .coordinates .item) (c .coordinates .block) (suc y))
     line-at y q =
         sym (clause-is T {c = placeAt P w (c .number + y)} refl (omega (arith, some)) (along T e h y q .listed))
-        ∙ ap (λ (d : Spot). lineText (clauseAt P w (d .group) (d .item) (d .row) (d .clause))) (along T e h y q .stands)
-        ∙ ap (λ (n : ℕ). lineText (clauseAt P w (c .spot .group) (c .spot .item) (c .spot .row) n)) (from-one y z)
+        ∙ ap (λ (d : Coordinates). lineText (clauseAt P w (d .group) (d .item) (d .block) (d .clause))) (along T e h y q .stands)
+        ∙ ap (λ (n : ℕ). lineText (clauseAt P w (c .coordinates .group) (c .coordinates .item) (c .coordinates .block) n)) (from-one y z)
       where
         from-one : (y : ℕ) {n : ℕ} → n ≡ 1 → n + y ≡ suc y
         from-one y q = omega (arith, q)
 
-    module _ (l : c .number + c .spot .clauses ≤ t .clauses) where
-      listed : c .number + (c .spot .clauses + 1) ≤ length (linesOf P)
+    module _ (l : c .number + c .coordinates .clauses ≤ t .clauses) where
+      listed : c .number + (c .coordinates .clauses + 1) ≤ length (linesOf P)
       listed = omega (arith, l, lines-count T)
 
-      row-lines : joined (take (c .spot .clauses + 1) (drop (c .number) (linesOf P))) ≡ rowText P w (c .spot .group) (c .spot .item) (c .spot .row)
-      row-lines =
-          lines-each (linesOf P) (c .number) (c .spot .clauses + 1) listed
-          ∙ each-ext (c .spot .clauses + 1) (λ y. getD (linesOf P) (c .number + pred y) []) (λ y. lineText (clauseAt P w (c .spot .group) (c .spot .item) (c .spot .row) y))
+      block-lines : joined (take (c .coordinates .clauses + 1) (drop (c .number) (linesOf P))) ≡ blockText P w (c .coordinates .group) (c .coordinates .item) (c .coordinates .block)
+      block-lines =
+          lines-each (linesOf P) (c .number) (c .coordinates .clauses + 1) listed
+          ∙ each-ext (c .coordinates .clauses + 1) (λ y. getD (linesOf P) (c .number + pred y) []) (λ y. lineText (clauseAt P w (c .coordinates .group) (c .coordinates .item) (c .coordinates .block) y))
           (λ y q. line-at y (omega (arith, q)))
-          ∙ ap (λ (n : ℕ). each n (λ y. lineText (clauseAt P w (c .spot .group) (c .spot .item) (c .spot .row) y))) size-is
+          ∙ ap (λ (n : ℕ). each n (λ y. lineText (clauseAt P w (c .coordinates .group) (c .coordinates .item) (c .coordinates .block) y))) size-is
 
-      pub row-taken : (b : List ℕ) {r : ℕ} {x : List ℕ} {f : Place} → isRowed (c .spot .group) ≡ true → 3008 ≤ length b
-          → (r ≡ length (rowText P w (c .spot .group) (c .spot .item) (c .spot .row))) × (x ≡ rowText P w (c .spot .group) (c .spot .item) (c .spot .row) ++ drop r b)
-          → f ≡ placeAt P w (suc (c .number + c .spot .clauses))
-          → Taken P w (c .number) (record { lines = c .spot .clauses + 1; bytes = r; place = f }) b x
-      row-taken b {r} {x} {f} g k u q =
+      pub block-taken : (b : List ℕ) {r : ℕ} {x : List ℕ} {f : Place} → isBlockwise (c .coordinates .group) ≡ true → 3008 ≤ length b
+          → (r ≡ length (blockText P w (c .coordinates .group) (c .coordinates .item) (c .coordinates .block))) × (x ≡ blockText P w (c .coordinates .group) (c .coordinates .item) (c .coordinates .block) ++ drop r b)
+          → f ≡ placeAt P w (suc (c .number + c .coordinates .clauses))
+          → Taken P w (c .number) (record { lines = c .coordinates .clauses + 1; bytes = r; place = f }) b x
+      block-taken b {r} {x} {f} g k u q =
           record {
             some = omega arith;
             listed = listed;
-            in-room = omega (arith, u .0, row-asks g k .3);
-            bytes-are = u .0 ∙ sym (ap length row-lines);
-            text-is = u .1 ∙ ap (λ (y : List ℕ). y ++ drop r b) (sym row-lines);
-            place-is = q ∙ ap (placeAt P w) (more (c .number) (c .spot .clauses));
+            in-room = omega (arith, u .0, block-asks g k .3);
+            bytes-are = u .0 ∙ sym (ap length block-lines);
+            text-is = u .1 ∙ ap (λ (y : List ℕ). y ++ drop r b) (sym block-lines);
+            place-is = q ∙ ap (placeAt P w) (more (c .number) (c .coordinates .clauses));
           }
         where
           more : (m k : ℕ) → suc (m + k) ≡ m + (k + 1)

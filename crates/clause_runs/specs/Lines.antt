@@ -19,7 +19,7 @@ use Rattle.encoding.specs.Clauses.{clauses, variables, clauseCount}
 use Rattle.digits.specs.Bytes.{lineText}
 use Rattle.clause_text.specs.Lines.{headerText}
 use Rattle.clause_places.specs.Places.{placeAt}
-use Rattle.clause_runs.specs.declared.Part.{Part}
+use Rattle.clause_runs.specs.declared.RunPart.{RunPart}
 
 abbrev pub clauseTotal : Program → ℕ
 clauseTotal P = clauseCount P (width (P .atoms))
@@ -42,6 +42,6 @@ abbrev pub runBytesIn : Program → ℕ → List ℕ → List ℕ
 runBytesIn P j b = joined (runIn P j (length b)) ++ drop (length (joined (runIn P j (length b)))) b
 
 -- as far as it fits n bytes, with the place of the line after it
-abbrev pub partIn : Program → ℕ → ℕ → ℕ → Part
+abbrev pub partIn : Program → ℕ → ℕ → ℕ → RunPart
 partIn P w j n =
     record { lines = fitting n (drop j (linesOf P)); bytes = length (joined (runIn P j n)); place = placeAt P w (j + fitting n (drop j (linesOf P))) }

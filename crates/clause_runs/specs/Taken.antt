@@ -8,10 +8,10 @@ use lib.ListN.{length, take, drop}
 use Rattle.lists.specs.Lists.{joined}
 use Rattle.meaning.specs.Program.{Program}
 use Rattle.clause_places.specs.Places.{placeAt}
-use Rattle.clause_runs.specs.declared.Part.{Part}
+use Rattle.clause_runs.specs.declared.RunPart.{RunPart}
 use Rattle.clause_runs.specs.Lines.{linesOf}
 
-pub record Taken (P : Program) (w n : ℕ) (r : Part) (b c : List ℕ) : Type 0 where
+pub record Taken (P : Program) (w n : ℕ) (r : RunPart) (b c : List ℕ) : Type 0 where
   pub some : 0 < r .lines
   pub listed : n + r .lines ≤ length (linesOf P)
   pub in-room : r .bytes ≤ length b

@@ -1,14 +1,14 @@
 // The lines of the clause file from a place on, into a lent buffer (document 01, "Clauses, in order").
-use clause_blocks::put_row;
+use clause_blocks::put_block;
 use clause_layout::size;
 use clause_places::Place;
-use clause_places::further_row;
+use clause_places::further_block;
 use clause_places::next;
-use clause_places::past_row;
+use clause_places::past_block;
 use clause_tables::Totals;
 use clause_text::clause_length;
 use clause_text::header_length;
-use clause_text::is_rowed;
+use clause_text::is_blockwise;
 use clause_text::put_clause;
 use clause_text::put_header;
 ghost use Prim.Native.Nat.{suc, _+_, _≤_};
@@ -19,12 +19,12 @@ ghost use lib.Dec.{leb};
 ghost use lib.ListN.{length, drop};
 ghost use Rattle.clause_tables.specs.Tables.{programIn, Ready};
 ghost use Rattle.clause_places.specs.Places.{placeAt};
-ghost use Rattle.clause_text.specs.Rows.{isRowed};
+ghost use Rattle.clause_text.specs.Blocks.{isBlockwise};
 ghost use Rattle.clause_runs.specs.Lines.{lineOf, partIn, runBytesIn};
 ghost use Rattle.clause_runs.specs.Taken.{Taken};
 
 // A run of lines as far as it fits: how many lines, their bytes, and the place of the line after them.
-pub struct Part {
+pub struct RunPart {
     pub lines: usize,
     pub bytes: usize,
     pub place: Place,
@@ -47,7 +47,7 @@ pub fn line_length<'a>(
     if c.number == 0 {
         return header_length(t.vars, t.clauses);
     }
-    let s = c.spot;
+    let s = c.coordinates;
     clause_length(
         t,
         heads,
@@ -58,12 +58,12 @@ pub fn line_length<'a>(
         owners,
         s.group,
         s.item,
-        s.row,
+        s.block,
         s.clause,
     )
 }
 
-// Writes that line at the front of the buffer and returns its length.
+// Writes the line at place c at the front of the buffer and returns its length.
 pub fn put_line<'a>(
     t: Totals,
     heads: &'a [u16],
@@ -81,7 +81,7 @@ pub fn put_line<'a>(
     if c.number == 0 {
         return put_header(t.vars, t.clauses, &mut *buf);
     }
-    let s = c.spot;
+    let s = c.coordinates;
     put_clause(
         t,
         heads,
@@ -92,13 +92,13 @@ pub fn put_line<'a>(
         owners,
         s.group,
         s.item,
-        s.row,
+        s.block,
         s.clause,
         &mut *buf,
     )
 }
 
-// Whether that line fits `room` bytes. No line passes 3,008 bytes.
+// Whether the line at place c fits `room` bytes. No line has more than 3,008 bytes.
 fn fits<'a>(
     t: Totals,
     heads: &'a [u16],
@@ -119,8 +119,8 @@ fn fits<'a>(
     line_length(t, heads, starts, bodies, before, partners, owners, c) <= room
 }
 
-// The place of the clause after the last one of c's row, by `past_row` only where the item has no further row.
-fn behind<'a>(
+// The place of the clause after the last one of c's block, by `past_block` only where the item has no further block.
+fn after_block<'a>(
     t: Totals,
     heads: &'a [u16],
     starts: &'a [u16],
@@ -131,10 +131,10 @@ fn behind<'a>(
     c: Place,
 ) -> Place
     requires { ⌜ (Ready t (now heads) (now starts) (now bodies) (now before) (now partners) (now owners)) × (c ≡ placeAt (programIn (t .sizes) (now heads) (now starts) (now bodies)) (t .sizes .w) (c .number)) × (c .number ≤ t .clauses) ⌝ }
-    ensures { λ r. ⌜ (r ≡ placeAt (programIn (t .sizes) (now (heads .entry)) (now (starts .entry)) (now (bodies .entry))) (t .sizes .w) (suc (c .number + c .spot .clauses))) × (c .number + c .spot .clauses ≤ t .clauses) ⌝ }
+    ensures { λ r. ⌜ (r ≡ placeAt (programIn (t .sizes) (now (heads .entry)) (now (starts .entry)) (now (bodies .entry))) (t .sizes .w) (suc (c .number + c .coordinates .clauses))) × (c .number + c .coordinates .clauses ≤ t .clauses) ⌝ }
 {
-    let s = c.spot;
-    if 0 < s.rows {
+    let s = c.coordinates;
+    if 0 < s.blocks {
         let k = size(
             t,
             heads,
@@ -145,17 +145,17 @@ fn behind<'a>(
             owners,
             s.group,
             s.item,
-            s.row + 1,
+            s.block + 1,
         );
         if 0 < k {
-            return further_row(c, k);
+            return further_block(c, k);
         }
     }
-    past_row(t, heads, starts, bodies, before, partners, owners, c)
+    past_block(t, heads, starts, bodies, before, partners, owners, c)
 }
 
-// Writes the lines of the row of groups 4 and 5 that begins at place c.
-fn put_whole_row<'a>(
+// Writes the lines of the block of groups 4 and 5 that begins at place c.
+fn put_whole_block<'a>(
     t: Totals,
     heads: &'a [u16],
     starts: &'a [u16],
@@ -165,12 +165,12 @@ fn put_whole_row<'a>(
     owners: &'a [u16],
     c: Place,
     buf: &mut [u8],
-) -> Part
-    requires { ⌜ (Ready t (now heads) (now starts) (now bodies) (now before) (now partners) (now owners)) × (c ≡ placeAt (programIn (t .sizes) (now heads) (now starts) (now bodies)) (t .sizes .w) (c .number)) × (c .number ≤ t .clauses) × (isRowed (c .spot .group) ≡ true) × (c .spot .clause ≡ 1) × (3008 ≤ length (now buf)) ⌝ }
+) -> RunPart
+    requires { ⌜ (Ready t (now heads) (now starts) (now bodies) (now before) (now partners) (now owners)) × (c ≡ placeAt (programIn (t .sizes) (now heads) (now starts) (now bodies)) (t .sizes .w) (c .number)) × (c .number ≤ t .clauses) × (isBlockwise (c .coordinates .group) ≡ true) × (c .coordinates .clause ≡ 1) × (3008 ≤ length (now buf)) ⌝ }
     ensures { λ r. ⌜ Taken (programIn (t .sizes) (now (heads .entry)) (now (starts .entry)) (now (bodies .entry))) (t .sizes .w) (c .number) r (now (buf .entry)) (now (buf .exit)) ⌝ }
 {
-    let s = c.spot;
-    let bytes = put_row(
+    let s = c.coordinates;
+    let bytes = put_block(
         t,
         heads,
         starts,
@@ -180,13 +180,13 @@ fn put_whole_row<'a>(
         owners,
         s.group,
         s.item,
-        s.row,
+        s.block,
         &mut *buf,
     );
-    Part {
+    RunPart {
         lines: s.clauses as usize + 1,
         bytes: bytes,
-        place: behind(t, heads, starts, bodies, before, partners, owners, c),
+        place: after_block(t, heads, starts, bodies, before, partners, owners, c),
     }
 }
 
@@ -201,7 +201,7 @@ fn put_one<'a>(
     owners: &'a [u16],
     c: Place,
     buf: &mut [u8],
-) -> Part
+) -> RunPart
     requires { ⌜ (Ready t (now heads) (now starts) (now bodies) (now before) (now partners) (now owners)) × (c ≡ placeAt (programIn (t .sizes) (now heads) (now starts) (now bodies)) (t .sizes .w) (c .number)) × (c .number ≤ t .clauses) × (length (lineOf (programIn (t .sizes) (now heads) (now starts) (now bodies)) (c .number)) ≤ length (now buf)) ⌝ }
     ensures { λ r. ⌜ Taken (programIn (t .sizes) (now (heads .entry)) (now (starts .entry)) (now (bodies .entry))) (t .sizes .w) (c .number) r (now (buf .entry)) (now (buf .exit)) ⌝ }
 {
@@ -216,14 +216,14 @@ fn put_one<'a>(
         c,
         &mut *buf,
     );
-    Part {
+    RunPart {
         lines: 1,
         bytes: bytes,
         place: next(t, heads, starts, bodies, before, partners, owners, c),
     }
 }
 
-// Writes the line at place c, which fits, or the lines of the whole row that begins there.
+// Writes the line at place c, which fits, or the lines of the whole block that begins there.
 fn put_some<'a>(
     t: Totals,
     heads: &'a [u16],
@@ -234,14 +234,14 @@ fn put_some<'a>(
     owners: &'a [u16],
     c: Place,
     buf: &mut [u8],
-) -> Part
+) -> RunPart
     requires { ⌜ (Ready t (now heads) (now starts) (now bodies) (now before) (now partners) (now owners)) × (c ≡ placeAt (programIn (t .sizes) (now heads) (now starts) (now bodies)) (t .sizes .w) (c .number)) × (c .number ≤ t .clauses) × (length (lineOf (programIn (t .sizes) (now heads) (now starts) (now bodies)) (c .number)) ≤ length (now buf)) ⌝ }
     ensures { λ r. ⌜ Taken (programIn (t .sizes) (now (heads .entry)) (now (starts .entry)) (now (bodies .entry))) (t .sizes .w) (c .number) r (now (buf .entry)) (now (buf .exit)) ⌝ }
 {
     if 3008 <= buf.len() {
-        if c.spot.clause == 1 {
-            if is_rowed(c.spot.group) {
-                return put_whole_row(
+        if c.coordinates.clause == 1 {
+            if is_blockwise(c.coordinates.group) {
+                return put_whole_block(
                     t,
                     heads,
                     starts,
@@ -279,7 +279,7 @@ pub fn put_lines<'a>(
     owners: &'a [u16],
     c: Place,
     buf: &mut [u8],
-) -> Part
+) -> RunPart
     requires { ⌜ (Ready t (now heads) (now starts) (now bodies) (now before) (now partners) (now owners)) × (c ≡ placeAt (programIn (t .sizes) (now heads) (now starts) (now bodies)) (t .sizes .w) (c .number)) × (c .number ≤ suc (t .clauses)) ⌝ }
     ensures { λ r. ⌜ (r ≡ partIn (programIn (t .sizes) (now (heads .entry)) (now (starts .entry)) (now (bodies .entry))) (t .sizes .w) (c .number) (length (now (buf .entry)))) × (now (buf .exit) ≡ runBytesIn (programIn (t .sizes) (now (heads .entry)) (now (starts .entry)) (now (bodies .entry))) (c .number) (now (buf .entry))) ⌝ }
 {
@@ -298,7 +298,7 @@ pub fn put_lines<'a>(
             at,
             buf.len() - to,
         ) {
-            return Part {
+            return RunPart {
                 lines: lines,
                 bytes: to,
                 place: at,
@@ -319,7 +319,7 @@ pub fn put_lines<'a>(
         lines += part.lines;
         at = part.place;
     }
-    Part {
+    RunPart {
         lines: lines,
         bytes: to,
         place: at,

@@ -1,6 +1,6 @@
--- The slots of group 5, from the variables of the row's bit.
---   with-first, with-second   the variables of a row of the first chain, and of the second, as code computes them
---   chain-slot-is, by-chain   a slot of the row is that of the bit with these variables
+-- The slots of group 5, from the variables of the block's bit.
+--   with-first, with-second   the variables of a block of the first chain, and of the second, as code computes them
+--   chain-slot-is, by-chain   a slot of the block is that of the bit with these variables
 -- Assumes nothing.
 use Prim.Native.Nat.{ℕ, pred, _-_, _≤_, _<_}
 use mathlib.Core.Path.{_≡_, refl, sym, _∙_, ap, ap₂}
@@ -15,9 +15,9 @@ use Rattle.clause_slots.specs.declared.Chain.{Chain}
 use Rattle.clause_slots.specs.Chain.{chainWith, chainOf}
 
 module _ (S : Sizes) (k b h i : ℕ) where
-  -- the variables of a row of the first chain where d holds, else of the second
-  abbrev rowOf : Bool → Chain
-  rowOf d =
+  -- the variables of a block of the first chain where d holds, else of the second
+  abbrev blockOf : Bool → Chain
+  blockOf d =
       cond d (chainWith (belowVar S k i) (levelVar S b i) (levelVar S h i) (belowVar S k (pred i)))
       (chainWith (nextBelowVar S k (i - S .w)) (nextVar S b (i - S .w)) (levelVar S h (i - S .w)) (nextBelowVar S k (pred (i - S .w))))
 
@@ -25,18 +25,18 @@ module _ (S : Sizes) (k b h i : ℕ) where
       → record { z = z; x = x; y = y; g = g } ≡ chainOf S k b h i
   with-first l p q r s =
       (λ t. chainWith (p t) (q t) (r t) ((s ∙ ap (belowVar S k) (one-before i)) t))
-      ∙ sym (ap rowOf (le-leb i (S .w) l))
+      ∙ sym (ap blockOf (le-leb i (S .w) l))
 
   pub with-second : S .w < i → {z x y g : Var} → z .0 ≡ nextBelowVar S k (i - S .w) → x .0 ≡ nextVar S b (i - S .w) → y .0 ≡ levelVar S h (i - S .w)
       → g .0 ≡ nextBelowVar S k (i - S .w - 1) → record { z = z; x = x; y = y; g = g } ≡ chainOf S k b h i
   with-second l p q r s =
       (λ t. chainWith (p t) (q t) (r t) ((s ∙ ap (nextBelowVar S k) (one-before (i - S .w))) t))
-      ∙ sym (ap rowOf (lt-leb i (S .w) l))
+      ∙ sym (ap blockOf (lt-leb i (S .w) l))
 
   pub chain-slot-is : (y l : ℕ) → chainSlot (chainOf S k b h i .z .0) (chainOf S k b h i .x .0) (chainOf S k b h i .y .0) (chainOf S k b h i .g .0) (chainBit (S .w) i) y l ≡ slot5 S k b h i y l
   chain-slot-is y l = go (leb i (S .w))
     where
-      go : (d : Bool) → chainSlot (rowOf d .z .0) (rowOf d .x .0) (rowOf d .y .0) (rowOf d .g .0) (cond d i (i - S .w)) y l
+      go : (d : Bool) → chainSlot (blockOf d .z .0) (blockOf d .x .0) (blockOf d .y .0) (blockOf d .g .0) (cond d i (i - S .w)) y l
           ≡ cond d (chainSlot (belowVar S k i) (levelVar S b i) (levelVar S h i) (belowVar S k (pred i)) i y l)
           (chainSlot (nextBelowVar S k (i - S .w)) (nextVar S b (i - S .w)) (levelVar S h (i - S .w)) (nextBelowVar S k (pred (i - S .w))) (i - S .w) y l)
       go true = refl

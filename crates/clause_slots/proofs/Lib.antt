@@ -8,7 +8,7 @@ pub mod Founds
 pub mod Body
 -- Heads: the slots of an atom's last clause
 pub mod Heads
--- Counts: sizes of rows, and numbers of slots
+-- Counts: sizes of blocks, and numbers of slots
 pub mod Counts
 -- Chains: the slots of group 5
 pub mod Chains

@@ -1,5 +1,5 @@
 -- The variables of a chain's bit (document 01, group 5).
---   chainOf S k b h i    those of row i of pair k, of body atom b and head h: rows 1 to w are the first chain's bits, w + 1 to 2w the second's
+--   chainOf S k b h i    those of block i of pair k, of body atom b and head h: blocks 1 to w are the first chain's bits, w + 1 to 2w the second's
 -- Assumes nothing.
 use Prim.Native.Nat.{ℕ, pred, _-_}
 use mathlib.Core.Bool.{cond}

@@ -1,6 +1,6 @@
 -- A variable with its sign.
---   literalIn x    the literal
---   held ls        the literal of a slot, if it has one
+--   literalIn x      the literal
+--   slotLiteral ls   the literal of a slot, if it has one
 -- Assumes nothing.
 use mathlib.Core.List.{List, [], _∷_}
 use Rattle.encoding.specs.Literal.{Literal, −_}
@@ -11,6 +11,6 @@ abbrev pub literalIn : Signed → Literal
 literalIn x = signed (x .positive) (x .var .0)
 
 -- the literal of a slot, and the negated variable 0 where it has none
-abbrev pub held : List Literal → Literal
-held [] = − 0
-held (l ∷ ls) = l
+abbrev pub slotLiteral : List Literal → Literal
+slotLiteral [] = − 0
+slotLiteral (l ∷ ls) = l

@@ -21,7 +21,7 @@ ghost use Rattle.clause_literals.specs.Sizes.{sizesOf, Bounded};
 ghost use Rattle.clause_walk.specs.Walk.{signed, chainFirst, chainNext, chainSlot, slot3, slots4, slot4, chainSize, chainSlots, chainBit, slot5, size6, slots6, slot6};
 ghost use Rattle.clause_walk.specs.Walk.{atomAt, slots1, slot1, impliedSlot, ofHead};
 ghost use Rattle.clause_walk.specs.Walk.{two as twoOf, three as threeOf};
-ghost use Rattle.clause_slots.specs.Signed.{literalIn, held};
+ghost use Rattle.clause_slots.specs.Signed.{literalIn, slotLiteral};
 ghost use Rattle.clause_slots.specs.Chain.{chainOf};
 
 // A variable and whether it stands positive.
@@ -130,7 +130,7 @@ pub fn zero_slot(s: Sizes, a: Atom, y: u16, l: u16) -> Signed
     two(yes(atom_var(a)), no(level_var(s, a, y)), l)
 }
 
-// Group 4, atom a: slot l of clause y of row i.
+// Group 4, atom a: slot l of clause y of block i.
 pub fn next_slot(s: Sizes, a: Atom, i: u16, y: u16, l: u16) -> Signed
     requires { ⌜ (Bounded s) × (0 < a .0) × (a .0 ≤ 126) × (i ≤ 7) × (0 < y) × (y ≤ 14) × (l ≤ 8) ⌝ }
     ensures { λ r. ⌜ literalIn r ≡ slot4 (sizesOf s) (a .0) i y l ⌝ }
@@ -164,7 +164,7 @@ pub struct Chain {
     pub g: Var,
 }
 
-// Group 5, pair k of body atom b and head h: the chain's bit of row i.
+// Group 5, pair k of body atom b and head h: the chain's bit of block i.
 pub fn chain_of(s: Sizes, k: u16, b: Atom, h: Atom, i: u16) -> Chain
     requires { ⌜ (Bounded s) × (0 < k) × (k ≤ 500) × (0 < b .0) × (b .0 ≤ 126) × (0 < h .0) × (h .0 ≤ 126) × (0 < i) × (i ≤ s .w + s .w) ⌝ }
     ensures { λ r. ⌜ r ≡ chainOf (sizesOf s) k (b .0) (h .0) i ⌝ }
@@ -194,7 +194,7 @@ pub fn chain_literal(c: Chain, i: u16, y: u16, l: u16) -> Signed
     chain_slot(c.z, c.x, c.y, c.g, i, y, l)
 }
 
-// Slot l of clause y of row i.
+// Group 5, pair k of body atom b and head h: slot l of clause y of block i.
 pub fn pair_slot(s: Sizes, k: u16, b: Atom, h: Atom, i: u16, y: u16, l: u16) -> Signed
     requires { ⌜ (Bounded s) × (0 < k) × (k ≤ 500) × (0 < b .0) × (b .0 ≤ 126) × (0 < h .0) × (h .0 ≤ 126) × (0 < i) × (i ≤ s .w + s .w) ⌝ }
     ensures { λ r. ⌜ literalIn r ≡ slot5 (sizesOf s) k (b .0) (h .0) i y l ⌝ }
@@ -217,7 +217,7 @@ fn founded_slot(s: Sizes, r: Rule, k: u16, l: u16) -> Signed
     no(below_var(s, k + (l - 2), s.w))
 }
 
-// Slot l of its last clause, where r has pairs.
+// Group 6, rule r with pairs: slot l of its last clause, where k pairs stand before those of r.
 fn lowest_slot(s: Sizes, r: Rule, k: u16, l: u16) -> Signed
     requires { ⌜ (Bounded s) × (r .0 ≤ 500) × (0 < l) × (k + l ≤ 501) ⌝ }
     ensures { λ x. ⌜ literalIn x ≡ twoOf (− bodyVar (sizesOf s) (r .0)) (− nextBelowVar (sizesOf s) (k + pred l) (s .w)) l ⌝ }
@@ -228,7 +228,7 @@ fn lowest_slot(s: Sizes, r: Rule, k: u16, l: u16) -> Signed
     no(next_below_var(s, k + (l - 1), s.w))
 }
 
-// Group 6, rule r with head h and b pairs behind k others: slot l of clause y.
+// Group 6, rule r with head h and b pairs after k others: slot l of clause y.
 pub fn rule_slot(s: Sizes, r: Rule, h: Atom, k: u16, b: u16, y: u16, l: u16) -> Signed
     requires { ⌜ (Bounded s) × (r .0 ≤ 500) × (0 < h .0) × (h .0 ≤ 126) × (k + b ≤ 500) × (0 < y) × (y ≤ size6 (s .w) b) × (0 < l) × (l ≤ slots6 b y) ⌝ }
     ensures { λ x. ⌜ literalIn x ≡ slot6 (sizesOf s) (r .0) (h .0) k b y l ⌝ }
@@ -295,7 +295,7 @@ pub fn implied_slot(s: Sizes, a: Atom, r: Rule, l: u16) -> Signed
 // Where the slot has no literal it gives the negated variable 0, which is none.
 pub fn head_slot(heads: &[u16], a: Atom, base: u16, l: u16) -> Signed
     requires { ⌜ (base ≤ 626) × (length (now heads) ≤ 500) × (0 < l) × (l ≤ length (now heads) + 1) ⌝ }
-    ensures { λ x. ⌜ literalIn x ≡ held (ofHead (now (heads .entry)) (a .0) (λ r. base + r) l) ⌝ }
+    ensures { λ x. ⌜ literalIn x ≡ slotLiteral (ofHead (now (heads .entry)) (a .0) (λ r. base + r) l) ⌝ }
 {
     if l == 1 {
         return no(atom_var(a));
@@ -318,7 +318,7 @@ pub fn body_slots(b: u16, y: u16) -> u16
     b + 1
 }
 
-// Group 4: how many slots clause y of row i has.
+// Group 4: how many slots clause y of block i has.
 pub fn next_slots(i: u16, y: u16) -> u16
     requires { ⌜ (i ≤ 7) × (0 < y) ⌝ }
     ensures { λ r. ⌜ r ≡ slots4 i y ⌝ }
@@ -329,7 +329,7 @@ pub fn next_slots(i: u16, y: u16) -> u16
     i + 1
 }
 
-// Group 5: the bit of row i, how many clauses a bit has, and how many slots its clause c has.
+// Group 5: the bit of block i, how many clauses a bit has, and how many slots its clause c has.
 pub fn chain_bit(w: u16, i: u16) -> u16
     ensures { λ r. ⌜ r ≡ chainBit w i ⌝ }
 {

@@ -1,14 +1,14 @@
 -- The bounds of all numbers and lines of a program within the limits (Limits P), with w its width.
---   variables-fit, clauses-fit        at most 9,890 variables and 53,690 clauses
---   bodies-are                        the body atoms of all rules, counted
---   positives-fit                     a rule has at most 126 positive body atoms
---   items-fit, rows-fit, size-fits    at most 500 items, 501 rows and 503 clauses in a row
---   slots-fit, clause-short           a clause of the walk has at most 501 slots, and at most 501 literals
---   slot-short                        a slot holds at most one literal
---   clause-in, slot-in                each literal of a clause, and of a slot, is of a variable from 1 to V
---   literal-in                        a slot is empty, or holds one literal, of a variable from 1 to 9,890 (Slotted)
---   none-iff                          a slot that holds variable 0 is empty
---   line-fits, lines-fit              the line of a clause of the walk, and of any clause, has at most 3,008 bytes
+--   variables-fit, clauses-fit         at most 9,890 variables and 53,690 clauses
+--   bodies-are                         the body atoms of all rules, counted
+--   positives-fit                      a rule has at most 126 positive body atoms
+--   items-fit, blocks-fit, size-fits   at most 500 items, 501 blocks and 503 clauses in a block
+--   slots-fit, clause-short            a clause of the walk has at most 501 slots, and at most 501 literals
+--   slot-short                         a slot holds at most one literal
+--   clause-in, slot-in                 each literal of a clause, and of a slot, is of a variable from 1 to V
+--   literal-in                         a slot is empty, or holds one literal, of a variable from 1 to 9,890 (Slotted)
+--   none-iff                           a slot that holds variable 0 is empty
+--   line-fits, lines-fit               the line of a clause of the walk, and of any clause, has at most 3,008 bytes
 -- Assumes nothing.
 use Prim.Native.Nat.{ℕ, zero, suc, pred, _+_, _-_, _*_, _≤_, _<_}
 use native.Mathlib.Nat.{mul-le-mul, le-refl, le-trans, not-suc-le-zero}
@@ -35,9 +35,9 @@ use Rattle.theory.proofs.Widths.{width-some, width-enough}
 use Rattle.theory.proofs.Base.{clauses-within}
 use Rattle.digits.specs.Bytes.{literalText, lineText}
 use Rattle.digits.proofs.Lengths.{literal-fits, literals-fit, line-length}
-use Rattle.clause_walk.specs.Walk.{ruleCount, headsOf, headAt, headOf, positives, bodyOf, bodyCount, slots1, slots2, bitOf, slots4, chainSlots, chainBit, slots6, size2, size6, chainSize, impliedSlot, ofHead, slot1, slot2, slot3, slot4, slot5, slot6, itemCount, rowCount, size, slots, slot, clauseAt, row, group, walked, RowAt, At}
+use Rattle.clause_walk.specs.Walk.{ruleCount, headsOf, headAt, headOf, positives, bodyOf, bodyCount, slots1, slots2, bitOf, slots4, chainSlots, chainBit, slots6, size2, size6, chainSize, impliedSlot, ofHead, slot1, slot2, slot3, slot4, slot5, slot6, itemCount, blockCount, size, slots, slot, clauseAt, block, group, walked, BlockAt, At}
 use Rattle.clause_walk.proofs.Walked.{walked-clauses}
-use Rattle.clause_slots.specs.Signed.{held}
+use Rattle.clause_slots.specs.Signed.{slotLiteral}
 use Rattle.text.specs.Limits.{bodiesOf}
 use Rattle.text.specs.Limits.{ascends, ruleAscends, Limits}
 use Rattle.clause_table_laws.proofs.Elements.{width-fits, pairs-fit, body-fits, all-fit}
@@ -110,7 +110,7 @@ slotted n (x ∷ []) l h t =
     let u = and-left (isAtom n (variable x)) true t in holds x refl (atom-pos n (variable x) u) (le-trans (atom-le n (variable x) u) l)
 slotted n (x ∷ (y ∷ ls)) l h t = absurd (omega arith)
 
-none-of : (n : ℕ) (ls : List Literal) → So (all (λ x. isAtom n (variable x)) ls) → variable (held ls) ≡ 0 → ls ≡ []
+none-of : (n : ℕ) (ls : List Literal) → So (all (λ x. isAtom n (variable x)) ls) → variable (slotLiteral ls) ≡ 0 → ls ≡ []
 none-of n [] t e = refl
 none-of n (x ∷ ls) t e = absurd (omega (arith, atom-pos n (variable x) (and-left (isAtom n (variable x)) (all (λ x. isAtom n (variable x)) ls) t), e))
 
@@ -200,9 +200,9 @@ module _ (P : Program) (L : Limits P) where
       go false false true = L .few-rules
       go false false false = le-trans (L .few-atoms) (omega arith)
 
-  pub rows-fit : (v g : ℕ) → v ≤ 7 → rowCount P v g ≤ 501
-  unfolding rowCount
-  rows-fit v g h = go (eqb g 2) (eqb g 4) (eqb g 5)
+  pub blocks-fit : (v g : ℕ) → v ≤ 7 → blockCount P v g ≤ 501
+  unfolding blockCount
+  blocks-fit v g h = go (eqb g 2) (eqb g 4) (eqb g 5)
     where
       go : (b2 b4 b5 : Bool) → cond b2 (suc (ruleCount P)) (cond b4 v (cond b5 (v + v) 1)) ≤ 501
       go true b4 b5 = omega (arith, L .few-rules)
@@ -210,9 +210,9 @@ module _ (P : Program) (L : Limits P) where
       go false false true = omega (arith, h)
       go false false false = omega arith
 
-  pub size-fits : (v g a i : ℕ) → v ≤ 7 → RowAt P v g a i → size P v g a i ≤ 503
-  unfolding size itemCount rowCount
-  size-fits v g a i n s = go (eqb g 1) (eqb g 2) (eqb g 3) (eqb g 4) (eqb g 5) (eqb g 6) (s .item-in) (s .row-in)
+  pub size-fits : (v g a i : ℕ) → v ≤ 7 → BlockAt P v g a i → size P v g a i ≤ 503
+  unfolding size itemCount blockCount
+  size-fits v g a i n s = go (eqb g 1) (eqb g 2) (eqb g 3) (eqb g 4) (eqb g 5) (eqb g 6) (s .item-in) (s .block-in)
     where
       two : (c d : Bool) → cond c (cond d 1 0) 1 ≤ 503
       two true true = omega arith
@@ -239,8 +239,8 @@ module _ (P : Program) (L : Limits P) where
       go false false false false false true h k = six (eqb (positives P a) 0) (positives P a) (omega (arith, positives-fit a (s .item-some) h))
       go false false false false false false h k = omega arith
 
-  pub slots-fit : (g a i y : ℕ) → 0 < a → a ≤ itemCount P g → 0 < i → i ≤ rowCount P w g → slots P w g a i y ≤ 501
-  unfolding slots itemCount rowCount
+  pub slots-fit : (g a i y : ℕ) → 0 < a → a ≤ itemCount P g → 0 < i → i ≤ blockCount P w g → slots P w g a i y ≤ 501
+  unfolding slots itemCount blockCount
   slots-fit g a i y p h q k = go (eqb g 1) (eqb g 2) (eqb g 3) (eqb g 4) (eqb g 5) (eqb g 6) h k
     where
       one : (c : Bool) (b : ℕ) → b ≤ 500 → cond c 2 (suc b) ≤ 501
@@ -313,21 +313,21 @@ module _ (P : Program) (L : Limits P) where
   unfolding walked
   at-place p t g a i y s =
       tab-at p (size P w g a i) (clauseAt P w g a i)
-      (each-at p (rowCount P w g) (row P w g a)
-      (each-at p (itemCount P g) (λ a. each (rowCount P w g) (row P w g a)) (each-at p 7 (group P w) t g (s .row-at .group-some) (s .row-at .group-in)) a (s .row-at .item-some) (s .row-at .item-in))
-      i (s .row-at .row-some) (s .row-at .row-in))
+      (each-at p (blockCount P w g) (block P w g a)
+      (each-at p (itemCount P g) (λ a. each (blockCount P w g) (block P w g a)) (each-at p 7 (group P w) t g (s .block-at .group-some) (s .block-at .group-in)) a (s .block-at .item-some) (s .block-at .item-in))
+      i (s .block-at .block-some) (s .block-at .block-in))
       y (s .clause-some) (s .clause-in)
 
   by-place : (p : Clause → Bool) → ((g a i y : ℕ) → At P w g a i y → So (p (clauseAt P w g a i y))) → So (all p (walked P w))
   unfolding walked
   by-place p u =
       each-in p 7 (group P w)
-      (λ g g1 g2. each-in p (itemCount P g) (λ a. each (rowCount P w g) (row P w g a))
-      (λ a a1 a2. each-in p (rowCount P w g) (row P w g a)
+      (λ g g1 g2. each-in p (itemCount P g) (λ a. each (blockCount P w g) (block P w g a))
+      (λ a a1 a2. each-in p (blockCount P w g) (block P w g a)
       (λ i i1 i2. tab-in p (size P w g a i) (clauseAt P w g a i)
       (λ y y1 y2.
       u g a i y
-      (record { row-at = record { group-some = g1; group-in = g2; item-some = a1; item-in = a2; row-some = i1; row-in = i2 }; clause-some = y1; clause-in = y2 })))))
+      (record { block-at = record { group-some = g1; group-in = g2; item-some = a1; item-in = a2; block-some = i1; block-in = i2 }; clause-some = y1; clause-in = y2 })))))
 
   pub clause-in : (g a i y : ℕ) → At P w g a i y → So (all (λ x. isAtom (variables P w) (variable x)) (clauseAt P w g a i y))
   clause-in g a i y s = at-place (all fits) all-within g a i y s
@@ -338,14 +338,14 @@ module _ (P : Program) (L : Limits P) where
   pub literal-in : (g a i y l : ℕ) → At P w g a i y → 0 < l → l ≤ slots P w g a i y → Slotted (slot P w g a i y l)
   literal-in g a i y l s p h = slotted (variables P w) (slot P w g a i y l) variables-fit (slot-short g a i y l) (slot-in g a i y l s p h)
 
-  pub none-iff : (g a i y l : ℕ) → At P w g a i y → 0 < l → l ≤ slots P w g a i y → variable (held (slot P w g a i y l)) ≡ 0 → slot P w g a i y l ≡ []
+  pub none-iff : (g a i y l : ℕ) → At P w g a i y → 0 < l → l ≤ slots P w g a i y → variable (slotLiteral (slot P w g a i y l)) ≡ 0 → slot P w g a i y l ≡ []
   none-iff g a i y l s p h e = none-of (variables P w) (slot P w g a i y l) (slot-in g a i y l s p h) e
 
   -- ---- the lines
 
   pub clause-short : (g a i y : ℕ) → At P w g a i y → length (clauseAt P w g a i y) ≤ 501
   clause-short g a i y s =
-      le-trans (each-short (slots P w g a i y) (slot P w g a i y) (slot-short g a i y)) (slots-fit g a i y (s .row-at .item-some) (s .row-at .item-in) (s .row-at .row-some) (s .row-at .row-in))
+      le-trans (each-short (slots P w g a i y) (slot P w g a i y) (slot-short g a i y)) (slots-fit g a i y (s .block-at .item-some) (s .block-at .item-in) (s .block-at .block-some) (s .block-at .block-in))
 
   pub line-fits : (g a i y : ℕ) → At P w g a i y → length (lineText (clauseAt P w g a i y)) ≤ 3008
   line-fits g a i y s = text-fits (variables P w) (clauseAt P w g a i y) variables-fit (clause-in g a i y s) (clause-short g a i y s)

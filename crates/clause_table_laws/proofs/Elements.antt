@@ -82,7 +82,7 @@ ends-length : (j : ℕ) (rs : List Rule) → length (endsOf j rs) ≡ 2 * length
 ends-length j [] = refl
 ends-length j (R ∷ rs) = omega (arith, ends-length (j + length (R .positive) + length (R .negative)) rs)
 
--- the starts from that of rule R on, behind k body atoms and before the rules rs
+-- the starts from that of rule R on, after k body atoms and before the rules rs
 abbrev startsFrom : ℕ → Rule → List Rule → List ℕ
 startsFrom k R rs = k ∷ endsOf k (R ∷ rs)
 

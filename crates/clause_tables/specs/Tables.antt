@@ -27,7 +27,7 @@ pub record Stored (A : Arrays) : Type 0 where
   pub limits : Limits (decoded A)
   pub arrays-are : A ≡ kept (decoded A)
 
--- entry r of `before`, from 1, is for rule r; the one behind the last rule is K
+-- entry r of `before`, from 1, is for rule r; the one after the last rule is K
 unfoldable pub pairTable : Program → Pairs
 pairTable P =
     record {

@@ -47,12 +47,12 @@ rule-at A r h = rules-from A 0 (A .rules) r h ∙ ap (ruleIn A) (go r)
 
 -- ---- the starts
 
--- among the starts of rules behind j body atoms
+-- among the starts of rules after j body atoms
 record Ordered (xs : List ℕ) (i k : ℕ) : Type 0 where
   rises : getD xs (2 * i) 0 ≤ getD xs (2 * i + 1) 0
   within : getD xs (2 * i + 1) 0 ≤ k
 
--- behind the two starts of a rule in front
+-- after the two starts of a rule in front
 further : (x y : ℕ) (xs : List ℕ) (i k l : ℕ) → k ≤ l → Ordered xs i k → Ordered (x ∷ (y ∷ xs)) (suc i) l
 further x y xs i k l h o =
     record {

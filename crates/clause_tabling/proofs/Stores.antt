@@ -1,7 +1,7 @@
--- The loop that stores the pairs of a rule, and what stores leave of an array with zeros behind its list.
+-- The loop that stores the pairs of a rule, and what stores leave of an array with zeros after its list.
 --   taken-goes, copies-goes    one turn: what is left to store, without the element stored
---   set-pad, sets-pad          x, and the elements of ys, stored behind xs
---   set-behind, sets-behind    the same at a place that is known to be behind xs
+--   set-pad, sets-pad          x, and the elements of ys, stored after xs
+--   set-behind, sets-behind    the same at a place that is known to be after xs
 -- Assumes nothing.
 use Prim.Native.Nat.{ℕ, suc, _+_, _-_, _≤_, _<_}
 use native.Mathlib.Nat.{add-zero, sub-zero}
@@ -63,9 +63,9 @@ taken-ends from ys ws a size at i h inv = sym (ap (λ (k : ℕ). sets ys (at + i
 pub copies-ends : (ys ws : List ℕ) (size at i x : ℕ) → size ≤ i → sets ys (at + i) (replicate (size - i) x) ≡ ws → ys ≡ ws
 copies-ends ys ws size at i x h inv = sym (ap (λ (k : ℕ). sets ys (at + i) (replicate k x)) (none-left size i h)) ∙ inv
 
--- ---- arrays with zeros behind a list
+-- ---- arrays with zeros after a list
 
--- x stored behind xs
+-- x stored after xs
 pub set-pad : (xs : List ℕ) (n x : ℕ) → length xs < n → set (pad n xs) (length xs) x ≡ pad n (xs ++ (x ∷ []))
 set-pad xs n x h =
     ap (λ (k : ℕ). set (xs ++ replicate k 0) (length xs) x) (more (length xs) h)
@@ -83,7 +83,7 @@ sets-pad xs (y ∷ ys) n h =
     ∙ sets-pad (xs ++ (y ∷ [])) ys n (omega (arith, h, length-append xs (y ∷ [])))
     ∙ ap (pad n) (append-snoc xs y ys)
 
--- at a place that is known to be behind xs
+-- at a place that is known to be after xs
 pub set-behind : (xs zs : List ℕ) (n k x : ℕ) → zs ≡ pad n xs → length xs ≡ k → k < n → set zs k x ≡ pad n (xs ++ (x ∷ []))
 set-behind xs zs n k x p e h =
     ap₂ (λ (zs : List ℕ) (k : ℕ). set zs k x) p (sym e) ∙ set-pad xs n x (subst (λ (k : ℕ). k < n) (sym e) h)

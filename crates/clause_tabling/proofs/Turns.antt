@@ -64,7 +64,7 @@ module _ (P : Program) (l : Limits P) (r : ℕ) (before bodies heads : List ℕ)
       set-behind (tab r (pairsBefore P)) before 501 r count (f .before-is) (length-tab r (pairsBefore P)) (omega (arith, f .in-rules, l .few-rules))
       ∙ ap (λ (x : ℕ). pad 501 (tab r (pairsBefore P) ++ (x ∷ []))) (f .count-is)
 
-  -- the pairs of the next rule stored behind the others, by one of their two numbers
+  -- the pairs of the next rule stored after the others, by one of their two numbers
   row-next : (g : Pair → ℕ) (zs ys : List ℕ) → r < length (P .rules) → zs ≡ pad 500 (map g (each r (rowOf P)))
       → length ys ≡ sizeOf P (suc r) → map g (rowOf P (suc r)) ≡ ys
       → sets zs count ys ≡ pad 500 (map g (each (suc r) (rowOf P)))

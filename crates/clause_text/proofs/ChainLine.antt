@@ -19,34 +19,34 @@ use Rattle.digits.proofs.Begins.{Begins, begins-same, begins-byte}
 use Rattle.clause_walk.specs.Walk.{slots, slot, clauseAt, chainSlots, chainSlot, chainBit, At}
 use Rattle.clause_slots.specs.declared.Signed.{Signed}
 use Rattle.clause_slots.specs.declared.Chain.{Chain}
-use Rattle.clause_slots.specs.Signed.{literalIn, held}
+use Rattle.clause_slots.specs.Signed.{literalIn, slotLiteral}
 use Rattle.clause_tables.specs.declared.Totals.{Totals}
 use Rattle.clause_tables.specs.Tables.{Tabled}
 use Rattle.clause_table_laws.proofs.Bounds.{Slotted, empty, holds}
-use Rattle.clause_layout.specs.RowChain.{chainAt}
+use Rattle.clause_layout.specs.BlockChain.{chainOfBlock}
 use Rattle.clause_layout.proofs.Groups.{slots-pair}
-use Rattle.clause_layout.proofs.RowChains.{literal-pair}
-use Rattle.clause_text.specs.Lines.{literalsIn, shown, chainClause}
+use Rattle.clause_layout.proofs.BlockChains.{literal-pair}
+use Rattle.clause_text.specs.Lines.{literalsIn, shownLiteral, chainClause}
 use Rattle.clause_text.proofs.Clause.{slotted}
 use Rattle.clause_text.proofs.SlotLine.{shown-is, slot-fits, slot-next, slots-whole}
 
-pub shown-held : (ls : List Literal) → Slotted ls → shown (held ls) ≡ ls
-shown-held ls (empty q) = ap (λ (zs : List Literal). shown (held zs)) q ∙ sym q
+pub shown-held : (ls : List Literal) → Slotted ls → shownLiteral (slotLiteral ls) ≡ ls
+shown-held ls (empty q) = ap (λ (zs : List Literal). shownLiteral (slotLiteral zs)) q ∙ sym q
 shown-held ls (holds x q p h) =
-    ap (λ (zs : List Literal). shown (held zs)) q
+    ap (λ (zs : List Literal). shownLiteral (slotLiteral zs)) q
     ∙ ap (λ (d : Bool). cond d [] (x ∷ [])) (ne-eqb (variable x) 0 (λ e. omega (arith, e, p))) ∙ sym q
 
 module _ (c : Chain) (i y : ℕ) where
   -- the literal in slot l, and the text of the first l slots
   abbrev at : ℕ → List Literal
-  at l = shown (chainSlot (c .z .0) (c .x .0) (c .y .0) (c .g .0) i y l)
+  at l = shownLiteral (chainSlot (c .z .0) (c .x .0) (c .y .0) (c .g .0) i y l)
 
   abbrev text : ℕ → List ℕ
   text l = literalsText (each l at)
 
   module _ (x : Signed) {k l : ℕ} (e : k ≡ chainSlots i y) (h : l < k) (q : literalIn x ≡ chainSlot (c .z .0) (c .x .0) (c .y .0) (c .g .0) i y (l + 1)) where
     held-at : literalsIn x ≡ at (l + 1)
-    held-at = shown-is x ∙ ap shown q
+    held-at = shown-is x ∙ ap shownLiteral q
 
     pub chain-fits : {n : ℕ} → length (lineText (chainClause c i y)) ≤ n → length (text l ++ literalsText (literalsIn x)) ≤ n
     chain-fits f = slot-fits (chainSlots i y) at x e h held-at f
@@ -76,17 +76,17 @@ module _ (c : Chain) (i y : ℕ) where
 
 -- in group 5
 module _ {P : Program} {t : Totals} {hs ss bs ks xs ys : List ℕ} (T : Tabled P t hs ss bs ks xs ys) {g a i y : ℕ} (A : At P (t .sizes .w) g a i y) where
-  pub chain-clause : {c : Chain} {j : ℕ} → g ≡ 5 → c ≡ chainAt P (t .sizes .w) g a i → j ≡ chainBit (t .sizes .w) i
+  pub chain-clause : {c : Chain} {j : ℕ} → g ≡ 5 → c ≡ chainOfBlock P (t .sizes .w) g a i → j ≡ chainBit (t .sizes .w) i
       → chainClause c j y ≡ clauseAt P (t .sizes .w) g a i y
   chain-clause {c} {j} e p q =
-      each-ext (chainSlots j y) (λ l. shown (chainSlot (c .z .0) (c .x .0) (c .y .0) (c .g .0) j y l)) (slot P (t .sizes .w) g a i y)
-      (λ l h. ap shown (literal-pair T (A .row-at) y (suc l) e p q refl) ∙ shown-held (slot P (t .sizes .w) g a i y (suc l)) (slotted T A (suc l) (omega arith) (subst (λ (n : ℕ). suc l ≤ n) many h)))
+      each-ext (chainSlots j y) (λ l. shownLiteral (chainSlot (c .z .0) (c .x .0) (c .y .0) (c .g .0) j y l)) (slot P (t .sizes .w) g a i y)
+      (λ l h. ap shownLiteral (literal-pair T (A .block-at) y (suc l) e p q refl) ∙ shown-held (slot P (t .sizes .w) g a i y (suc l)) (slotted T A (suc l) (omega arith) (subst (λ (n : ℕ). suc l ≤ n) many h)))
       ∙ ap (λ (n : ℕ). each n (slot P (t .sizes .w) g a i y)) many
     where
       many : chainSlots j y ≡ slots P (t .sizes .w) g a i y
       many = slots-pair T A e q refl
 
-  module _ {c : Chain} {j : ℕ} (e : g ≡ 5) (p : c ≡ chainAt P (t .sizes .w) g a i) (q : j ≡ chainBit (t .sizes .w) i) where
+  module _ {c : Chain} {j : ℕ} (e : g ≡ 5) (p : c ≡ chainOfBlock P (t .sizes .w) g a i) (q : j ≡ chainBit (t .sizes .w) i) where
     pub chain-asks : {n : ℕ} → length (lineText (clauseAt P (t .sizes .w) g a i y)) ≤ n → length (lineText (chainClause c j y)) ≤ n
     chain-asks {n} f = subst (λ (ls : List Literal). length (lineText ls) ≤ n) (sym (chain-clause e p q)) f
 

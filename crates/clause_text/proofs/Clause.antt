@@ -1,4 +1,4 @@
--- The text of the clause at a place of the walk, slot by slot, in a program whose tables are at hand.
+-- The text of the clause at a place of the walk, slot by slot, in a program whose tables are given.
 --   slotted            a slot is empty or holds one literal, of a variable from 1 to 9,890
 --   line-short         the line has at most 3,008 bytes
 --   text-more          the literals of one slot more, as code has them
@@ -24,7 +24,7 @@ use Rattle.digits.specs.Bytes.{literalsText, lineText}
 use Rattle.digits.proofs.Lengths.{literals-append, line-length}
 use Rattle.clause_walk.specs.Walk.{slots, slot, clauseAt, At}
 use Rattle.clause_slots.specs.declared.Signed.{Signed}
-use Rattle.clause_slots.specs.Signed.{literalIn, held}
+use Rattle.clause_slots.specs.Signed.{literalIn, slotLiteral}
 use Rattle.clause_tables.specs.declared.Totals.{Totals}
 use Rattle.clause_tables.specs.Tables.{Tabled}
 use Rattle.clause_table_laws.proofs.Elements as elements
@@ -83,12 +83,12 @@ module _ {P : Program} {t : Totals} {hs ss bs ks xs ys : List ℕ} (T : Tabled P
   line-short =
       subst (λ (v : ℕ). At P v g a i y → length (lineText (clauseAt P v g a i y)) ≤ 3008) (sym width-is) (line-fits P (T .limits) g a i y) A
 
-  pub text-more : (x : Signed) {l k : ℕ} → k ≡ slots P w g a i y → l < k → literalIn x ≡ held (slot P w g a i y (l + 1))
+  pub text-more : (x : Signed) {l k : ℕ} → k ≡ slots P w g a i y → l < k → literalIn x ≡ slotLiteral (slot P w g a i y (l + 1))
       → text (l + 1) ≡ text l ++ literalsText (literalsIn x)
   text-more x {l} {k} e h q =
       ap text (add-one l) ∙ literals-append (each l (slot P w g a i y)) (slot P w g a i y (suc l))
       ∙ ap (λ (c : List Literal). text l ++ literalsText c)
-      (sym (held-is x (slot P w g a i y (suc l)) (slotted (suc l) (omega arith) (subst (λ (n : ℕ). suc l ≤ n) e h)) (q ∙ ap (λ (n : ℕ). held (slot P w g a i y n)) (add-one l))))
+      (sym (held-is x (slot P w g a i y (suc l)) (slotted (suc l) (omega arith) (subst (λ (n : ℕ). suc l ≤ n) e h)) (q ∙ ap (λ (n : ℕ). slotLiteral (slot P w g a i y n)) (add-one l))))
 
   pub text-fits : {l k : ℕ} → k ≡ slots P w g a i y → l ≤ k → length (text l) ≤ length (literalsText (clauseAt P w g a i y))
   text-fits {l} {k} e h = each-fits (slot P w g a i y) l (slots P w g a i y) (subst (λ (n : ℕ). l ≤ n) e h)
@@ -103,7 +103,7 @@ module _ {P : Program} {t : Totals} {hs ss bs ks xs ys : List ℕ} (T : Tabled P
       more l k h = omega (arith, h)
 
   pub past-asks : (l : ℕ) → (t .sizes .m ≤ 500) × (t .sizes .m ≤ length hs) × (0 < l + 1)
-  past-asks l = (bounded T .rules, heads-in T (A .row-at), omega arith)
+  past-asks l = (bounded T .rules, heads-in T (A .block-at), omega arith)
 
   module _ {k l r : ℕ} (e : k ≡ slots P w g a i y) (h : l < k) (p : r ≡ pastEmpty (t .sizes .m) hs g a i (l + 1)) where
     past : Passed P w g a i y (l + 1) r
@@ -120,7 +120,7 @@ module _ {P : Program} {t : Totals} {hs ss bs ks xs ys : List ℕ} (T : Tabled P
 
   -- ---- how many bytes
 
-  module _ (x : Signed) {k l to r : ℕ} (e : k ≡ slots P w g a i y) (h : l < k) (q : literalIn x ≡ held (slot P w g a i y (l + 1))) where
+  module _ (x : Signed) {k l to r : ℕ} (e : k ≡ slots P w g a i y) (h : l < k) (q : literalIn x ≡ slotLiteral (slot P w g a i y (l + 1))) where
     pub length-more : to ≡ length (text l) → r ≡ length (literalsText (literalsIn x)) → to + r ≡ length (text (l + 1))
     length-more n m = omega (arith, n, m, ap (λ (t : List ℕ). length t) (text-more x e h q), length-append (text l) (literalsText (literalsIn x)))
 
@@ -145,7 +145,7 @@ module _ {P : Program} {t : Totals} {hs ss bs ks xs ys : List ℕ} (T : Tabled P
 
   module _ (b : List ℕ) (f : length (lineText (clauseAt P w g a i y)) ≤ length b) where
     -- there is room for one slot more
-    pub part-fits : (x : Signed) {k l : ℕ} → k ≡ slots P w g a i y → l < k → literalIn x ≡ held (slot P w g a i y (l + 1))
+    pub part-fits : (x : Signed) {k l : ℕ} → k ≡ slots P w g a i y → l < k → literalIn x ≡ slotLiteral (slot P w g a i y (l + 1))
         → length (text l ++ literalsText (literalsIn x)) ≤ length b
     part-fits x {k} {l} e h q =
         subst (λ (t : List ℕ). length t ≤ length b) (text-more x e h q)
@@ -155,7 +155,7 @@ module _ {P : Program} {t : Totals} {hs ss bs ks xs ys : List ℕ} (T : Tabled P
         more l k h = omega (arith, h)
 
     -- one slot more has been written
-    pub text-next : (x : Signed) {k l r to : ℕ} {c : List ℕ} → k ≡ slots P w g a i y → l < k → literalIn x ≡ held (slot P w g a i y (l + 1))
+    pub text-next : (x : Signed) {k l r to : ℕ} {c : List ℕ} → k ≡ slots P w g a i y → l < k → literalIn x ≡ slotLiteral (slot P w g a i y (l + 1))
         → r ≡ pastEmpty (t .sizes .m) hs g a i (l + 1) → Begins b c (text l ++ literalsText (literalsIn x)) to → Begins b c (text r) to
     text-next x e h q p B = begins-same B (sym (text-past e h p ∙ text-more x e h q))
 
@@ -173,7 +173,7 @@ module _ {P : Program} {t : Totals} {hs ss bs ks xs ys : List ℕ} (T : Tabled P
       pub end-fits : to + 2 ≤ length c
       end-fits = omega (arith, whole-text .place, line-length (clauseAt P w g a i y), f, B .same)
 
-      -- a byte and one behind it have been written: the line
+      -- a byte and one after it have been written: the line
       pub line-text : (u v : ℕ) → u ≡ 48 → v ≡ 10 → Begins b (set (set c to u) (to + 1) v) (lineText (clauseAt P w g a i y)) (to + 2)
       line-text u v p q =
           subst (λ (n : ℕ). Begins b (set (set c to u) (to + 1) v) (lineText (clauseAt P w g a i y)) n) (two-more to)

@@ -18,7 +18,7 @@ use Rattle.digits.specs.Bytes.{literalText, literalsText}
 use Rattle.digits.proofs.Lengths.{word-length}
 use Rattle.clause_walk.specs.Walk.{signed}
 use Rattle.clause_slots.specs.declared.Signed.{Signed}
-use Rattle.clause_slots.specs.Signed.{literalIn, held}
+use Rattle.clause_slots.specs.Signed.{literalIn, slotLiteral}
 use Rattle.clause_table_laws.proofs.Bounds.{Slotted, empty, holds}
 use Rattle.clause_text.specs.Lines.{literalsIn}
 
@@ -81,10 +81,10 @@ module _ (x : Signed) where
   variable-of : (y : Literal) → literalIn x ≡ y → x .var .0 ≡ variable y
   variable-of y e = sym (variable-is (x .positive) (x .var .0)) ∙ ap variable e
 
-  pub held-is : (ls : List Literal) → Slotted ls → literalIn x ≡ held ls → literalsIn x ≡ ls
+  pub held-is : (ls : List Literal) → Slotted ls → literalIn x ≡ slotLiteral ls → literalsIn x ≡ ls
   held-is ls (empty q) e =
-      ap (λ (b : Bool). cond b [] (literalIn x ∷ [])) (eq-eqb (x .var .0) 0 (variable-of (− 0) (e ∙ ap held q))) ∙ sym q
+      ap (λ (b : Bool). cond b [] (literalIn x ∷ [])) (eq-eqb (x .var .0) 0 (variable-of (− 0) (e ∙ ap slotLiteral q))) ∙ sym q
   held-is ls (holds y q p h) e =
       ap (λ (b : Bool). cond b [] (literalIn x ∷ []))
-      (ne-eqb (x .var .0) 0 (λ (z : x .var .0 ≡ 0). omega (arith, z, p, variable-of y (e ∙ ap held q))))
-      ∙ ap (λ (y : Literal). y ∷ []) (e ∙ ap held q) ∙ sym q
+      (ne-eqb (x .var .0) 0 (λ (z : x .var .0 ≡ 0). omega (arith, z, p, variable-of y (e ∙ ap slotLiteral q))))
+      ∙ ap (λ (y : Literal). y ∷ []) (e ∙ ap slotLiteral q) ∙ sym q

@@ -10,5 +10,5 @@ pub mod Computed
 pub mod SlotLine
 -- ChainLine: the line of a chain's clause
 pub mod ChainLine
--- RowLaws: the groups whose rows are taken as a whole
-pub mod RowLaws
+-- BlockLaws: the groups whose blocks are taken as a whole
+pub mod BlockLaws

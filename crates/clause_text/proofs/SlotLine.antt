@@ -1,7 +1,7 @@
 -- The line of a clause of n slots, slot by slot, and the lines of several clauses, line by line.
---   shown-is                         what is shown of a literal that code has
+--   shown-is                              what is shown of a literal that code has
 --   slot-fits, slot-next, slots-whole    one slot more, and all of them, in a buffer that has room for the line
---   row-fits, row-next, row-whole    one line more, and all of them, in a buffer that has room for the lines
+--   block-fits, block-next, block-whole   one line more, and all of them, in a buffer that has room for the lines
 -- Assumes nothing.
 use Prim.Native.Nat.{ℕ, zero, suc, _+_, _-_, _≤_, _<_}
 use native.Mathlib.Nat.{le-antisymm, le-refl, le-trans, zero-add, suc-add}
@@ -19,13 +19,13 @@ use Rattle.digits.proofs.Lengths.{literals-append, line-length}
 use Rattle.digits.proofs.Begins.{Begins, begins-same}
 use Rattle.clause_slots.specs.declared.Signed.{Signed}
 use Rattle.clause_slots.specs.Signed.{literalIn}
-use Rattle.clause_text.specs.Lines.{literalsIn, shown}
+use Rattle.clause_text.specs.Lines.{literalsIn, shownLiteral}
 use Rattle.clause_text.proofs.Clause.{each-fits}
 
-pub shown-is : (x : Signed) → literalsIn x ≡ shown (literalIn x)
+pub shown-is : (x : Signed) → literalsIn x ≡ shownLiteral (literalIn x)
 shown-is x = go (x .positive)
   where
-    go : (d : Bool) → cond (eqb (x .var .0) 0) [] (cond d (var (x .var .0)) (− (x .var .0)) ∷ []) ≡ shown (cond d (var (x .var .0)) (− (x .var .0)))
+    go : (d : Bool) → cond (eqb (x .var .0) 0) [] (cond d (var (x .var .0)) (− (x .var .0)) ∷ []) ≡ shownLiteral (cond d (var (x .var .0)) (− (x .var .0)))
     go true = refl
     go false = refl
 
@@ -68,16 +68,16 @@ module _ (F : ℕ → List ℕ) where
   next-is y = ap (λ (n : ℕ). each n F) (add-one y) ∙ ap (λ (n : ℕ). each y F ++ F n) (sym (add-one y))
 
   module _ {k y : ℕ} (h : y < k) where
-    pub row-fits : {m : ℕ} → length (each k F) ≤ m → length (each y F ++ F (y + 1)) ≤ m
-    row-fits {m} f =
+    pub block-fits : {m : ℕ} → length (each k F) ≤ m → length (each y F ++ F (y + 1)) ≤ m
+    block-fits {m} f =
         subst (λ (t : List ℕ). length t ≤ m) (next-is y)
         (le-trans (lines-fit (k - (y + 1)) (y + 1)) (subst (λ (n : ℕ). length (each n F) ≤ m) (sym (whole k y h)) f))
       where
         whole : (k y : ℕ) → y < k → k - (y + 1) + (y + 1) ≡ k
         whole k y h = omega (arith, h)
 
-    pub row-next : {b d : List ℕ} {to : ℕ} → Begins b d (each y F ++ F (y + 1)) to → Begins b d (each (y + 1) F) to
-    row-next B = begins-same B (sym (next-is y))
+    pub block-next : {b d : List ℕ} {to : ℕ} → Begins b d (each y F ++ F (y + 1)) to → Begins b d (each (y + 1) F) to
+    block-next B = begins-same B (sym (next-is y))
 
-  pub row-whole : {b d : List ℕ} {n k y to : ℕ} → k ≡ n → y ≤ k → k ≤ y → Begins b d (each y F) to → Begins b d (each n F) to
-  row-whole {b} {d} {to = to} e h m B = subst (λ (j : ℕ). Begins b d (each j F) to) (le-antisymm h m ∙ e) B
+  pub block-whole : {b d : List ℕ} {n k y to : ℕ} → k ≡ n → y ≤ k → k ≤ y → Begins b d (each y F) to → Begins b d (each n F) to
+  block-whole {b} {d} {to = to} e h m B = subst (λ (j : ℕ). Begins b d (each j F) to) (le-antisymm h m ∙ e) B

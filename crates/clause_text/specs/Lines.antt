@@ -1,6 +1,6 @@
 -- The first line of the clause file, the line of a refusal, and the text of a slot (document 01, "Clauses, in order").
---   headerText v c           "p cnf", v variables and c clauses in decimal, each behind one space, then byte 10
---   refusedText number spot  "(refused", the number and the spot in decimal, each behind one space, ")" and byte 10
+--   headerText v c           "p cnf", v variables and c clauses in decimal, each after one space, then byte 10
+--   refusedText number spot  "(refused", the number and the spot in decimal, each after one space, ")" and byte 10
 --   literalsIn x             the literal of a slot that code has as x: none where x is of variable 0
 --   chainClause c i y        clause y of bit i of the chain c
 -- Assumes nothing.
@@ -27,8 +27,8 @@ abbrev pub literalsIn : Signed → List Literal
 literalsIn x = cond (eqb (x .var .0) 0) [] (literalIn x ∷ [])
 
 -- a literal, none where it is of variable 0
-abbrev pub shown : Literal → List Literal
-shown l = cond (eqb (variable l) 0) [] (l ∷ [])
+abbrev pub shownLiteral : Literal → List Literal
+shownLiteral l = cond (eqb (variable l) 0) [] (l ∷ [])
 
 abbrev pub chainClause : Chain → ℕ → ℕ → Clause
-chainClause c i y = each (chainSlots i y) (λ l. shown (chainSlot (c .z .0) (c .x .0) (c .y .0) (c .g .0) i y l))
+chainClause c i y = each (chainSlots i y) (λ l. shownLiteral (chainSlot (c .z .0) (c .x .0) (c .y .0) (c .g .0) i y l))

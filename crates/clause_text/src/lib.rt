@@ -1,5 +1,5 @@
 // The lines of the clause file and of a refusal, written into a lent buffer (document 01, "Clauses, in order").
-use clause_layout::chain_at;
+use clause_layout::chain_of_block;
 use clause_layout::past_empty;
 use clause_layout::slot;
 use clause_layout::slots;
@@ -26,7 +26,7 @@ ghost use Rattle.clause_slots.specs.Signed.{literalIn};
 ghost use Rattle.clause_walk.specs.Walk.{clauseAt, At};
 ghost use Rattle.clause_tables.specs.Tables.{programIn, Ready};
 ghost use Rattle.clause_text.specs.Lines.{headerText, refusedText, literalsIn, chainClause};
-ghost use Rattle.clause_text.specs.Rows.{isRowed};
+ghost use Rattle.clause_text.specs.Blocks.{isBlockwise};
 
 // Writes the bytes `word` at the front of the buffer and returns how many they are.
 pub fn put_word(word: &[u8], buf: &mut [u8]) -> usize
@@ -73,7 +73,7 @@ pub fn put_header(v: usize, c: usize, buf: &mut [u8]) -> usize
 }
 
 // A literal as a signed number.
-pub fn number_of(x: Signed) -> i32
+pub fn literal_number(x: Signed) -> i32
     ensures { λ r. ⌜ r ≡ literalNumber (literalIn x) ⌝ }
 {
     if x.positive {
@@ -89,7 +89,7 @@ fn signed_length(x: Signed) -> usize
     if x.var.0 == 0 {
         return 0;
     }
-    literal_length(number_of(x))
+    literal_length(literal_number(x))
 }
 
 // Writes the literal of a slot and one space at the front of the buffer and returns how many bytes they are; nothing where the slot has none.
@@ -100,10 +100,10 @@ fn put_signed(x: Signed, buf: &mut [u8]) -> usize
     if x.var.0 == 0 {
         return 0;
     }
-    put_literal(number_of(x), &mut *buf)
+    put_literal(literal_number(x), &mut *buf)
 }
 
-// How many bytes the line of clause y of row i of item a of group g has.
+// How many bytes the line of clause y of block i of item a of group g has.
 pub fn clause_length<'a>(
     t: Totals,
     heads: &'a [u16],
@@ -174,7 +174,7 @@ fn put_chain(c: Chain, i: u16, y: u16, buf: &mut [u8]) -> usize
     end + 2
 }
 
-// Writes that line at the front of the buffer and returns how many bytes it has.
+// Writes the line of clause y of block i of item a of group g at the front of the buffer and returns how many bytes it has.
 pub fn put_clause<'a>(
     t: Totals,
     heads: &'a [u16],
@@ -193,7 +193,7 @@ pub fn put_clause<'a>(
     ensures { λ r. ⌜ (r ≡ length (lineText (clauseAt (programIn (t .sizes) (now (heads .entry)) (now (starts .entry)) (now (bodies .entry))) (t .sizes .w) g a i y))) × (now (buf .exit) ≡ lineText (clauseAt (programIn (t .sizes) (now (heads .entry)) (now (starts .entry)) (now (bodies .entry))) (t .sizes .w) g a i y) ++ drop r (now (buf .entry))) ⌝ }
 {
     if g == 5 {
-        let c = chain_at(t, heads, starts, bodies, before, partners, owners, g, a, i);
+        let c = chain_of_block(t, heads, starts, bodies, before, partners, owners, g, a, i);
         return put_chain(c, chain_bit(t.sizes.w, i), y, &mut *buf);
     }
     let k = slots(
@@ -234,9 +234,9 @@ pub fn put_clause<'a>(
     to + 2
 }
 
-// Whether the rows of group g are written as a whole: those of groups 4 and 5, which have nearly all clauses.
-pub fn is_rowed(g: u16) -> bool
-    ensures { λ r. ⌜ r ≡ isRowed g ⌝ }
+// Whether the blocks of group g are written as a whole: those of groups 4 and 5, which have nearly all clauses.
+pub fn is_blockwise(g: u16) -> bool
+    ensures { λ r. ⌜ r ≡ isBlockwise g ⌝ }
 {
     if g == 4 {
         return true;

@@ -15,7 +15,7 @@ use Rattle.encoding.specs.Literal.{var, −_, Clause}
 use Rattle.encoding.specs.Variables.{Sizes, levelVar, nextVar, belowVar, nextBelowVar}
 use Rattle.encoding.specs.Counter.{keepsClauses, flipsClauses, successorAt, successor, chainAt, chain}
 use Rattle.encoding.specs.Clauses.{sizes, pairs, pairCount, pairAt, pairClauses, group4, group5}
-use Rattle.clause_walk.specs.Walk.{signed, three, chainSize, chainSlots, chainFirst, chainNext, chainSlot, itemCount, rowCount, size, slots, slot, clauseAt, row, group}
+use Rattle.clause_walk.specs.Walk.{signed, three, chainSize, chainSlots, chainFirst, chainNext, chainSlot, itemCount, blockCount, size, slots, slot, clauseAt, block, group}
 use Rattle.clause_walk.proofs.Tabs.{tab-each, each-add, tab-pairs}
 
 module _ (P : Program) (w : ℕ) where
@@ -31,7 +31,7 @@ module _ (P : Program) (w : ℕ) where
     abbrev v : ℕ → ℕ
     v = levelVar S a
 
-    -- a clause of row i with bit j, below i or not as d says, and the rest ρ of its number by 2
+    -- a clause of block i with bit j, below i or not as d says, and the rest ρ of its number by 2
     abbrev clause4 : Bool → ℕ → ℕ → ℕ → Clause
     clause4 d ρ i j =
         each (cond d 3 (suc i))
@@ -42,13 +42,13 @@ module _ (P : Program) (w : ℕ) where
     unfolding slots slot
     as-clause4 i x ρ y p q = ap₂ (λ (x ρ : ℕ). clause4 (ltb (suc x) i) ρ i (suc x)) p q
 
-    -- the clauses 2x + 1 and 2x + 2 of row i
+    -- the clauses 2x + 1 and 2x + 2 of block i
     both4 : (i x : ℕ) → clauseAt P w 4 a i (suc (2 * x)) ∷ clauseAt P w 4 a i (suc (suc (2 * x))) ∷ []
         ≡ clause4 (ltb (suc x) i) 1 i (suc x) ∷ clause4 (ltb (suc x) i) 0 i (suc x) ∷ []
     both4 i x =
         ap₂ (λ (c d : Clause). c ∷ d ∷ []) (as-clause4 i x 1 (suc (2 * x)) (omega arith) (omega arith)) (as-clause4 i x 0 (suc (suc (2 * x))) (omega arith) (omega arith))
 
-    -- a long clause of row i + 1
+    -- a long clause of block i + 1
     flip : (i : ℕ) (b : Bool) → each (suc (suc i)) (λ l. cond (ltb l (suc i)) (− v l) (cond (eqb l (suc i)) (signed b (u (suc i))) (signed b (v (suc i)))) ∷ [])
         ≡ tab i (λ j. − v j) ++ (signed b (u (suc i)) ∷ signed b (v (suc i)) ∷ [])
     flip i b =
@@ -69,25 +69,25 @@ module _ (P : Program) (w : ℕ) where
         both4 (suc i) i ∙ ap (λ (d : Bool). clause4 d 1 (suc i) (suc i) ∷ clause4 d 0 (suc i) (suc i) ∷ []) (le-ltb (suc i) (suc i) (le-refl (suc i)))
         ∙ ap₂ (λ (c d : Clause). c ∷ d ∷ []) (flip i false) (flip i true)
 
-    row4 : (i : ℕ) → row P w 4 a (suc i) ≡ successorAt u v (suc i)
+    block4 : (i : ℕ) → block P w 4 a (suc i) ≡ successorAt u v (suc i)
     unfolding size
-    row4 i =
+    block4 i =
         tab-pairs (suc i) (clauseAt P w 4 a (suc i))
         ∙ ap₂ (λ (xs ys : List Clause). xs ++ ys)
         (each-ext i (λ j. clauseAt P w 4 a (suc i) (suc (2 * pred j)) ∷ clauseAt P w 4 a (suc i) (suc (suc (2 * pred j))) ∷ []) (keepsClauses u v (suc i)) (keeps i)) (flips i)
 
   pub is-group4 : group P w 4 ≡ group4 P w
-  unfolding itemCount rowCount successor
+  unfolding itemCount blockCount successor
   is-group4 =
-      each-ext (P .atoms) (λ a. each w (row P w 4 a)) (λ a. each w (successorAt (nextVar S a) (levelVar S a)))
-      (λ x h. each-ext w (row P w 4 (suc x)) (successorAt (nextVar S (suc x)) (levelVar S (suc x))) (λ i k. row4 (suc x) i))
+      each-ext (P .atoms) (λ a. each w (block P w 4 a)) (λ a. each w (successorAt (nextVar S a) (levelVar S a)))
+      (λ x h. each-ext w (block P w 4 (suc x)) (successorAt (nextVar S (suc x)) (levelVar S (suc x))) (λ i k. block4 (suc x) i))
 
   -- ---- group 5
 
-  chain-row : (z x y : ℕ → ℕ) (i : ℕ)
+  chain-block : (z x y : ℕ → ℕ) (i : ℕ)
       → tab (chainSize (suc i)) (λ c. each (chainSlots (suc i) c) (λ l. chainSlot (z (suc i)) (x (suc i)) (y (suc i)) (z i) (suc i) c l ∷ [])) ≡ chainAt z x y (suc i)
-  chain-row z x y zero = refl
-  chain-row z x y (suc j) =
+  chain-block z x y zero = refl
+  chain-block z x y (suc j) =
       let i = suc (suc j) in
       ap (λ (d : Bool). tab (cond d 3 6) (λ c. each (cond d (cond (eqb c 3) 3 2) 3)
       (λ l. cond d (chainFirst (z i) (x i) (y i) c l) (chainNext (z i) (x i) (y i) (z (suc j)) c l) ∷ []))) (ne-eqb i 1 (λ e. omega arith))
@@ -100,39 +100,39 @@ module _ (P : Program) (w : ℕ) where
     h = pairAt (pairs P) k .head
 
     -- bit i of a chain
-    abbrev bitRow : (ℕ → ℕ) → (ℕ → ℕ) → ℕ → List Clause
-    bitRow z x i = tab (chainSize i) (λ c. each (chainSlots i c) (λ l. chainSlot (z i) (x i) (levelVar S h i) (z (pred i)) i c l ∷ []))
+    abbrev bitBlock : (ℕ → ℕ) → (ℕ → ℕ) → ℕ → List Clause
+    bitBlock z x i = tab (chainSize i) (λ c. each (chainSlots i c) (λ l. chainSlot (z i) (x i) (levelVar S h i) (z (pred i)) i c l ∷ []))
 
-    -- row i, of the first chain or not as d says
-    abbrev row5 : Bool → ℕ → List Clause
-    row5 d i =
+    -- block i, of the first chain or not as d says
+    abbrev block5 : Bool → ℕ → List Clause
+    block5 d i =
         tab (chainSize (cond d i (i - w)))
         (λ c. each (chainSlots (cond d i (i - w)) c)
         (λ l. cond d (chainSlot (belowVar S k i) (levelVar S b i) (levelVar S h i) (belowVar S k (pred i)) i c l)
         (chainSlot (nextBelowVar S k (i - w)) (nextVar S b (i - w)) (levelVar S h (i - w)) (nextBelowVar S k (pred (i - w))) (i - w) c l) ∷ []))
 
-    first-chain : (i : ℕ) → i < w → row P w 5 k (suc i) ≡ chainAt (belowVar S k) (levelVar S b) (levelVar S h) (suc i)
+    first-chain : (i : ℕ) → i < w → block P w 5 k (suc i) ≡ chainAt (belowVar S k) (levelVar S b) (levelVar S h) (suc i)
     unfolding size slots slot
-    first-chain i l = ap (λ (d : Bool). row5 d (suc i)) (le-leb (suc i) w l) ∙ chain-row (belowVar S k) (levelVar S b) (levelVar S h) i
+    first-chain i l = ap (λ (d : Bool). block5 d (suc i)) (le-leb (suc i) w l) ∙ chain-block (belowVar S k) (levelVar S b) (levelVar S h) i
 
-    second-chain : (i : ℕ) → row P w 5 k (w + suc i) ≡ chainAt (nextBelowVar S k) (nextVar S b) (levelVar S h) (suc i)
+    second-chain : (i : ℕ) → block P w 5 k (w + suc i) ≡ chainAt (nextBelowVar S k) (nextVar S b) (levelVar S h) (suc i)
     unfolding size slots slot
     second-chain i =
-        ap (λ (d : Bool). row5 d (w + suc i)) (lt-leb (w + suc i) w (omega arith))
-        ∙ ap (bitRow (nextBelowVar S k) (nextVar S b)) (add-sub w i) ∙ chain-row (nextBelowVar S k) (nextVar S b) (levelVar S h) i
+        ap (λ (d : Bool). block5 d (w + suc i)) (lt-leb (w + suc i) w (omega arith))
+        ∙ ap (bitBlock (nextBelowVar S k) (nextVar S b)) (add-sub w i) ∙ chain-block (nextBelowVar S k) (nextVar S b) (levelVar S h) i
       where
         add-sub : (w i : ℕ) → w + suc i - w ≡ suc i
         add-sub w i = omega arith
 
-    rows5 : each (w + w) (row P w 5 k) ≡ pairClauses S k b h
+    blocks5 : each (w + w) (block P w 5 k) ≡ pairClauses S k b h
     unfolding chain
-    rows5 =
-        each-add w w (row P w 5 k)
+    blocks5 =
+        each-add w w (block P w 5 k)
         ∙ ap₂ (λ (xs ys : List Clause). xs ++ ys)
-        (each-ext w (row P w 5 k) (chainAt (belowVar S k) (levelVar S b) (levelVar S h)) first-chain)
-        (each-ext w (λ i. row P w 5 k (w + i)) (chainAt (nextBelowVar S k) (nextVar S b) (levelVar S h)) (λ i l. second-chain i))
+        (each-ext w (block P w 5 k) (chainAt (belowVar S k) (levelVar S b) (levelVar S h)) first-chain)
+        (each-ext w (λ i. block P w 5 k (w + i)) (chainAt (nextBelowVar S k) (nextVar S b) (levelVar S h)) (λ i l. second-chain i))
 
   pub is-group5 : group P w 5 ≡ group5 P w
-  unfolding itemCount rowCount
+  unfolding itemCount blockCount
   is-group5 =
-      each-ext (pairCount P) (λ k. each (w + w) (row P w 5 k)) (λ k. pairClauses S k (pairAt (pairs P) k .body) (pairAt (pairs P) k .head)) (λ i l. rows5 (suc i))
+      each-ext (pairCount P) (λ k. each (w + w) (block P w 5 k)) (λ k. pairClauses S k (pairAt (pairs P) k .body) (pairAt (pairs P) k .head)) (λ i l. blocks5 (suc i))

@@ -14,7 +14,7 @@ use Rattle.meaning.specs.Program.{Program, ruleAt}
 use Rattle.encoding.specs.Literal.{var, −_, Clause}
 use Rattle.encoding.specs.Variables.{Sizes, bodyVar, foundsVar, levelVar, belowVar, nextBelowVar}
 use Rattle.encoding.specs.Clauses.{sizes, pairsBefore, pairsOf, foundsClauses, lowestClauses, group6}
-use Rattle.clause_walk.specs.Walk.{ruleCount, headOf, positives, signed, two, three, size6, slots6, slot6, itemCount, rowCount, size, slots, slot, row, group}
+use Rattle.clause_walk.specs.Walk.{ruleCount, headOf, positives, signed, two, three, size6, slots6, slot6, itemCount, blockCount, size, slots, slot, block, group}
 use Rattle.clause_walk.proofs.Tabs.{head-is, tab-each, tab-front, map-tab}
 
 module _ (P : Program) (w : ℕ) where
@@ -54,7 +54,7 @@ module _ (P : Program) (w : ℕ) where
         ap₂ (λ (c d : Bool). tested6 b (suc (suc x)) c d (eqb (suc (suc x)) (suc (suc b))) (eqb b 0) (eqb (suc (suc x)) 3))
         (ne-eqb (suc (suc x)) 1 (λ e. omega arith)) (le-leb (suc (suc x)) (suc b) (omega arith))
 
-    -- the literals of b slots behind two, and behind one
+    -- the literals of b slots after two, and after one
     behind-two : (b : ℕ) (f : ℕ → ℕ) → each (suc (suc b)) (λ l. three (var s) (− t) (− f (l - 2)) l ∷ []) ≡ var s ∷ − t ∷ tab b (λ j. − f j)
     behind-two b f =
         each-front (suc b) (λ l. three (var s) (− t) (− f (l - 2)) l ∷ [])
@@ -106,8 +106,8 @@ module _ (P : Program) (w : ℕ) where
     lowest-some : (b : ℕ) → lowestClauses S r h (own (suc b)) ≡ (− t ∷ map (λ j. − nextBelowVar S j w) (own (suc b))) ∷ []
     lowest-some b = ap (lowestClauses S r h) (tab-front b (λ j. k + j)) ∙ ap (λ (js : List ℕ). (− t ∷ map (λ j. − nextBelowVar S j w) js) ∷ []) (sym (tab-front b (λ j. k + j)))
 
-    row6-none : (v : ℕ) → w ≡ suc v → tab (size6 w 0) (clause6 0) ≡ foundsClauses S r (own 0) ++ lowestClauses S r h (own 0)
-    row6-none v e =
+    block6-none : (v : ℕ) → w ≡ suc v → tab (size6 w 0) (clause6 0) ≡ foundsClauses S r (own 0) ++ lowestClauses S r h (own 0)
+    block6-none v e =
         ap (λ (x : ℕ). tab (suc (suc x)) (clause6 0)) e
         ∙ tab-front (suc (suc v)) (clause6 0)
         ∙ ap (λ (zs : List Clause). clause6 0 1 ∷ zs)
@@ -118,8 +118,8 @@ module _ (P : Program) (w : ℕ) where
         (tab-ext v (λ y. clause6 0 (suc (suc (suc y)))) (λ i. − t ∷ − levelVar S h (suc i) ∷ []) (λ x l. clause-bit x)
         ∙ ap (λ (x : ℕ). tab (pred x) (λ i. − t ∷ − levelVar S h (suc i) ∷ [])) (sym e))))
 
-    row6-some : (b : ℕ) → tab (size6 w (suc b)) (clause6 (suc b)) ≡ foundsClauses S r (own (suc b)) ++ lowestClauses S r h (own (suc b))
-    row6-some b =
+    block6-some : (b : ℕ) → tab (size6 w (suc b)) (clause6 (suc b)) ≡ foundsClauses S r (own (suc b)) ++ lowestClauses S r h (own (suc b))
+    block6-some b =
         ap (λ (d : Bool). tab (cond d (suc (suc w)) (suc (suc (suc (suc b))))) (clause6 (suc b))) (ne-eqb (suc b) 0 (λ e. omega arith))
         ∙ tab-front (suc (suc (suc b))) (clause6 (suc b))
         ∙ ap₂ (λ (c : Clause) (zs : List Clause). c ∷ zs) (clause-founds (suc b))
@@ -132,13 +132,13 @@ module _ (P : Program) (w : ℕ) where
         ∙ ap (λ (zs : List Clause). (map (λ j. − s ∷ var (belowVar S j w) ∷ []) (own (suc b)) ++ ((var s ∷ − t ∷ map (λ j. − belowVar S j w) (own (suc b))) ∷ [])) ++ zs)
         (sym (lowest-some b)))
 
-    row6 : 0 < w → (b : ℕ) → tab (size6 w b) (clause6 b) ≡ foundsClauses S r (own b) ++ lowestClauses S r h (own b)
-    row6 p zero = row6-none (pred w) (omega (arith, p))
-    row6 p (suc b) = row6-some b
+    block6 : 0 < w → (b : ℕ) → tab (size6 w b) (clause6 b) ≡ foundsClauses S r (own b) ++ lowestClauses S r h (own b)
+    block6 p zero = block6-none (pred w) (omega (arith, p))
+    block6 p (suc b) = block6-some b
 
   pub is-group6 : 0 < w → group P w 6 ≡ group6 P w
-  unfolding itemCount rowCount size slots slot
+  unfolding itemCount blockCount size slots slot
   is-group6 p =
-      each-ext (ruleCount P) (λ r. row P w 6 r 1) (λ r. foundsClauses S r (pairsOf P r) ++ lowestClauses S r (ruleAt (P .rules) r .head) (pairsOf P r))
-      (λ i l. row6 (suc i) (headOf P (suc i)) (pairsBefore P (suc i)) p (positives P (suc i))
+      each-ext (ruleCount P) (λ r. block P w 6 r 1) (λ r. foundsClauses S r (pairsOf P r) ++ lowestClauses S r (ruleAt (P .rules) r .head) (pairsOf P r))
+      (λ i l. block6 (suc i) (headOf P (suc i)) (pairsBefore P (suc i)) p (positives P (suc i))
       ∙ ap (λ (h : ℕ). foundsClauses S (suc i) (pairsOf P (suc i)) ++ lowestClauses S (suc i) h (pairsOf P (suc i))) (head-is (P .rules) (suc i)))

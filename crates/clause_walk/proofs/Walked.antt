@@ -6,7 +6,7 @@ use mathlib.Core.List.{_++_, append-assoc, append-nil}
 use Rattle.meaning.specs.Program.{Program}
 use Rattle.encoding.specs.Clauses.{clauses}
 use Rattle.clause_walk.specs.Walk.{walked}
-use Rattle.clause_walk.proofs.Rows.{is-group1, is-group2, is-group3, is-group7}
+use Rattle.clause_walk.proofs.Blocks.{is-group1, is-group2, is-group3, is-group7}
 use Rattle.clause_walk.proofs.Bits.{is-group4, is-group5}
 use Rattle.clause_walk.proofs.Lowest.{is-group6}
 

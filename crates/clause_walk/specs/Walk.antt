@@ -1,13 +1,13 @@
--- The clause list as a walk: groups 1 to 7, in each its items (rules, atoms or pairs), in an item its rows, in a row its clauses, in a clause its
+-- The clause list as a walk: groups 1 to 7, in each its items (rules, atoms or pairs), in an item its blocks, in a block its clauses, in a clause its
 -- slots, each from 1; a slot holds a literal or none. Code goes from place to place by these numbers and stores no clause.
 --   itemCount P g            how many items group g has
---   rowCount P w g           how many rows an item of group g has
---   size P w g a i           how many clauses row i of item a has
---   slots P w g a i y        how many slots clause y of that row has
+--   blockCount P w g         how many blocks an item of group g has
+--   size P w g a i           how many clauses block i of item a has
+--   slots P w g a i y        how many slots clause y of that block has
 --   slot P w g a i y l       the literal in slot l of that clause, if there is one
 --   walked P w               all clauses, in the walk's order
---   RowAt P w g a i          group g has an item a, with a row i
---   At P w g a i y           and that row has a clause y
+--   BlockAt P w g a i        group g has an item a, with a block i
+--   At P w g a i y           and that block has a clause y
 -- Assumes nothing.
 use Prim.Native.Nat.{ℕ, suc, pred, _+_, _-_, _*_, _/_, _%_, _≤_, _<_}
 use mathlib.Core.Bool.{Bool, cond}
@@ -56,7 +56,7 @@ two x y l = cond (eqb l 1) x y
 abbrev pub three : Literal → Literal → Literal → ℕ → Literal
 three x y z l = cond (eqb l 1) x (cond (eqb l 2) y z)
 
--- behind the first slot, the variable v of rule l − 1 if a is its head
+-- after the first slot, the variable v of rule l − 1 if a is its head
 abbrev pub ofHead : List ℕ → ℕ → (ℕ → ℕ) → ℕ → List Literal
 ofHead hs a v l = cond (eqb l 1) (− a ∷ []) (cond (eqb (headAt hs (pred l)) a) (var (v (pred l)) ∷ []) [])
 
@@ -79,7 +79,7 @@ abbrev pub slot1 : Sizes → ℕ → List ℕ → ℕ → ℕ → ℕ → Litera
 slot1 S r bs p y l =
     cond (leb y (length bs)) (two (− bodyVar S r) (bodyLiteral bs p y) l) (cond (eqb l 1) (var (bodyVar S r)) (bodyOpposite bs p (pred l)))
 
--- ---- group 2, atom a: row i for rule i, with a clause if a is its head; then the last row
+-- ---- group 2, atom a: block i for rule i, with a clause if a is its head; then the last block
 
 abbrev pub size2 : Program → ℕ → ℕ → ℕ
 size2 P a i = cond (leb i (ruleCount P)) (cond (eqb (headOf P i) a) 1 0) 1
@@ -99,7 +99,7 @@ slot2 P w a i l =
 abbrev pub slot3 : Sizes → ℕ → ℕ → ℕ → Literal
 slot3 S a y l = two (var a) (− levelVar S a y) l
 
--- ---- group 4, atom a: row i for bit i, two clauses for each j from 1 to i; those with j = i are the long ones
+-- ---- group 4, atom a: block i for bit i, two clauses for each j from 1 to i; those with j = i are the long ones
 
 -- j of clause y, and whether it is the first or the second of its two
 abbrev pub bitOf : ℕ → ℕ
@@ -120,7 +120,7 @@ slot4 S a i y l =
     (three (var (levelVar S a (bitOf y))) (signed (isSecond y) (nextVar S a i)) (signed (isFirst y) (levelVar S a i)) l)
     (cond (ltb l i) (− levelVar S a l) (cond (eqb l i) (signed (isSecond y) (nextVar S a i)) (signed (isSecond y) (levelVar S a i))))
 
--- ---- group 5, pair k: row i for bit i of the first chain, row w + i for bit i of the second
+-- ---- group 5, pair k: block i for bit i of the first chain, block w + i for bit i of the second
 
 abbrev pub chainSize : ℕ → ℕ
 chainSize i = cond (eqb i 1) 3 6
@@ -143,7 +143,7 @@ chainNext z x y g c l =
 abbrev pub chainSlot : ℕ → ℕ → ℕ → ℕ → ℕ → ℕ → ℕ → Literal
 chainSlot z x y g i c l = cond (eqb i 1) (chainFirst z x y c l) (chainNext z x y g c l)
 
--- the bit of row i
+-- the bit of block i
 abbrev pub chainBit : ℕ → ℕ → ℕ
 chainBit w i = cond (leb i w) i (i - w)
 
@@ -154,7 +154,7 @@ slot5 S k b h i y l =
     (chainSlot (belowVar S k i) (levelVar S b i) (levelVar S h i) (belowVar S k (pred i)) i y l)
     (chainSlot (nextBelowVar S k (i - S .w)) (nextVar S b (i - S .w)) (levelVar S h (i - S .w)) (nextBelowVar S k (pred (i - S .w))) (i - S .w) y l)
 
--- ---- group 6, rule r with b pairs behind k others and the head h: clause 1, b clauses, the long one, and the last ones
+-- ---- group 6, rule r with b pairs after k others and the head h: clause 1, b clauses, the long one, and the last ones
 
 abbrev pub size6 : ℕ → ℕ → ℕ
 size6 w b = cond (eqb b 0) (suc (suc w)) (suc (suc (suc b)))
@@ -176,8 +176,8 @@ slot6 S r h k b y l =
 unfoldable pub itemCount : Program → ℕ → ℕ
 itemCount P g = cond (eqb g 1) (ruleCount P) (cond (eqb g 5) (pairCount P) (cond (eqb g 6) (ruleCount P) (P .atoms)))
 
-unfoldable pub rowCount : Program → ℕ → ℕ → ℕ
-rowCount P w g = cond (eqb g 2) (suc (ruleCount P)) (cond (eqb g 4) w (cond (eqb g 5) (w + w) 1))
+unfoldable pub blockCount : Program → ℕ → ℕ → ℕ
+blockCount P w g = cond (eqb g 2) (suc (ruleCount P)) (cond (eqb g 4) w (cond (eqb g 5) (w + w) 1))
 
 unfoldable pub size : Program → ℕ → ℕ → ℕ → ℕ → ℕ
 size P w g a i =
@@ -204,26 +204,26 @@ slot P w g a i y l =
 abbrev pub clauseAt : Program → ℕ → ℕ → ℕ → ℕ → ℕ → Clause
 clauseAt P w g a i y = each (slots P w g a i y) (slot P w g a i y)
 
-abbrev pub row : Program → ℕ → ℕ → ℕ → ℕ → List Clause
-row P w g a i = tab (size P w g a i) (clauseAt P w g a i)
+abbrev pub block : Program → ℕ → ℕ → ℕ → ℕ → List Clause
+block P w g a i = tab (size P w g a i) (clauseAt P w g a i)
 
 abbrev pub group : Program → ℕ → ℕ → List Clause
-group P w g = each (itemCount P g) (λ a. each (rowCount P w g) (row P w g a))
+group P w g = each (itemCount P g) (λ a. each (blockCount P w g) (block P w g a))
 
 unfoldable pub walked : Program → ℕ → List Clause
 walked P w = each 7 (group P w)
 
 -- ---- the places
 
-pub record RowAt (P : Program) (w g a i : ℕ) : Type 0 where
+pub record BlockAt (P : Program) (w g a i : ℕ) : Type 0 where
   pub group-some : 0 < g
   pub group-in : g ≤ 7
   pub item-some : 0 < a
   pub item-in : a ≤ itemCount P g
-  pub row-some : 0 < i
-  pub row-in : i ≤ rowCount P w g
+  pub block-some : 0 < i
+  pub block-in : i ≤ blockCount P w g
 
 pub record At (P : Program) (w g a i y : ℕ) : Type 0 where
-  pub row-at : RowAt P w g a i
+  pub block-at : BlockAt P w g a i
   pub clause-some : 0 < y
   pub clause-in : y ≤ size P w g a i

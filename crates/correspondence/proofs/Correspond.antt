@@ -34,7 +34,7 @@ use Rattle.theory.proofs.Base as Base
 use Rattle.theory.proofs.Widths.{width-enough}
 use Rattle.text.specs.Limits.{Admitted}
 use Rattle.reader_laws.proofs.Unique.{text-unique}
-use Rattle.answer_form.specs.Reading.{Spotted, spotsOf}
+use Rattle.answer_form.specs.Pieces.{Spotted, spotsOf}
 use Rattle.answer_offers.specs.Offered.{valueBytes, valuesOf, literalsFor, offered, offeredText}
 use Rattle.answer_values.specs.Rows.{AllFit}
 use Rattle.answer_offers.proofs.Values.{values-length}

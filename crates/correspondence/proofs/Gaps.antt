@@ -22,11 +22,11 @@ use Rattle.theory.proofs.Atoms.{by-place}
 use Rattle.theory.proofs.Base as Base
 use Rattle.theory.proofs.Widths.{width-enough}
 use Rattle.text.specs.Limits.{Admitted}
-use Rattle.answer_form.specs.Reading.{Spotted}
+use Rattle.answer_form.specs.Pieces.{Spotted}
 use Rattle.answer_offers.specs.Offered.{valueBytes, valuesOf}
 use Rattle.truth_clauses.specs.Truth.{valueIn}
 use Rattle.level_stages.specs.Levels.{setIn}
-use Rattle.call_results.specs.Results.{levelIn, varTotal}
+use Rattle.call_results.specs.Results.{levelByte, varTotal}
 use Rattle.call_results.proofs.ValueBytes.{value-same, atoms-within, value-here, level-here}
 use Rattle.call_check.specs.declared.CheckVerdict.the-variants.{Model}
 use Rattle.call_check.specs.Check.{checkAnswer, checkAssignment, checkLevels}
@@ -39,7 +39,7 @@ use Rattle.call_fill.specs.Rows.{Fills}
 use Rattle.call_fill.proofs.Written.{fill-accepted}
 use Rattle.correspondence.proofs.Correspond.{shows-accepted, accepted-true, accepted-stable, check-writes}
 
--- bs are the values of the stable model M: c holds them and m the level numbers, and behind them any bytes
+-- bs are the values of the stable model M: c holds them and m the level numbers, and after them any bytes
 module _ (P : Program) (form : So (wellFormed P)) (M : Atoms) (σ : Stable P M) (bs : List Bool) (size : length bs ≡ varTotal P) (has : trueAtoms P bs ≡ M) where
   abbrev n : ℕ
   n = P .atoms
@@ -51,17 +51,17 @@ module _ (P : Program) (form : So (wellFormed P)) (M : Atoms) (σ : Stable P M) 
         (λ a h. ap (λ (vs : List ℕ). valueIn vs (suc a)) values-are
         ∙ value-here (valueBytes bs) x a (omega (arith, h, atoms-within P, size, length-map {B = ℕ} bs (λ b. cond b 1 0))) ∙ value-same bs (suc a))
 
-    pub level-in : (a : ℕ) → So (isAtom n a) → levelIn m a ≡ level P M a
-    level-in a i = ap (λ (ls : List ℕ). levelIn ls a) levels-are ∙ level-here n (level P M) y a i
+    pub level-in : (a : ℕ) → So (isAtom n a) → levelByte m a ≡ level P M a
+    level-in a i = ap (λ (ls : List ℕ). levelByte ls a) levels-are ∙ level-here n (level P M) y a i
 
-    gaps-written : {k h : ℕ} → k ≡ sum n (λ a. cond (M a) 1 0) → h ≡ highest n (level P M) → WithoutGaps (setIn n c) (levelIn m) k h
+    gaps-written : {k h : ℕ} → k ≡ sum n (λ a. cond (M a) 1 0) → h ≡ highest n (level P M) → WithoutGaps (setIn n c) (levelByte m) k h
     gaps-written {k} {h} count-is highest-is =
         record { each-level = λ i p l. at i (g .each-level i p (omega (arith, l, highest-is))); at-most = omega (arith, count-is, highest-is, g .at-most) }
       where
         g : WithoutGaps M (level P M) (sum n (λ a. cond (M a) 1 0)) (highest n (level P M))
         g = Base.level-gaps P form M σ
 
-        at : (i : ℕ) → (a : ℕ) × So (M a) × (level P M a ≡ i) → (a : ℕ) × So (setIn n c a) × (levelIn m a ≡ i)
+        at : (i : ℕ) → (a : ℕ) × So (M a) × (level P M a ≡ i) → (a : ℕ) × So (setIn n c a) × (levelByte m a ≡ i)
         at i (a, t, e) =
             let u = subst (λ (X : Atoms). So (X a)) (sym has) t in
             let v = and-left (isAtom n a) (valueOf bs a) u in
@@ -71,7 +71,7 @@ module _ (P : Program) (form : So (wellFormed P)) (M : Atoms) (σ : Stable P M) 
 
 -- for the program of t, with the assignment c and the levels m, k true atoms and the highest level h
 abbrev InBytes : (t c m : List ℕ) → ℕ → ℕ → Type 0
-InBytes t c m k h = (P : Program) × Admitted t P × WithoutGaps (setIn (P .atoms) c) (levelIn m) k h
+InBytes t c m k h = (P : Program) × Admitted t P × WithoutGaps (setIn (P .atoms) c) (levelByte m) k h
 
 pub check-gaps : (t u b l : List ℕ) (k h c : ℕ) → checkAnswer t u (length b) (length l) ≡ Model k h c
     → InBytes t (checkAssignment t u b (length l)) (checkLevels t u (length b) l) k h

@@ -21,14 +21,14 @@ use Rattle.encoding.specs.Clauses.{sizes}
 use Rattle.encoding.specs.Fill.{trueAtoms, counter}
 use Rattle.theory.proofs.Base as Base
 use Rattle.digits.specs.Bytes.{lineText}
-use Rattle.reader.specs.declared.Reading.{Reading}
+use Rattle.reader.specs.declared.ReadResult.{ReadResult}
 use Rattle.reader.specs.declared.ReadVerdict.the-variants.{Accepted}
 use Rattle.reader.specs.Verdict.{readOf}
 use Rattle.text.specs.Limits.{Admitted}
 use Rattle.call_laws.proofs.Texts.{one-admitted}
 use Rattle.reader_laws.proofs.Rows.{accepted-none}
 use Rattle.reader_laws.proofs.Contents.{admitted-answer}
-use Rattle.answer_form.specs.Reading.{Spotted}
+use Rattle.answer_form.specs.Pieces.{Spotted}
 use Rattle.answer_offers.specs.Offered.{valuesOf}
 use Rattle.answer_values.specs.Rows.{AllFit}
 use Rattle.clause_runs.specs.Lines.{clauseTotal, lineOf}
@@ -38,7 +38,7 @@ use Rattle.call_lines.proofs.Rows.{none-written}
 use Rattle.call_lines.proofs.Calls.{line-writes}
 use Rattle.call_lines.proofs.File as File
 use Rattle.level_stages.specs.Levels.{setIn}
-use Rattle.call_results.specs.Results.{levelIn, varTotal}
+use Rattle.call_results.specs.Results.{levelByte, varTotal}
 use Rattle.call_results.proofs.ValueBytes.{level-here}
 use Rattle.call_check.specs.Check.{checkLevels}
 use Rattle.call_check.specs.Rows.{Offers, clauseOf, clauseNumber, Accepts}
@@ -67,7 +67,7 @@ module _ (t : List ℕ) (P : Program) (A : Admitted t P) where
   -- ---- lines
 
   accepted : readOf t .verdict ≡ Accepted
-  accepted = ap (λ (x : Reading). x .verdict) (admitted-answer t P A)
+  accepted = ap (λ (x : ReadResult). x .verdict) (admitted-answer t P A)
 
   same : (Q : Program) → Admitted t Q → Q ≡ P
   same Q B = one-admitted A B
@@ -98,10 +98,10 @@ module _ (t : List ℕ) (P : Program) (A : Admitted t P) where
   module _ (bs : List Bool) (X : AcceptedAssignment t P bs) where
     pub level-bytes : (b l : List ℕ) → Room P b l → (a : ℕ) → So (isAtom n a)
         → (counter (sizes P (width n)) (valueOf bs) a ≡ level P (trueAtoms P bs) a)
-        × (levelIn (checkLevels t (X .answer) (length b) l) a ≡ level P (trueAtoms P bs) a)
+        × (levelByte (checkLevels t (X .answer) (length b) l) a ≡ level P (trueAtoms P bs) a)
     level-bytes b l r a i = (
       accepted-counter t P A bs X a i,
-      ap (λ (ls : List ℕ). levelIn ls a) (check-writes t P A bs X b l r .levels-are) ∙ level-here n (level P (trueAtoms P bs)) (drop n l) a i,
+      ap (λ (ls : List ℕ). levelByte ls a) (check-writes t P A bs X b l r .levels-are) ∙ level-here n (level P (trueAtoms P bs)) (drop n l) a i,
     )
 
     pub level-of-false : (a : ℕ) → trueAtoms P bs a ≡ false → level P (trueAtoms P bs) a ≡ 0

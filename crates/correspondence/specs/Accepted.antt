@@ -14,7 +14,7 @@ use Rattle.lists.specs.Lists.{tab, sum, highest as highestOf}
 use Rattle.meaning.specs.Program.{Program, Atoms}
 use Rattle.meaning.specs.Stage.{level}
 use Rattle.encoding.specs.Fill.{trueAtoms}
-use Rattle.answer_form.specs.Reading.{Spotted}
+use Rattle.answer_form.specs.Pieces.{Spotted}
 use Rattle.answer_offers.specs.Offered.{valueBytes, valuesOf}
 use Rattle.level_stages.specs.Levels.{setIn}
 use Rattle.call_check.specs.declared.CheckVerdict.the-variants.{Model}
@@ -38,7 +38,7 @@ pub record Room (P : Program) (b l : List ℕ) : Type 0 where
   pub levels : P .atoms ≤ length l
 
 -- the check of an answer with the accepted assignment bs: how many atoms are true, the highest level number, how many variables the answer leaves out, the
--- values and the level numbers; the bytes behind them stay
+-- values and the level numbers; the bytes after them stay
 pub record CheckWrites (t : List ℕ) (P : Program) (bs : List Bool) (X : AcceptedAssignment t P bs) (b l : List ℕ) : Type 0 where
   pub answer-is : checkAnswer t (X .answer) (length b) (length l)
       ≡ Model (sum (P .atoms) (λ a. cond (trueAtoms P bs a) 1 0)) (highestOf (P .atoms) (level P (trueAtoms P bs))) (assumedNumber P (X .literals))

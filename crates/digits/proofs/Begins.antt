@@ -1,12 +1,12 @@
--- A buffer e that begins with a text p of `to` bytes and is behind it as `before` was.
+-- A buffer e that begins with a text p of `to` bytes and is after it as `before` was.
 --   Begins before e p to    that this is so
 --   begins-none, begins-word    nothing was written yet; a text was written at the front
 --   begins-same             the same text, named otherwise
 --   begins-more             a text was written into the lent tail
---   begins-byte             a byte was written behind p
---   begins-copy, copy-whole    a byte of a word was copied behind those before it; all were
+--   begins-byte             a byte was written after p
+--   begins-copy, copy-whole    a byte of a word was copied after those before it; all were
 --   begins-room, begins-tail    where there is room for p and x, p ends within the buffer and x fits into the tail
---   begins-sum              the place behind p and x, where both have at most n bytes
+--   begins-sum              the place after p and x, where both have at most n bytes
 --   front-fits              the front of a text of at most n bytes
 --   begins-whole            the place and the bytes, as a contract has them
 -- Assumes nothing.

@@ -1,6 +1,6 @@
 -- The digits of a number in a buffer b, store by store, and the text of a literal by its sign.
 --   first-digit    the only digit of a number below 10, at place 0
---   next-digit     the last digit of a number n, behind those of m, a tenth of n
+--   next-digit     the last digit of a number n, after those of m, a tenth of n
 --   digits-room    there is room for the digits of a number from 10 ^ k on
 --   text-positive, text-negative    a literal by its sign and magnitude
 -- Assumes nothing.

@@ -2,7 +2,7 @@
 --   literalText x     the literal x: the digits of its variable's number, byte 45 before them when it is negative
 --   literalsText c    the literals of c, each followed by one space
 --   lineText c        the line of clause c: its literals, each followed by one space, then 0 and byte 10
---   Wrote s b e r     e is the buffer b with the text s at its front, of r bytes; the bytes behind it stay
+--   Wrote s b e r     e is the buffer b with the text s at its front, of r bytes; the bytes after it stay
 -- Assumes nothing.
 use Prim.Native.Nat.{ℕ, suc}
 use mathlib.Core.Path.{_≡_}

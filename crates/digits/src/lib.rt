@@ -8,7 +8,7 @@ ghost use lib.IntN.{natAbs};
 ghost use lib.ListN.{length, drop};
 ghost use Rattle.text.specs.Decimal.{decimal};
 ghost use Rattle.digits.specs.Bytes.{literalText};
-ghost use Rattle.digits.specs.Numerals.{sizeOf, numeralOf, numeralText};
+ghost use Rattle.digits.specs.Digits.{digitCount, digitsOf, digitsText};
 
 // The last decimal digit of n, as a byte.
 fn digit(n: usize) -> u8
@@ -57,7 +57,7 @@ fn put_large(n: usize, buf: &mut [u8]) -> usize
     k + 1
 }
 
-// The same, without recursion for numbers of up to four digits.
+// Writes n in decimal at the front of the buffer, without recursion where it has up to four digits, and returns how many bytes it has.
 pub fn put_decimal(n: usize, buf: &mut [u8]) -> usize
     requires { ⌜ length (decimal n) ≤ length (now buf) ⌝ }
     ensures { λ r. ⌜ (r ≡ length (decimal n)) × (now (buf .exit) ≡ decimal n ++ drop r (now (buf .entry))) ⌝ }
@@ -92,12 +92,12 @@ pub fn put_literal(x: i32, buf: &mut [u8]) -> usize
 }
 
 // The digits of a number below 10,000, as bytes, 0 before the first, and how many it has.
-pub struct Numeral {
+pub struct Digits {
     pub a: u8,
     pub b: u8,
     pub c: u8,
     pub d: u8,
-    pub size: u8,
+    pub count: u8,
 }
 
 // The digit n as a byte.
@@ -109,8 +109,8 @@ fn byte(n: u16) -> u8
 }
 
 // How many digits n has, below 10,000.
-fn size_of(n: u16) -> u8
-    ensures { λ r. ⌜ r ≡ sizeOf n ⌝ }
+fn digit_count(n: u16) -> u8
+    ensures { λ r. ⌜ r ≡ digitCount n ⌝ }
 {
     if 999 < n {
         return 4;
@@ -125,27 +125,27 @@ fn size_of(n: u16) -> u8
 }
 
 // The digits of n, so that they are found once and written often.
-pub fn numeral_of(n: u16) -> Numeral
+pub fn digits_of(n: u16) -> Digits
     requires { ⌜ n < 10000 ⌝ }
-    ensures { λ r. ⌜ r ≡ numeralOf n ⌝ }
+    ensures { λ r. ⌜ r ≡ digitsOf n ⌝ }
 {
     let q = n / 100;
     let r = n % 100;
-    Numeral {
+    Digits {
         a: byte(q / 10),
         b: byte(q % 10),
         c: byte(r / 10),
         d: byte(r % 10),
-        size: size_of(n),
+        count: digit_count(n),
     }
 }
 
 // Writes the digits and one space at the front of the buffer and returns how many bytes they are.
-pub fn put_numeral(x: Numeral, buf: &mut [u8]) -> usize
-    requires { ⌜ length (numeralText x) ≤ length (now buf) ⌝ }
-    ensures { λ r. ⌜ (r ≡ length (numeralText x)) × (now (buf .exit) ≡ numeralText x ++ drop r (now (buf .entry))) ⌝ }
+pub fn put_digits(x: Digits, buf: &mut [u8]) -> usize
+    requires { ⌜ length (digitsText x) ≤ length (now buf) ⌝ }
+    ensures { λ r. ⌜ (r ≡ length (digitsText x)) × (now (buf .exit) ≡ digitsText x ++ drop r (now (buf .entry))) ⌝ }
 {
-    if x.size == 4 {
+    if x.count == 4 {
         buf[0] = x.a;
         buf[1] = x.b;
         buf[2] = x.c;
@@ -153,14 +153,14 @@ pub fn put_numeral(x: Numeral, buf: &mut [u8]) -> usize
         buf[4] = 32;
         return 5;
     }
-    if x.size == 3 {
+    if x.count == 3 {
         buf[0] = x.b;
         buf[1] = x.c;
         buf[2] = x.d;
         buf[3] = 32;
         return 4;
     }
-    if x.size == 2 {
+    if x.count == 2 {
         buf[0] = x.c;
         buf[1] = x.d;
         buf[2] = 32;

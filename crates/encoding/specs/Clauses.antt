@@ -95,7 +95,7 @@ pairs P = each (length (P .rules)) (λ r. pairsWith (ruleAt (P .rules) r .head) 
 abbrev pub pairCount : Program → ℕ
 pairCount P = length (pairs P)
 
--- the pairs of rule r stand behind those of the rules before it
+-- the pairs of rule r stand after those of the rules before it
 unfoldable pub pairsBefore : Program → ℕ → ℕ
 pairsBefore P r = sum (pred r) (λ q. length (ruleAt (P .rules) q .positive))
 

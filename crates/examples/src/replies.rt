@@ -10,7 +10,7 @@ pub fn print_accepted(first: usize, second: usize) {
     print_number(second);
 }
 
-// Prints a further number behind a space.
+// Prints a further number after a space.
 pub fn print_further(number: usize) {
     io::write_all(1, b" ");
     print_number(number);
@@ -24,7 +24,7 @@ pub fn print_refused(number: u8, spot: usize) {
     print_number(spot);
 }
 
-// Prints a buffer behind a space.
+// Prints a buffer after a space.
 pub fn print_buffer(buf: &[u8]) {
     io::write_all(1, b" ");
     print_bytes(buf);

@@ -4,7 +4,7 @@ use Prim.Native.Nat.{ℕ}
 use mathlib.Core.Path.{_≡_, sym, _∙_, ap, ap₂}
 use mathlib.Core.List.{List}
 use Rattle.meaning.specs.Program.{Program}
-use Rattle.reader.specs.declared.Reading.{Reading}
+use Rattle.reader.specs.declared.ReadResult.{ReadResult}
 use Rattle.reader.specs.declared.ReadVerdict.{ReadVerdict}
 use Rattle.reader.specs.Verdict.{readOf}
 use Rattle.program.specs.Arrays.{decoded}
@@ -24,8 +24,8 @@ pub totalled : (P : Program) {t : Totals} {r : Reply} → t ≡ totalsOf P → r
 unfolding totalsOf
 totalled P e q = q ∙ ap (λ (x : Totals). acceptedReply (x .vars) (x .clauses) 0) e
 
-module _ (t : List ℕ) {x : Reading} (e : x ≡ readOf t) {r : Reply} where
+module _ (t : List ℕ) {x : ReadResult} (e : x ≡ readOf t) {r : Reply} where
   pub reading-told : {v : ReadVerdict} → x .verdict ≡ v → r ≡ ofReading v (decoded (x .program)) → r ≡ readReply t
   unfolding readReply
   reading-told q h =
-      told (λ (v : ReadVerdict). ofReading v (decoded (x .program))) q h ∙ ap (λ (y : Reading). ofReading (y .verdict) (decoded (y .program))) e
+      told (λ (v : ReadVerdict). ofReading v (decoded (x .program))) q h ∙ ap (λ (y : ReadResult). ofReading (y .verdict) (decoded (y .program))) e

@@ -12,7 +12,7 @@ pub struct Front {
     pub ended: bool,
 }
 
-// The same after one read more, which gave n bytes. A read that gives none is the end of the input.
+// The front of an input after one read more, which gave n bytes. A read that gives none is the end of the input.
 pub fn read_on(f: Front, n: usize) -> Front
     requires { ⌜ n ≤ 65536 ⌝ }
     ensures { λ r. ⌜ r ≡ readOn f n ⌝ }
@@ -56,7 +56,7 @@ pub fn read_open(fd: i32, buf: &mut [u8]) -> Front
     f
 }
 
-// The same for the file of that name. One that cannot be opened reads as no bytes.
+// Puts the front of the file named `path` into buf, and reads the rest to count it. A file that cannot be opened reads as no bytes.
 pub fn read_file(path: &[u8], buf: &mut [u8]) -> Front
     requires { ⌜ length (now buf) ≤ 65537 ⌝ }
     ensures { λ r. ⌜ (Counts (r .kept) (now (buf .exit))) × (Counted r) ⌝ }

@@ -27,7 +27,7 @@ use Rattle.clause_tables.specs.declared.Totals.{Totals}
 use Rattle.clause_tables.specs.Tables.{Tabled}
 use Rattle.clause_table_laws.proofs.Elements.{pairs-fit, rules-are, atoms-are, width-are, pairs-are, vars-are, all-fit, partner-is, owner-is, partners-length, owners-length}
 use Rattle.truth_clauses.specs.Truth.{valueIn}
-use Rattle.level_stages.specs.Levels.{setIn, levelAt}
+use Rattle.level_stages.specs.Levels.{setIn, levelByte}
 use Rattle.level_stages.proofs.Rules.{set-is, none-is, all-is}
 use Rattle.level_stages.proofs.OneRound.{tab-byte}
 use Rattle.answer_offers.specs.Offered.{valueBytes}
@@ -48,14 +48,14 @@ module _ {n : ℕ} {R : Rule} (I : RuleIn n R) (s : List ℕ) {u : Bool} (e : u 
       ∙ sym (ap (λ (b : Bool). b && noneIn (setIn n s) (R .negative)) (sym (all-is n s (R .positive) (I .positive-in)) ∙ sym e ∙ z))
 
 module _ (M : Atoms) (ls : List ℕ) (R : Rule) {u : Bool} (e : u ≡ bodyTrue M R) where
-  pub founds-unmet : u ≡ false → false ≡ founds M (levelAt ls) R (R .positive)
-  founds-unmet z = sym (ap (λ (b : Bool). b && all (λ b. ltb (levelAt ls b) (levelAt ls (R .head))) (R .positive)) (sym e ∙ z))
+  pub founds-unmet : u ≡ false → false ≡ founds M (levelByte ls) R (R .positive)
+  founds-unmet z = sym (ap (λ (b : Bool). b && all (λ b. ltb (levelByte ls b) (levelByte ls (R .head))) (R .positive)) (sym e ∙ z))
 
-  pub founds-is : {v : Bool} {h y : ℕ} → u ≡ true → h ≡ R .head → y ≡ levelAt ls h → v ≡ all (λ b. ltb (levelAt ls b) y) (R .positive)
-      → v ≡ founds M (levelAt ls) R (R .positive)
+  pub founds-is : {v : Bool} {h y : ℕ} → u ≡ true → h ≡ R .head → y ≡ levelByte ls h → v ≡ all (λ b. ltb (levelByte ls b) y) (R .positive)
+      → v ≡ founds M (levelByte ls) R (R .positive)
   founds-is z q l f =
-      f ∙ ap (λ (y : ℕ). all (λ b. ltb (levelAt ls b) y) (R .positive)) (l ∙ ap (levelAt ls) q)
-      ∙ sym (ap (λ (b : Bool). b && all (λ b. ltb (levelAt ls b) (levelAt ls (R .head))) (R .positive)) (sym e ∙ z))
+      f ∙ ap (λ (y : ℕ). all (λ b. ltb (levelByte ls b) y) (R .positive)) (l ∙ ap (levelByte ls) q)
+      ∙ sym (ap (λ (b : Bool). b && all (λ b. ltb (levelByte ls b) (levelByte ls (R .head))) (R .positive)) (sym e ∙ z))
 
 -- rule k + 1, whose test is x and its byte v
 pub rule-row : (p : ℕ → Bool) (k : ℕ) {x : Bool} {v : ℕ} → x ≡ p (k + 1) → v ≡ byteOf x → v ≡ byteOf (p (suc k))
@@ -112,35 +112,35 @@ module _ {P : Program} {t : Totals} {hs ss bs ks xs ys : List ℕ} (T : Tabled P
     owner-fits ls l e = has-byte ls l (head-of e) (pair-atoms (t .sizes .n) P fit k inside .1)
 
     -- x and y are the levels of its body atom b and its head a
-    pub pair-row : (w : ℕ) (ls : List ℕ) {a b x y : ℕ} → b ≡ getD xs (k + 1 - 1) 0 → x ≡ levelAt ls b → a ≡ getD ys (k + 1 - 1) 0 → y ≡ levelAt ls a
-        → pairBytes w x y ≡ pairAtBytes P w (levelAt ls) (k + 1)
+    pub pair-row : (w : ℕ) (ls : List ℕ) {a b x y : ℕ} → b ≡ getD xs (k + 1 - 1) 0 → x ≡ levelByte ls b → a ≡ getD ys (k + 1 - 1) 0 → y ≡ levelByte ls a
+        → pairBytes w x y ≡ pairAtBytes P w (levelByte ls) (k + 1)
     pair-row w ls e f g l =
-        ap₂ (pairBytes w) (f ∙ ap (levelAt ls) (body-of e ∙ ap (λ (j : ℕ). pairAt (pairs P) j .body) (sym (add-one k))))
-        (l ∙ ap (levelAt ls) (head-of g ∙ ap (λ (j : ℕ). pairAt (pairs P) j .head) (sym (add-one k))))
+        ap₂ (pairBytes w) (f ∙ ap (levelByte ls) (body-of e ∙ ap (λ (j : ℕ). pairAt (pairs P) j .body) (sym (add-one k))))
+        (l ∙ ap (levelByte ls) (head-of g ∙ ap (λ (j : ℕ). pairAt (pairs P) j .head) (sym (add-one k))))
 
   -- ---- all families, with w the width
   module _ (s ls : List ℕ) {w : ℕ} (q : w ≡ t .sizes .w) where
     abbrev M : Atoms
     M = setIn (t .sizes .n) s
 
-    families-are : valueBytes (filledWith P (t .sizes .w) M (levelAt ls)) ≡ each 6 (familyBytes P (t .sizes .n) w M (levelAt ls))
+    families-are : valueBytes (filledWith P (t .sizes .w) M (levelByte ls)) ≡ each 6 (familyBytes P (t .sizes .n) w M (levelByte ls))
     families-are =
-        values-are P (t .sizes .w) M (levelAt ls)
-        ∙ ap₂ (λ (n v : ℕ). each 6 (familyBytes P n v M (levelAt ls))) (sym (atoms-are P t hs ss bs ks xs ys T)) (sym q)
+        values-are P (t .sizes .w) M (levelByte ls)
+        ∙ ap₂ (λ (n v : ℕ). each 6 (familyBytes P n v M (levelByte ls))) (sym (atoms-are P t hs ss bs ks xs ys T)) (sym q)
 
-    families-length : length (each 6 (familyBytes P (t .sizes .n) w M (levelAt ls))) ≡ t .vars
+    families-length : length (each 6 (familyBytes P (t .sizes .n) w M (levelByte ls))) ≡ t .vars
     families-length =
-        ap length (sym families-are) ∙ values-length P (t .sizes .w) M (levelAt ls) ∙ ap (variables P) (width-are P t hs ss bs ks xs ys T)
+        ap length (sym families-are) ∙ values-length P (t .sizes .w) M (levelByte ls) ∙ ap (variables P) (width-are P t hs ss bs ks xs ys T)
         ∙ sym (vars-are P t hs ss bs ks xs ys T)
 
-    -- family k + 1 behind the first k
+    -- family k + 1 after the first k
     pub family-room : (b : List ℕ) → t .vars ≤ length b → (k : ℕ) → k < 6
-        → length (each k (familyBytes P (t .sizes .n) w M (levelAt ls)) ++ familyBytes P (t .sizes .n) w M (levelAt ls) (k + 1)) ≤ length b
+        → length (each k (familyBytes P (t .sizes .n) w M (levelByte ls)) ++ familyBytes P (t .sizes .n) w M (levelByte ls) (k + 1)) ≤ length b
     family-room b h k l =
-        rows-fit b (familyBytes P (t .sizes .n) w M (levelAt ls)) 6 k refl l (subst (λ (m : ℕ). m ≤ length b) (sym families-length) h)
+        rows-fit b (familyBytes P (t .sizes .n) w M (levelByte ls)) 6 k refl l (subst (λ (m : ℕ). m ≤ length b) (sym families-length) h)
 
-    pub families-written : {b e : List ℕ} {to : ℕ} → Begins b e (each 6 (familyBytes P (t .sizes .n) w M (levelAt ls))) to
-        → (to ≡ t .vars) × (e ≡ valueBytes (filledWith P (t .sizes .w) M (levelAt ls)) ++ drop (t .vars) b)
+    pub families-written : {b e : List ℕ} {to : ℕ} → Begins b e (each 6 (familyBytes P (t .sizes .n) w M (levelByte ls))) to
+        → (to ≡ t .vars) × (e ≡ valueBytes (filledWith P (t .sizes .w) M (levelByte ls)) ++ drop (t .vars) b)
     families-written {b} B =
         let place = B .place ∙ families-length in (place, B .bytes ∙ ap₂ (λ (x : List ℕ) (j : ℕ). x ++ drop j b) (sym families-are) place)
 
@@ -155,8 +155,8 @@ module _ {P : Program} {t : Totals} {hs ss bs ks xs ys : List ℕ} (T : Tabled P
           length-tab (t .sizes .n) (level P (setIn (t .sizes .n) s)),
         )
 
-    pub filled-is : filledWith P (t .sizes .w) (setIn (t .sizes .n) s) (levelAt ls) ≡ fill P (t .sizes .w) (setIn (t .sizes .n) s)
+    pub filled-is : filledWith P (t .sizes .w) (setIn (t .sizes .n) s) (levelByte ls) ≡ fill P (t .sizes .w) (setIn (t .sizes .n) s)
     filled-is =
-        filled-same (t .sizes .n) P fit (t .sizes .w) (setIn (t .sizes .n) s) (levelAt ls) (level P (setIn (t .sizes .n) s)) (sym (atoms-are P t hs ss bs ks xs ys T))
-        (λ a u. ap (λ (l : List ℕ). levelAt l a) q ∙ tab-byte (t .sizes .n) (level P (setIn (t .sizes .n) s)) rest a u)
+        filled-same (t .sizes .n) P fit (t .sizes .w) (setIn (t .sizes .n) s) (levelByte ls) (level P (setIn (t .sizes .n) s)) (sym (atoms-are P t hs ss bs ks xs ys T))
+        (λ a u. ap (λ (l : List ℕ). levelByte l a) q ∙ tab-byte (t .sizes .n) (level P (setIn (t .sizes .n) s)) rest a u)
         ∙ filled-fill P (t .sizes .w) (setIn (t .sizes .n) s)

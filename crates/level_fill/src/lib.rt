@@ -19,7 +19,7 @@ ghost use Rattle.meaning.specs.Program.{ruleAt, bodyTrue};
 ghost use Rattle.meaning.specs.Stage.{level};
 ghost use Rattle.encoding.specs.Fill.{founds, fill};
 ghost use Rattle.clause_tables.specs.Tables.{programIn, Ready};
-ghost use Rattle.level_stages.specs.Levels.{setIn, levelAt};
+ghost use Rattle.level_stages.specs.Levels.{setIn, levelByte};
 ghost use Rattle.answer_offers.specs.Offered.{valueBytes};
 ghost use Rattle.level_fill.specs.Values.{byteOf, atomBytes, bodyBytes, foundsBytes, bitBytes, levelBytes, lessBytes, pairBytes, chainBytes, filledWith};
 
@@ -35,7 +35,7 @@ fn as_byte(x: bool) -> u8
 // The level of atom a.
 fn level_of(levels: &[u8], a: u16) -> u16
     requires { ⌜ (0 < a) × (a ≤ length (now levels)) ⌝ }
-    ensures { λ r. ⌜ (r ≡ levelAt (now (levels .entry)) a) × (r < 256) ⌝ }
+    ensures { λ r. ⌜ (r ≡ levelByte (now (levels .entry)) a) × (r < 256) ⌝ }
 {
     byte_of(levels, a) as u16
 }
@@ -88,7 +88,7 @@ fn put_less(w: usize, x: u16, y: u16, buf: &mut [u8]) -> usize
 }
 
 // The two chains of a pair: x is the level of its body atom, y that of its head.
-fn put_pair(w: usize, x: u16, y: u16, buf: &mut [u8]) -> usize
+fn put_pair_values(w: usize, x: u16, y: u16, buf: &mut [u8]) -> usize
     requires { ⌜ (x < 256) × (length (pairBytes w x y) ≤ length (now buf)) ⌝ }
     ensures { λ r. ⌜ (r ≡ length (pairBytes w x y)) × (now (buf .exit) ≡ pairBytes w x y ++ drop r (now (buf .entry))) ⌝ }
 {
@@ -97,8 +97,8 @@ fn put_pair(w: usize, x: u16, y: u16, buf: &mut [u8]) -> usize
     to
 }
 
-// The atoms.
-fn put_atoms(n: u16, set: &[u8], buf: &mut [u8]) -> usize
+// The values of the atoms.
+fn put_atom_values(n: u16, set: &[u8], buf: &mut [u8]) -> usize
     requires { ⌜ (n ≤ length (now set)) × (length (atomBytes n (setIn n (now set))) ≤ length (now buf)) ⌝ }
     ensures { λ r. ⌜ (r ≡ length (atomBytes n (setIn n (now (set .entry))))) × (now (buf .exit) ≡ atomBytes n (setIn n (now (set .entry))) ++ drop r (now (buf .entry))) ⌝ }
 {
@@ -111,9 +111,9 @@ fn put_atoms(n: u16, set: &[u8], buf: &mut [u8]) -> usize
 }
 
 // The bits of the level of each atom with d more: its level, or its next.
-fn put_levels(n: u16, w: usize, d: u16, levels: &[u8], buf: &mut [u8]) -> usize
-    requires { ⌜ (n ≤ length (now levels)) × (d ≤ 1) × (length (levelBytes n w d (levelAt (now levels))) ≤ length (now buf)) ⌝ }
-    ensures { λ r. ⌜ (r ≡ length (levelBytes n w d (levelAt (now (levels .entry))))) × (now (buf .exit) ≡ levelBytes n w d (levelAt (now (levels .entry))) ++ drop r (now (buf .entry))) ⌝ }
+fn put_level_values(n: u16, w: usize, d: u16, levels: &[u8], buf: &mut [u8]) -> usize
+    requires { ⌜ (n ≤ length (now levels)) × (d ≤ 1) × (length (levelBytes n w d (levelByte (now levels))) ≤ length (now buf)) ⌝ }
+    ensures { λ r. ⌜ (r ≡ length (levelBytes n w d (levelByte (now (levels .entry))))) × (now (buf .exit) ≡ levelBytes n w d (levelByte (now (levels .entry))) ++ drop r (now (buf .entry))) ⌝ }
 {
     let mut to: usize = 0;
     let mut a: u16 = 0;
@@ -160,7 +160,7 @@ fn rule_founds<'a>(
     levels: &'a [u8],
 ) -> bool
     requires { ⌜ (Ready t (now heads) (now starts) (now bodies) (now before) (now partners) (now owners)) × (0 < r) × (r ≤ t .sizes .m) × (t .sizes .n ≤ length (now set)) × (t .sizes .n ≤ length (now levels)) ⌝ }
-    ensures { λ x. ⌜ x ≡ founds (setIn (t .sizes .n) (now (set .entry))) (levelAt (now (levels .entry))) (ruleAt (programIn (t .sizes) (now (heads .entry)) (now (starts .entry)) (now (bodies .entry)) .rules) r) (ruleAt (programIn (t .sizes) (now (heads .entry)) (now (starts .entry)) (now (bodies .entry)) .rules) r .positive) ⌝ }
+    ensures { λ x. ⌜ x ≡ founds (setIn (t .sizes .n) (now (set .entry))) (levelByte (now (levels .entry))) (ruleAt (programIn (t .sizes) (now (heads .entry)) (now (starts .entry)) (now (bodies .entry)) .rules) r) (ruleAt (programIn (t .sizes) (now (heads .entry)) (now (starts .entry)) (now (bodies .entry)) .rules) r .positive) ⌝ }
 {
     if !body_true(t, heads, starts, bodies, before, partners, owners, r, set) {
         return false;
@@ -229,8 +229,8 @@ fn put_founds<'a>(
     levels: &'a [u8],
     buf: &mut [u8],
 ) -> usize
-    requires { ⌜ (Ready t (now heads) (now starts) (now bodies) (now before) (now partners) (now owners)) × (t .sizes .n ≤ length (now set)) × (t .sizes .n ≤ length (now levels)) × (length (foundsBytes (programIn (t .sizes) (now heads) (now starts) (now bodies)) (setIn (t .sizes .n) (now set)) (levelAt (now levels))) ≤ length (now buf)) ⌝ }
-    ensures { λ r. ⌜ (r ≡ length (foundsBytes (programIn (t .sizes) (now (heads .entry)) (now (starts .entry)) (now (bodies .entry))) (setIn (t .sizes .n) (now (set .entry))) (levelAt (now (levels .entry))))) × (now (buf .exit) ≡ foundsBytes (programIn (t .sizes) (now (heads .entry)) (now (starts .entry)) (now (bodies .entry))) (setIn (t .sizes .n) (now (set .entry))) (levelAt (now (levels .entry))) ++ drop r (now (buf .entry))) ⌝ }
+    requires { ⌜ (Ready t (now heads) (now starts) (now bodies) (now before) (now partners) (now owners)) × (t .sizes .n ≤ length (now set)) × (t .sizes .n ≤ length (now levels)) × (length (foundsBytes (programIn (t .sizes) (now heads) (now starts) (now bodies)) (setIn (t .sizes .n) (now set)) (levelByte (now levels))) ≤ length (now buf)) ⌝ }
+    ensures { λ r. ⌜ (r ≡ length (foundsBytes (programIn (t .sizes) (now (heads .entry)) (now (starts .entry)) (now (bodies .entry))) (setIn (t .sizes .n) (now (set .entry))) (levelByte (now (levels .entry))))) × (now (buf .exit) ≡ foundsBytes (programIn (t .sizes) (now (heads .entry)) (now (starts .entry)) (now (bodies .entry))) (setIn (t .sizes .n) (now (set .entry))) (levelByte (now (levels .entry))) ++ drop r (now (buf .entry))) ⌝ }
 {
     let mut r: u16 = 0;
     while r < t.sizes.m {
@@ -253,7 +253,7 @@ fn put_founds<'a>(
     wide(r)
 }
 
-// The chains of each pair.
+// The two chains of each pair.
 fn put_chains<'a>(
     t: Totals,
     heads: &'a [u16],
@@ -266,15 +266,15 @@ fn put_chains<'a>(
     levels: &'a [u8],
     buf: &mut [u8],
 ) -> usize
-    requires { ⌜ (Ready t (now heads) (now starts) (now bodies) (now before) (now partners) (now owners)) × (t .sizes .n ≤ length (now levels)) × (length (chainBytes (programIn (t .sizes) (now heads) (now starts) (now bodies)) w (levelAt (now levels))) ≤ length (now buf)) ⌝ }
-    ensures { λ r. ⌜ (r ≡ length (chainBytes (programIn (t .sizes) (now (heads .entry)) (now (starts .entry)) (now (bodies .entry))) w (levelAt (now (levels .entry))))) × (now (buf .exit) ≡ chainBytes (programIn (t .sizes) (now (heads .entry)) (now (starts .entry)) (now (bodies .entry))) w (levelAt (now (levels .entry))) ++ drop r (now (buf .entry))) ⌝ }
+    requires { ⌜ (Ready t (now heads) (now starts) (now bodies) (now before) (now partners) (now owners)) × (t .sizes .n ≤ length (now levels)) × (length (chainBytes (programIn (t .sizes) (now heads) (now starts) (now bodies)) w (levelByte (now levels))) ≤ length (now buf)) ⌝ }
+    ensures { λ r. ⌜ (r ≡ length (chainBytes (programIn (t .sizes) (now (heads .entry)) (now (starts .entry)) (now (bodies .entry))) w (levelByte (now (levels .entry))))) × (now (buf .exit) ≡ chainBytes (programIn (t .sizes) (now (heads .entry)) (now (starts .entry)) (now (bodies .entry))) w (levelByte (now (levels .entry))) ++ drop r (now (buf .entry))) ⌝ }
 {
     let mut to: usize = 0;
     let mut k: u16 = 0;
     while k < t.pairs {
         let x = level_of(levels, entry(partners, k + 1));
         let y = level_of(levels, entry(owners, k + 1));
-        to += put_pair(w, x, y, &mut buf[to..]);
+        to += put_pair_values(w, x, y, &mut buf[to..]);
         k += 1;
     }
     to
@@ -294,11 +294,11 @@ fn put_values<'a>(
     buf: &mut [u8],
 ) -> usize
     requires { ⌜ (Ready t (now heads) (now starts) (now bodies) (now before) (now partners) (now owners)) × (t .sizes .n ≤ length (now set)) × (t .sizes .n ≤ length (now levels)) × (t .vars ≤ length (now buf)) ⌝ }
-    ensures { λ r. ⌜ (r ≡ t .vars) × (now (buf .exit) ≡ valueBytes (filledWith (programIn (t .sizes) (now (heads .entry)) (now (starts .entry)) (now (bodies .entry))) (t .sizes .w) (setIn (t .sizes .n) (now (set .entry))) (levelAt (now (levels .entry)))) ++ drop (t .vars) (now (buf .entry))) ⌝ }
+    ensures { λ r. ⌜ (r ≡ t .vars) × (now (buf .exit) ≡ valueBytes (filledWith (programIn (t .sizes) (now (heads .entry)) (now (starts .entry)) (now (bodies .entry))) (t .sizes .w) (setIn (t .sizes .n) (now (set .entry))) (levelByte (now (levels .entry)))) ++ drop (t .vars) (now (buf .entry))) ⌝ }
 {
     let n = t.sizes.n;
     let w = wide(t.sizes.w);
-    let mut to = put_atoms(n, set, &mut *buf);
+    let mut to = put_atom_values(n, set, &mut *buf);
     to += put_bodies(
         t,
         heads,
@@ -322,8 +322,8 @@ fn put_values<'a>(
         levels,
         &mut buf[to..],
     );
-    to += put_levels(n, w, 0, levels, &mut buf[to..]);
-    to += put_levels(n, w, 1, levels, &mut buf[to..]);
+    to += put_level_values(n, w, 0, levels, &mut buf[to..]);
+    to += put_level_values(n, w, 1, levels, &mut buf[to..]);
     to += put_chains(
         t,
         heads,
@@ -339,7 +339,7 @@ fn put_values<'a>(
     to
 }
 
-// Writes the filled-out assignment of the set, whose levels are at hand, to the first V bytes.
+// Writes the filled-out assignment of the set, whose levels are given, to the first V bytes.
 pub fn put_filled<'a>(
     t: Totals,
     heads: &'a [u16],

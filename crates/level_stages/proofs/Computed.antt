@@ -6,14 +6,14 @@ use mathlib.Core.Bool.{true, false}
 use mathlib.Core.List.{List, [], _∷_, map}
 use Rattle.lists.specs.Lists.{tab, any}
 use Rattle.meaning.specs.Samples.{setOf, lecture, blocked}
-use Rattle.level_stages.specs.Levels.{setIn, fires, firstUnlike}
+use Rattle.level_stages.specs.Levels.{setIn, fires, firstDifference}
 use Rattle.level_stages.proofs.OneRound.{bytesAfter}
 
--- a byte behind the first n is no atom's; any byte but 0 is in
+-- a byte after the first n is no atom's; any byte but 0 is in
 set-read : tab 4 (setIn 3 (1 ∷ 0 ∷ 2 ∷ 1 ∷ [])) ≡ true ∷ false ∷ true ∷ false ∷ []
 set-read = refl
 
--- document 001's example round by round: a level given in a round does not count in it, and the byte behind the atoms stays
+-- document 001's example round by round: a level given in a round does not count in it, and the byte after the atoms stays
 lectureRound : ℕ → List ℕ → List ℕ
 lectureRound i ls = bytesAfter 4 (setOf (1 ∷ 2 ∷ 3 ∷ [])) ls i (lecture .rules)
 
@@ -32,6 +32,6 @@ blocked-read : bytesAfter 2 (setOf (2 ∷ [])) (0 ∷ 1 ∷ []) 2 (blocked .rule
 blocked-read = refl
 
 -- the first atom with byte 0 in one of the two alone
-unlike-read : map (firstUnlike 3 (1 ∷ 0 ∷ 1 ∷ [])) ((2 ∷ 0 ∷ 3 ∷ 1 ∷ []) ∷ (2 ∷ 1 ∷ 0 ∷ []) ∷ (2 ∷ 0 ∷ 0 ∷ []) ∷ []) ≡ 0 ∷ 2 ∷ 3 ∷ []
-unfolding firstUnlike
+unlike-read : map (firstDifference 3 (1 ∷ 0 ∷ 1 ∷ [])) ((2 ∷ 0 ∷ 3 ∷ 1 ∷ []) ∷ (2 ∷ 1 ∷ 0 ∷ []) ∷ (2 ∷ 0 ∷ 0 ∷ []) ∷ []) ≡ 0 ∷ 2 ∷ 3 ∷ []
+unfolding firstDifference
 unlike-read = refl

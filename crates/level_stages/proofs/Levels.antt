@@ -28,7 +28,7 @@ use Rattle.theory.proofs.Atoms.{RuleIn, rule-in, is-atom}
 use Rattle.theory.proofs.Stages.{stage-zero, stage-step, stage-le}
 use Rattle.theory.proofs.LeastModel.{level-le}
 use Rattle.truth_clauses.specs.Truth.{valueIn}
-use Rattle.level_stages.specs.Levels.{setIn, levelAt, isBelow, enters, fires, levelAfter, firstUnlike}
+use Rattle.level_stages.specs.Levels.{setIn, levelByte, isBelow, enters, fires, levelAfter, firstDifference}
 use Rattle.level_stages.proofs.Rules.{set-is}
 use Rattle.level_stages.proofs.OneRound.{and-one, tab-byte, bytesAfter}
 
@@ -112,7 +112,7 @@ module _ (n : ℕ) (P : Program) (fit : So (all (ruleFits n) (P .rules))) (M : A
       ∙ any-keep (λ R. noneIn M (R .negative)) (λ R. eqb (R .head) a && all (stage D i) (R .positive)) (P .rules)
 
   -- ls has the levels of stage i
-  module _ (ls : List ℕ) (i : ℕ) (at : (a : ℕ) → So (isAtom n a) → levelAt ls a ≡ levelIn i D a) where
+  module _ (ls : List ℕ) (i : ℕ) (at : (a : ℕ) → So (isAtom n a) → levelByte ls a ≡ levelIn i D a) where
     below-stage : (b : ℕ) → So (isAtom n b) → isBelow ls (suc i) b ≡ stage D i b
     below-stage b t =
         ap (λ (x : ℕ). not (eqb x 0) && ltb x (suc i)) (at b t)
@@ -172,8 +172,8 @@ module _ (n : ℕ) (P : Program) (fit : So (all (ruleFits n) (P .rules))) (M : A
 
   -- the bytes are the levels within stage i, then the rest
   module _ (rest : List ℕ) (i : ℕ) {ls : List ℕ} (B : ls ≡ tab n (levelIn i D) ++ rest) where
-    byte-level : (a : ℕ) → So (isAtom n a) → levelAt ls a ≡ levelIn i D a
-    byte-level a t = ap (λ (l : List ℕ). levelAt l a) B ∙ tab-byte n (levelIn i D) rest a t
+    byte-level : (a : ℕ) → So (isAtom n a) → levelByte ls a ≡ levelIn i D a
+    byte-level a t = ap (λ (l : List ℕ). levelByte l a) B ∙ tab-byte n (levelIn i D) rest a t
 
     behind : drop n ls ≡ rest
     behind = ap (drop n) B ∙ drop-at (tab n (levelIn i D)) rest n (length-tab n (levelIn i D))
@@ -205,12 +205,12 @@ module _ (n : ℕ) (P : Program) (fit : So (all (ruleFits n) (P .rules))) (M : A
 -- ---- set and least model
 
 pub unlike-differ : (P : Program) (s ls rest : List ℕ) → ls ≡ tab (P .atoms) (level P (setIn (P .atoms) s)) ++ rest
-    → firstUnlike (P .atoms) s ls ≡ differ P (setIn (P .atoms) s)
-unfolding firstUnlike differ
+    → firstDifference (P .atoms) s ls ≡ differ P (setIn (P .atoms) s)
+unfolding firstDifference differ
 unlike-differ P s ls rest B =
     first-ext (P .atoms) (λ a. not (Bool·beq (valueIn s a) (valueIn ls a))) (λ a. not (Bool·beq (setIn (P .atoms) s a) (leastModel P (setIn (P .atoms) s) a)))
     (λ i h.
     let t = is-atom (P .atoms) (suc i) (omega arith) h in
     ap₂ (λ (x y : Bool). not (Bool·beq x y)) (set-is (P .atoms) s (suc i) t)
-    (ap (λ (x : ℕ). not (eqb x 0)) (ap (λ (l : List ℕ). levelAt l (suc i)) B ∙ tab-byte (P .atoms) (level P (setIn (P .atoms) s)) rest (suc i) t)
+    (ap (λ (x : ℕ). not (eqb x 0)) (ap (λ (l : List ℕ). levelByte l (suc i)) B ∙ tab-byte (P .atoms) (level P (setIn (P .atoms) s)) rest (suc i) t)
     ∙ level-stage (reduct P (setIn (P .atoms) s)) (P .atoms) (suc i)))

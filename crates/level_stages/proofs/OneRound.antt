@@ -20,7 +20,7 @@ use Rattle.lists.proofs.Tests.{all-at, all-ext, any-at, any-in, any-append}
 use Rattle.lists.proofs.Tables.{length-tab, tab-ext, getD-tab, getD-here}
 use Rattle.meaning.specs.Program.{Rule, Atoms, noRule, ruleAt, isAtom, noneIn}
 use Rattle.theory.proofs.Atoms.{RuleIn, by-place}
-use Rattle.level_stages.specs.Levels.{levelAt, isBelow, enters, fires, firedBytes, levelAfter}
+use Rattle.level_stages.specs.Levels.{levelByte, isBelow, enters, fires, firedBytes, levelAfter}
 
 -- ---- truth values
 
@@ -38,9 +38,9 @@ or-none false = refl
 
 -- ---- one rule's turn; a is its head, x the head's byte, e whether the rule enters
 
-module _ (M : Atoms) (i : ℕ) (R : Rule) (ls : List ℕ) {a x : ℕ} (q : a ≡ R .head) (l : x ≡ levelAt ls a) where
-  byte-is : levelAt ls (R .head) ≡ x
-  byte-is = ap (levelAt ls) (sym q) ∙ sym l
+module _ (M : Atoms) (i : ℕ) (R : Rule) (ls : List ℕ) {a x : ℕ} (q : a ≡ R .head) (l : x ≡ levelByte ls a) where
+  byte-is : levelByte ls (R .head) ≡ x
+  byte-is = ap (levelByte ls) (sym q) ∙ sym l
 
   abbrev Turn : Bool → List ℕ → Type 0
   Turn r bs = (r ≡ fires M ls i R) × (bs ≡ firedBytes M i R ls)
@@ -49,10 +49,10 @@ module _ (M : Atoms) (i : ℕ) (R : Rule) (ls : List ℕ) {a x : ℕ} (q : a ≡
   not-fired f = (sym f, sym (ap (λ (b : Bool). cond b (set ls (pred (R .head)) i) ls) f))
 
   pub turn-headed : (x ≡ 0 → ⊥) → Turn false ls
-  turn-headed f = not-fired (ap (λ (b : Bool). b && enters M ls i R) (ne-eqb (levelAt ls (R .head)) 0 (λ e. f (sym byte-is ∙ e))))
+  turn-headed f = not-fired (ap (λ (b : Bool). b && enters M ls i R) (ne-eqb (levelByte ls (R .head)) 0 (λ e. f (sym byte-is ∙ e))))
 
-  none : x ≡ 0 → eqb (levelAt ls (R .head)) 0 ≡ true
-  none z = eq-eqb (levelAt ls (R .head)) 0 (byte-is ∙ z)
+  none : x ≡ 0 → eqb (levelByte ls (R .head)) 0 ≡ true
+  none z = eq-eqb (levelByte ls (R .head)) 0 (byte-is ∙ z)
 
   pub turn-unmet : {e : Bool} → x ≡ 0 → e ≡ enters M ls i R → e ≡ false → Turn false ls
   turn-unmet z f g = not-fired (ap₂ _&&_ (none z) (sym f ∙ g))
@@ -65,8 +65,8 @@ module _ (M : Atoms) (i : ℕ) (R : Rule) (ls : List ℕ) {a x : ℕ} (q : a ≡
 
 -- ---- bytes by atom
 
-pub tab-byte : (n : ℕ) (g : ℕ → ℕ) (rest : List ℕ) (a : ℕ) → So (isAtom n a) → levelAt (tab n g ++ rest) a ≡ g a
-tab-byte n g rest = by-place n (λ a. levelAt (tab n g ++ rest) a ≡ g a) (λ a h. getD-here (tab n g) rest 0 n a (length-tab n g) h ∙ getD-tab n g 0 a h)
+pub tab-byte : (n : ℕ) (g : ℕ → ℕ) (rest : List ℕ) (a : ℕ) → So (isAtom n a) → levelByte (tab n g ++ rest) a ≡ g a
+tab-byte n g rest = by-place n (λ a. levelByte (tab n g ++ rest) a ≡ g a) (λ a h. getD-here (tab n g) rest 0 n a (length-tab n g) h ∙ getD-tab n g 0 a h)
 
 -- a byte is set at an atom
 tab-set : (n : ℕ) (g : ℕ → ℕ) (rest : List ℕ) (v h : ℕ) → So (isAtom n h)
@@ -138,11 +138,11 @@ module _ (n : ℕ) (M : Atoms) (ls : List ℕ) (i : ℕ) (some : 0 < i) where
       go true e false = ap (λ (b : Bool). not b && ltb x i) e
       go false e c = ap (λ (b : Bool). not b && ltb x i) e
 
-  byte-after : (rs : List Rule) (a : ℕ) → So (isAtom n a) → levelAt (bytesAfter n M ls i rs) a ≡ levelAfter M ls i rs a
+  byte-after : (rs : List Rule) (a : ℕ) → So (isAtom n a) → levelByte (bytesAfter n M ls i rs) a ≡ levelAfter M ls i rs a
   byte-after rs a t = tab-byte n (levelAfter M ls i rs) (drop n ls) a t
 
   below-kept : (rs : List Rule) (b : ℕ) → So (isAtom n b) → isBelow (bytesAfter n M ls i rs) i b ≡ isBelow ls i b
-  below-kept rs b t = ap (λ (y : ℕ). not (eqb y 0) && ltb y i) (byte-after rs b t) ∙ below-same (levelAt ls b) (entered rs b)
+  below-kept rs b t = ap (λ (y : ℕ). not (eqb y 0) && ltb y i) (byte-after rs b t) ∙ below-same (levelByte ls b) (entered rs b)
 
   module _ (rs : List Rule) (R : Rule) (I : RuleIn n R) where
     abbrev now-bytes : List ℕ
@@ -164,7 +164,7 @@ module _ (n : ℕ) (M : Atoms) (ls : List ℕ) (i : ℕ) (some : 0 < i) where
         ∙ sym (ap (λ (b : Bool). cond (eqb (R .head) a && b) i (levelAfter M ls i rs a)) fires-kept)
       where
         x : ℕ
-        x = levelAt ls a
+        x = levelByte ls a
 
         at-head : (d : Bool) → eqb x 0 ≡ d → (c e : Bool)
             → cond (d && (c || (e || false))) i x ≡ cond (eqb (cond (d && c) i x) 0 && e) i (cond (d && c) i x)
@@ -192,11 +192,11 @@ module _ (n : ℕ) (M : Atoms) (ls : List ℕ) (i : ℕ) (some : 0 < i) where
     fired-more : any (fires M ls i) (rs ++ (R ∷ [])) ≡ (any (fires M ls i) rs || fires M now-bytes i R)
     fired-more =
         any-append (fires M ls i) rs (R ∷ [])
-        ∙ go (eqb (levelAt ls (R .head)) 0) refl (entered rs (R .head)) (any (fires M ls i) rs) before
+        ∙ go (eqb (levelByte ls (R .head)) 0) refl (entered rs (R .head)) (any (fires M ls i) rs) before
         ∙ sym (ap (λ (b : Bool). any (fires M ls i) rs || b) fires-kept)
       where
         x : ℕ
-        x = levelAt ls (R .head)
+        x = levelByte ls (R .head)
 
         e : Bool
         e = enters M ls i R
@@ -208,7 +208,7 @@ module _ (n : ℕ) (M : Atoms) (ls : List ℕ) (i : ℕ) (some : 0 < i) where
             let S = getD rs (q .0) noRule in
             any-in (fires M ls i) rs noRule (q .0) (q .1)
             (and-in
-            (ap (λ (h : ℕ). eqb (levelAt ls h) 0) (eqb-true (S .head) (R .head) (and-left (eqb (S .head) (R .head)) (enters M ls i S) (q .2))) ∙ z)
+            (ap (λ (h : ℕ). eqb (levelByte ls h) 0) (eqb-true (S .head) (R .head) (and-left (eqb (S .head) (R .head)) (enters M ls i S) (q .2))) ∙ z)
             (and-right (eqb (S .head) (R .head)) (enters M ls i S) (q .2)))
 
         go : (d : Bool) → eqb x 0 ≡ d → (c f : Bool) → (So d → So c → So f)
@@ -217,7 +217,7 @@ module _ (n : ℕ) (M : Atoms) (ls : List ℕ) (i : ℕ) (some : 0 < i) where
         go true q false f u = ap (λ (b : Bool). f || b) (or-none e) ∙ sym (ap (λ (b : Bool). f || (b && e)) q)
         go false q c f u = sym (ap (λ (b : Bool). f || (b && e)) q)
 
-  -- ---- as the loop goes: bs the bytes and g the flag after k rules, x what the next rule's turn gave and cs the bytes behind it
+  -- ---- as the loop goes: bs the bytes and g the flag after k rules, x what the next rule's turn gave and cs the bytes after it
   module _ (rs : List Rule) (k : ℕ) (h : k < length rs) (I : RuleIn n (ruleAt rs (k + 1))) {bs cs : List ℕ} {x : Bool} (B : bs ≡ bytesAfter n M ls i (take k rs))
       (turn : (x ≡ fires M bs i (ruleAt rs (k + 1))) × (cs ≡ firedBytes M i (ruleAt rs (k + 1)) bs)) where
     next-rule : take (k + 1) rs ≡ take k rs ++ (ruleAt rs (k + 1) ∷ [])

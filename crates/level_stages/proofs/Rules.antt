@@ -28,7 +28,7 @@ use Rattle.clause_tables.specs.declared.Totals.{Totals}
 use Rattle.clause_tables.specs.Tables.{Tabled}
 use Rattle.clause_walk.proofs.Tabs.{head-is as its-head}
 use Rattle.clause_table_laws.proofs.Elements.{Listed, start-first, rules-are, rules-fit, atoms-are, starts-length, bodies-length, heads-length, head-is, all-fit}
-use Rattle.level_stages.specs.Levels.{setIn, levelAt, isBelow, enters}
+use Rattle.level_stages.specs.Levels.{setIn, levelByte, isBelow, enters}
 
 -- ---- parts of a list
 
@@ -178,14 +178,14 @@ module _ {n : ℕ} {R : Rule} (I : RuleIn n R) (s ls : List ℕ) (i : ℕ) {u : 
     kept = sym (none-is n s (R .negative) (I .negative-in)) ∙ sym e ∙ z
 
     -- what is left of the test
-    left : (v && all (λ b. ltb (levelAt ls b) i) (R .positive)) ≡ enters (setIn n s) ls i R
+    left : (v && all (λ b. ltb (levelByte ls b) i) (R .positive)) ≡ enters (setIn n s) ls i R
     left =
-        ap (λ (b : Bool). b && all (λ b. ltb (levelAt ls b) i) (R .positive)) f
-        ∙ all-and (valueIn ls) (λ b. ltb (levelAt ls b) i) (R .positive)
+        ap (λ (b : Bool). b && all (λ b. ltb (levelByte ls b) i) (R .positive)) f
+        ∙ all-and (valueIn ls) (λ b. ltb (levelByte ls b) i) (R .positive)
         ∙ sym (ap (λ (b : Bool). b && all (isBelow ls i) (R .positive)) kept)
 
     pub enters-unmet : v ≡ false → false ≡ enters (setIn n s) ls i R
-    enters-unmet y = sym (ap (λ (b : Bool). b && all (λ b. ltb (levelAt ls b) i) (R .positive)) y) ∙ left
+    enters-unmet y = sym (ap (λ (b : Bool). b && all (λ b. ltb (levelByte ls b) i) (R .positive)) y) ∙ left
 
-    pub enters-is : {x : Bool} → v ≡ true → x ≡ all (λ b. ltb (levelAt ls b) i) (R .positive) → x ≡ enters (setIn n s) ls i R
-    enters-is y g = g ∙ sym (ap (λ (b : Bool). b && all (λ b. ltb (levelAt ls b) i) (R .positive)) y) ∙ left
+    pub enters-is : {x : Bool} → v ≡ true → x ≡ all (λ b. ltb (levelByte ls b) i) (R .positive) → x ≡ enters (setIn n s) ls i R
+    enters-is y g = g ∙ sym (ap (λ (b : Bool). b && all (λ b. ltb (levelByte ls b) i) (R .positive)) y) ∙ left

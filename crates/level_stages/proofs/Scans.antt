@@ -1,6 +1,6 @@
 -- Lists of atoms and bytes read one after the other, as the loops do.
 --   byte-is, byte-put           the byte of an atom
---   scan-asks                   the atom at hand has a byte
+--   scan-asks                   the next atom has a byte
 --   scan-more, scan-fails, scan-all    a test of each atom of a list
 --   unlike-zero, unlike-some    one of two bytes alone is 0
 --   Alike, alike-more, unlike-here, unlike-nowhere    the first atom at which bytes differ so
@@ -27,9 +27,9 @@ use Rattle.meaning.specs.Program.{isAtom}
 use Rattle.theory.proofs.Atoms.{atom-pos, atom-le}
 use Rattle.clause_literals.proofs.Products.{one-before}
 use Rattle.truth_clauses.specs.Truth.{valueIn}
-use Rattle.level_stages.specs.Levels.{levelAt, firstUnlike}
+use Rattle.level_stages.specs.Levels.{levelByte, firstDifference}
 
-pub byte-is : (bs : List ℕ) {x a : ℕ} → x ≡ a → getD bs (x - 1) 0 ≡ levelAt bs a
+pub byte-is : (bs : List ℕ) {x a : ℕ} → x ≡ a → getD bs (x - 1) 0 ≡ levelByte bs a
 byte-is bs {x} {a} e = ap (λ (k : ℕ). getD bs (k - 1) 0) e ∙ ap (λ (k : ℕ). getD bs k 0) (one-before a)
 
 pub byte-put : (bs : List ℕ) {x a : ℕ} (v : ℕ) → x ≡ a → set bs (x - 1) v ≡ set bs (pred a) v
@@ -80,8 +80,8 @@ module _ (s ls : List ℕ) where
   pub alike-more : (a : ℕ) {r : Bool} → Alike a → r ≡ unlikeAt (suc a) → r ≡ false → Alike (a + 1)
   alike-more a f e u = subst (λ (k : ℕ). Alike k) (sym (add-one a)) (up-to (λ i. unlikeAt (suc i) ≡ false) a f (sym e ∙ u))
 
-  pub unlike-here : (n a : ℕ) {r : Bool} → Alike a → a < n → r ≡ unlikeAt (suc a) → r ≡ true → a + 1 ≡ firstUnlike n s ls
-  unfolding firstUnlike
+  pub unlike-here : (n a : ℕ) {r : Bool} → Alike a → a < n → r ≡ unlikeAt (suc a) → r ≡ true → a + 1 ≡ firstDifference n s ls
+  unfolding firstDifference
   unlike-here n a f h e u = le-antisymm least (subst (λ (k : ℕ). first n unlikeAt ≤ k) (sym (add-one a)) (first-le n unlikeAt a h here))
     where
       here : So (unlikeAt (suc a))
@@ -96,8 +96,8 @@ module _ (s ls : List ℕ) where
       least : a + 1 ≤ first n unlikeAt
       least = ⊎-elim (λ (l : a + 1 ≤ first n unlikeAt). l) (λ (l : first n unlikeAt < a + 1). absurd (no (first n unlikeAt) refl l)) (le-or-lt (a + 1) (first n unlikeAt))
 
-  pub unlike-nowhere : (n a : ℕ) → Alike a → n ≤ a → 0 ≡ firstUnlike n s ls
-  unfolding firstUnlike
+  pub unlike-nowhere : (n a : ℕ) → Alike a → n ≤ a → 0 ≡ firstDifference n s ls
+  unfolding firstDifference
   unlike-nowhere n a f h = sym (first-none n unlikeAt (λ i k. f i (omega (arith, h, k))))
 
 -- ---- zeros

@@ -27,7 +27,7 @@ use Rattle.lists.proofs.Bools.{and-left}
 use Rattle.clause_tables.specs.declared.Totals.{Totals}
 use Rattle.clause_tables.specs.Tables.{Tabled}
 use Rattle.clause_table_laws.proofs.Elements.{rules-are, atoms-are, all-fit}
-use Rattle.level_stages.specs.Levels.{setIn, levelAt, enters, fires, firedBytes, firstUnlike}
+use Rattle.level_stages.specs.Levels.{setIn, levelByte, enters, fires, firedBytes, firstDifference}
 use Rattle.level_stages.proofs.Rules.{its-head-is, rule-atoms}
 use Rattle.level_stages.proofs.OneRound.{turn-headed, turn-unmet, turn-fired, bytesAfter, round-none, round-more, given-more, round-all}
 use Rattle.level_stages.proofs.Levels.{zeros-are, round-levels, rested, levels-last, unlike-differ}
@@ -45,7 +45,7 @@ pub record Staged (P : Program) (t : Totals) (s e : List ℕ) (i : ℕ) (cs : Li
   pub same : length cs ≡ length e
   pub bytes : cs ≡ tab (t .sizes .n) (levelIn i (reduct P (setIn (t .sizes .n) s))) ++ drop (t .sizes .n) e
 
--- the bytes behind a table
+-- the bytes after a table
 tail-is : (n : ℕ) (f : ℕ → ℕ) (rest : List ℕ) {ls : List ℕ} → ls ≡ tab n f ++ rest → drop n ls ≡ rest
 tail-is n f rest q = ap (drop n) q ∙ drop-at (tab n f) rest n (length-tab n f)
 
@@ -57,7 +57,7 @@ module _ {P : Program} {t : Totals} {hs ss bs ks xs ys : List ℕ} (T : Tabled P
   M = setIn (t .sizes .n) s
 
   -- ---- one rule's turn
-  module _ (ls : List ℕ) (i r : ℕ) (p : 0 < r) (h : r ≤ t .sizes .m) {a x : ℕ} (q : a ≡ getD hs (r - 1) 0) (l : x ≡ levelAt ls a) where
+  module _ (ls : List ℕ) (i r : ℕ) (p : 0 < r) (h : r ≤ t .sizes .m) {a x : ℕ} (q : a ≡ getD hs (r - 1) 0) (l : x ≡ levelByte ls a) where
     abbrev Turn : Bool → List ℕ → Type 0
     Turn v cs = (v ≡ fires M ls i (ruleAt (P .rules) r)) × (cs ≡ firedBytes M i (ruleAt (P .rules) r) ls)
 
@@ -136,12 +136,12 @@ module _ {P : Program} {t : Totals} {hs ss bs ks xs ys : List ℕ} (T : Tabled P
     staged q r = r ∙ ap (λ (l : List ℕ). tab (t .sizes .n) (level P M) ++ l) (tail-is (t .sizes .n) (λ a. 0) (drop (t .sizes .n) e) q)
 
   -- ---- the first difference
-  pub difference-is : (ls rest : List ℕ) → ls ≡ tab (t .sizes .n) (level P M) ++ rest → firstUnlike (t .sizes .n) s ls ≡ differ P M
+  pub difference-is : (ls rest : List ℕ) → ls ≡ tab (t .sizes .n) (level P M) ++ rest → firstDifference (t .sizes .n) s ls ≡ differ P M
   difference-is ls rest q =
-      subst (λ (n : ℕ). ls ≡ tab n (level P (setIn n s)) ++ rest → firstUnlike n s ls ≡ differ P (setIn n s)) (sym (atoms-are P t hs ss bs ks xs ys T)) (unlike-differ P s ls rest) q
+      subst (λ (n : ℕ). ls ≡ tab n (level P (setIn n s)) ++ rest → firstDifference n s ls ≡ differ P (setIn n s)) (sym (atoms-are P t hs ss bs ks xs ys T)) (unlike-differ P s ls rest) q
 
   -- there is none exactly if the set is a stable model
-  pub stable-read : (ls rest : List ℕ) → ls ≡ tab (t .sizes .n) (level P M) ++ rest → (firstUnlike (t .sizes .n) s ls ≡ 0) ↔ Stable P M
+  pub stable-read : (ls rest : List ℕ) → ls ≡ tab (t .sizes .n) (level P M) ++ rest → (firstDifference (t .sizes .n) s ls ≡ 0) ↔ Stable P M
   stable-read ls rest q =
       let d = decided P (T .limits .all-atoms) M (λ a u. subst (λ (n : ℕ). So (isAtom n a)) (atoms-are P t hs ss bs ks xs ys T) (and-left (isAtom (t .sizes .n) a) (valueIn s a) u)) in
       (λ e. d .0 (sym (difference-is ls rest q) ∙ e), λ u. difference-is ls rest q ∙ d .1 u)

@@ -1,12 +1,12 @@
 -- The stages of a reduct, computed in bytes: one round over the rules for each stage (document 01, "Meaning").
 --   setIn n s                the atoms of 1 to n whose byte is not 0
---   levelAt ls a             the byte of atom a
+--   levelByte ls a           the byte of atom a
 --   isBelow ls i b           b has a level, and one below i
 --   enters M ls i R          rule R is kept and each of its B has a level below i
 --   fires M ls i R           and its head has none yet
 --   firedBytes M i R ls      its head is then given level i
 --   levelAfter M ls i rs a   the level of a once each of the rules rs had its turn in round i
---   firstUnlike n s ls       the smallest atom of 1 to n that has byte 0 in one of s and ls alone, 0 if there is none
+--   firstDifference n s ls   the smallest atom of 1 to n that has byte 0 in one of s and ls alone, 0 if there is none
 -- Assumes nothing.
 use Prim.Native.Nat.{ℕ, pred}
 use mathlib.Core.Bool.{Bool, not, _&&_, cond, Bool·beq}
@@ -21,23 +21,23 @@ use Rattle.truth_clauses.specs.Truth.{valueIn}
 abbrev pub setIn : ℕ → List ℕ → Atoms
 setIn n s = trueIn n (valueIn s)
 
-abbrev pub levelAt : List ℕ → ℕ → ℕ
-levelAt ls a = getD ls (pred a) 0
+abbrev pub levelByte : List ℕ → ℕ → ℕ
+levelByte ls a = getD ls (pred a) 0
 
 abbrev pub isBelow : List ℕ → ℕ → ℕ → Bool
-isBelow ls i b = valueIn ls b && ltb (levelAt ls b) i
+isBelow ls i b = valueIn ls b && ltb (levelByte ls b) i
 
 abbrev pub enters : Atoms → List ℕ → ℕ → Rule → Bool
 enters M ls i R = noneIn M (R .negative) && all (isBelow ls i) (R .positive)
 
 abbrev pub fires : Atoms → List ℕ → ℕ → Rule → Bool
-fires M ls i R = eqb (levelAt ls (R .head)) 0 && enters M ls i R
+fires M ls i R = eqb (levelByte ls (R .head)) 0 && enters M ls i R
 
 abbrev pub firedBytes : Atoms → ℕ → Rule → List ℕ → List ℕ
 firedBytes M i R ls = cond (fires M ls i R) (set ls (pred (R .head)) i) ls
 
 abbrev pub levelAfter : Atoms → List ℕ → ℕ → List Rule → ℕ → ℕ
-levelAfter M ls i rs a = cond (eqb (levelAt ls a) 0 && any (λ R. eqb (R .head) a && enters M ls i R) rs) i (levelAt ls a)
+levelAfter M ls i rs a = cond (eqb (levelByte ls a) 0 && any (λ R. eqb (R .head) a && enters M ls i R) rs) i (levelByte ls a)
 
-unfoldable pub firstUnlike : ℕ → List ℕ → List ℕ → ℕ
-firstUnlike n s ls = first n (λ a. not (Bool·beq (valueIn s a) (valueIn ls a)))
+unfoldable pub firstDifference : ℕ → List ℕ → List ℕ → ℕ
+firstDifference n s ls = first n (λ a. not (Bool·beq (valueIn s a) (valueIn ls a)))

@@ -15,12 +15,12 @@ ghost use Rattle.meaning.specs.Program.{ruleAt, isAtom, noneIn};
 ghost use Rattle.meaning.specs.Stage.{level};
 ghost use Rattle.clause_tables.specs.Tables.{programIn, Ready};
 ghost use Rattle.truth_clauses.specs.Truth.{valueIn};
-ghost use Rattle.level_stages.specs.Levels.{setIn, levelAt, enters, fires, firedBytes, levelAfter, firstUnlike};
+ghost use Rattle.level_stages.specs.Levels.{setIn, levelByte, enters, fires, firedBytes, levelAfter, firstDifference};
 
 // The byte of atom a.
 pub fn byte_of(bytes: &[u8], a: u16) -> u8
     requires { ⌜ (0 < a) × (a ≤ length (now bytes)) ⌝ }
-    ensures { λ r. ⌜ r ≡ levelAt (now (bytes .entry)) a ⌝ }
+    ensures { λ r. ⌜ r ≡ levelByte (now (bytes .entry)) a ⌝ }
 {
     bytes[wide(a) - 1]
 }
@@ -64,7 +64,7 @@ fn all_in<'a>(atoms: &'a [u16], bytes: &'a [u8]) -> bool
 
 fn all_below<'a>(atoms: &'a [u16], bytes: &'a [u8], x: u8) -> bool
     requires { ⌜ So (all (isAtom (length (now bytes))) (now atoms)) ⌝ }
-    ensures { λ r. ⌜ r ≡ all (λ b. ltb (levelAt (now (bytes .entry)) b) x) (now (atoms .entry)) ⌝ }
+    ensures { λ r. ⌜ r ≡ all (λ b. ltb (levelByte (now (bytes .entry)) b) x) (now (atoms .entry)) ⌝ }
 {
     let mut j: usize = 0;
     while j < atoms.len() {
@@ -137,7 +137,7 @@ pub fn positives_below<'a>(
     y: u8,
 ) -> bool
     requires { ⌜ (Ready t (now heads) (now starts) (now bodies) (now before) (now partners) (now owners)) × (0 < r) × (r ≤ t .sizes .m) × (t .sizes .n ≤ length (now bytes)) ⌝ }
-    ensures { λ x. ⌜ x ≡ all (λ b. ltb (levelAt (now (bytes .entry)) b) y) (ruleAt (programIn (t .sizes) (now (heads .entry)) (now (starts .entry)) (now (bodies .entry)) .rules) r .positive) ⌝ }
+    ensures { λ x. ⌜ x ≡ all (λ b. ltb (levelByte (now (bytes .entry)) b) y) (ruleAt (programIn (t .sizes) (now (heads .entry)) (now (starts .entry)) (now (bodies .entry)) .rules) r .positive) ⌝ }
 {
     let first = list_start(starts, r, 0);
     let end = list_start(starts, r, 1);
@@ -231,7 +231,7 @@ fn put_rule<'a>(
     true
 }
 
-fn either(x: bool, y: bool) -> bool
+fn disjunction(x: bool, y: bool) -> bool
     ensures { λ r. ⌜ r ≡ (x || y) ⌝ }
 {
     if x {
@@ -272,7 +272,7 @@ fn round<'a>(
             set,
             &mut *levels,
         );
-        given = either(given, x);
+        given = disjunction(given, x);
         r += 1;
     }
     given
@@ -353,8 +353,8 @@ pub fn stage_levels<'a>(
     );
 }
 
-// Whether one of two bytes alone is 0.
-fn unlike(x: u8, y: u8) -> bool
+// Whether one of the bytes x and y alone is 0.
+fn differ_in_zero(x: u8, y: u8) -> bool
     ensures { λ r. ⌜ r ≡ not (Bool·beq (not (eqb x 0)) (not (eqb y 0))) ⌝ }
 {
     if x == 0 {
@@ -366,11 +366,11 @@ fn unlike(x: u8, y: u8) -> bool
 // The smallest atom of 1 to n that has byte 0 in one of the set and the levels alone, 0 if there is none.
 pub fn first_difference<'a>(n: u16, set: &'a [u8], levels: &'a [u8]) -> usize
     requires { ⌜ (n ≤ length (now set)) × (n ≤ length (now levels)) ⌝ }
-    ensures { λ r. ⌜ r ≡ firstUnlike n (now (set .entry)) (now (levels .entry)) ⌝ }
+    ensures { λ r. ⌜ r ≡ firstDifference n (now (set .entry)) (now (levels .entry)) ⌝ }
 {
     let mut a: usize = 0;
     while a < wide(n) {
-        if unlike(set[a], levels[a]) {
+        if differ_in_zero(set[a], levels[a]) {
             return a + 1;
         }
         a += 1;

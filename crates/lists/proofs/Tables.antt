@@ -96,7 +96,7 @@ module _ {A : Type 0} where
       (λ (l : i < n). List·getD-append (tab n f) (f (suc n) ∷ []) d i (subst (λ (k : ℕ). i < k) (sym (length-tab n f)) l) ∙ getD-tab n f d i l)
       (eq-or-lt-of-le (le-of-suc-le-suc h))
 
-  -- element j of row i of joined rows stands behind the rows before it
+  -- element j of row i of joined rows stands after the rows before it
   pub getD-each : (n : ℕ) (f : ℕ → List A) (d : A) (i j : ℕ) → i < n → j < length (f (suc i))
       → getD (each n f) (sum i (λ k. length (f k)) + j) d ≡ getD (f (suc i)) j d
   getD-each zero f d i j h g = absurd (not-suc-le-zero h)
@@ -120,7 +120,7 @@ module _ {A : Type 0} where
   pub length-rows : (n s : ℕ) (f : ℕ → List A) → ((i : ℕ) → i < n → length (f (suc i)) ≡ s) → length (each n f) ≡ n * s
   length-rows n s f e = length-each n f ∙ sum-ext n (λ k. length (f k)) (λ k. s) e ∙ sum-const n s
 
-  -- what stands behind a first part
+  -- what stands after a first part
   pub getD-skip : (xs ys : List A) (d : A) (k i : ℕ) → length xs ≡ k → getD (xs ++ ys) (k + i) d ≡ getD ys i d
   getD-skip xs ys d k i e = ap (λ (j : ℕ). getD (xs ++ ys) (j + i) d) (sym e) ∙ getD-append-add xs ys i d
 

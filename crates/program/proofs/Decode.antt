@@ -23,7 +23,7 @@ part bs xs ys j p =
     less : (j k : ℕ) → j + k - j ≡ k
     less j k = omega arith
 
--- the arrays hold the rules rs from rule i on: behind i heads, 2i starts and j body atoms
+-- the arrays hold the rules rs from rule i on: after i heads, 2i starts and j body atoms
 record Holds (A : Arrays) (i j : ℕ) (rs : List Rule) : Type 0 where
   before-heads : List ℕ
   before-starts : List ℕ
@@ -45,7 +45,7 @@ module _ (A : Arrays) (R : Rule) (rs : List Rule) (i j : ℕ) (h : Holds A i j (
   abbrev C : List ℕ
   C = R .negative
 
-  -- the start with x starts behind that of the rule
+  -- the start with x starts after that of the rule
   start-is : (x : ℕ) → startOf A (2 * i + x) ≡ getD (j ∷ (j + length B) ∷ (j + length B + length C) ∷ (endsOf (j + length B + length C) rs ++ h .after-starts)) x 0
   start-is x = ap (λ (xs : List ℕ). getD xs (2 * i + x) 0) (h .starts-are) ∙ getD-skip (h .before-starts) _ 0 (2 * i) x (h .starts-before)
 

@@ -20,25 +20,25 @@ use Rattle.theory.proofs.Whole.{reduct-whole, clauses-whole, variables-whole, f
 use Rattle.theory.proofs.Widths.{width-some}
 use Rattle.text.specs.Limits.{Limits}
 use Rattle.refusals.proofs as refusals
-use Rattle.reader.specs.declared.Reading.{Reading}
+use Rattle.reader.specs.declared.ReadResult.{ReadResult}
 use Rattle.reader.proofs as reader
 use Rattle.clause_walk.specs.Walk.{walked}
 use Rattle.clause_walk.proofs.Walked.{walked-clauses}
 use Rattle.clause_places.specs.Places.{placeAt, clauseIn}
 use Rattle.clause_runs.specs.Lines.{clauseTotal}
 use Rattle.call_lines.proofs as call-lines
-use Rattle.answer_form.specs.Answer.{Status, Malformed, OfStatus}
-use Rattle.answer_form.specs.Reading.{IsModel}
+use Rattle.answer_form.specs.Answer.{Status, AnswerMalformed, OfStatus}
+use Rattle.answer_form.specs.Pieces.{OffersModel}
 use Rattle.answer_reader.specs.declared.Formed.the-variants.{Model, NoModel, Malformed as LeftForm}
 use Rattle.answer_reader.specs.Results.{formOf}
 use Rattle.answer_reader.proofs.Promised as Form
 use Rattle.answer_values.specs.Assign.{Outcome, literalsFrom, literalAt, variableAt, Unnamed, unnamedCount, assignedOf, assignedBytes, unsetCount, completed}
-use Rattle.answer_values.specs.Assign.{filledWith, valueOf}
+use Rattle.answer_values.specs.Assign.{overwritten, literalValue}
 use Rattle.answer_values.specs.Rows.{AllFit, StrayAt, RepeatedAt}
 use Rattle.answer_values.proofs.Rows as Assigned
 use Rattle.answer_offers.specs.Offered.{valueBytes, valuesOf, Completes}
 use Rattle.answer_offers.proofs.Values.{values-complete, values-alone, values-unique}
-use Rattle.call_check.specs.Check.{readResult}
+use Rattle.call_check.specs.Check.{callResult}
 use Rattle.call_check.proofs as call-check
 use Rattle.call_fill.proofs as call-fill
 use Rattle.files.proofs as files
@@ -73,9 +73,9 @@ pub record Contracts (M : Type 1) : Type 2 where
   -- of filling out, `fillNumber` and `fillSpot`
   pub fill-number : refusals.fill_number.Statement.statement M
   pub fill-spot : refusals.fill_spot.Statement.statement M
-  -- what the checker prints, at the front of a buffer: `outputText`; the bytes after it stay
+  -- what the checker prints, at the front of a buffer: `checkerOutput`; the bytes after it stay
   pub put-output : checker-output.put_output.Statement.statement M
-  -- the writer hands its output over part after part, and returns how many bytes that is: the length of `outputText`
+  -- the writer hands its output over part after part, and returns how many bytes that is: the length of `writerOutput`
   pub say-output : writer-output.say_output.Statement.statement M
   -- what is counted of an input after one read more: `readOn`
   pub read-on : files.read_on.Statement.statement M
@@ -132,27 +132,27 @@ pub record General (P : Program) (w : ℕ) : Type 0 where
 -- the form of an answer, as the check finds it
 pub record AnswerForm (t : List ℕ) : Type 0 where
   -- malformed at s exactly if it is so
-  pub malformed : (s : ℕ) → (formOf t ≡ LeftForm s) ↔ Malformed t s
+  pub malformed : (s : ℕ) → (formOf t ≡ LeftForm s) ↔ AnswerMalformed t s
   -- a model exactly if t prints a proper answer with the status SATISFIABLE, whose literals are read one by one from the end e of its status line on
-  pub a-model : (e : ℕ) → (formOf t ≡ Model e) ↔ IsModel t e
+  pub a-model : (e : ℕ) → (formOf t ≡ Model e) ↔ OffersModel t e
   -- no model exactly if it prints one with another status
   pub no-model : (formOf t ≡ NoModel) ↔ ((s : Status) × OfStatus t s)
 
 -- the literals of an answer from position p on, assigned one after the other to n variables without values
 pub record Assigning (t : List ℕ) (p n : ℕ) (b : List ℕ) : Type 0 where
   -- the outcome is stray at s exactly if the first literal that is above n or names a variable once more is above n, and its first byte is at s
-  pub stray : (s : ℕ) → (assignedOf n (literalsFrom t p) (filledWith n 2 b) ≡ Outcome.stray s) ↔ StrayAt n (literalsFrom t p) s
+  pub stray : (s : ℕ) → (assignedOf n (literalsFrom t p) (overwritten n 2 b) ≡ Outcome.stray s) ↔ StrayAt n (literalsFrom t p) s
   -- it is repeated at s exactly if that literal names a variable once more
-  pub repeated : (s : ℕ) → (assignedOf n (literalsFrom t p) (filledWith n 2 b) ≡ Outcome.repeated s) ↔ RepeatedAt n (literalsFrom t p) s
+  pub repeated : (s : ℕ) → (assignedOf n (literalsFrom t p) (overwritten n 2 b) ≡ Outcome.repeated s) ↔ RepeatedAt n (literalsFrom t p) s
   -- it is done exactly if each literal is of a variable from 1 to n and none is named twice
-  pub done : (assignedOf n (literalsFrom t p) (filledWith n 2 b) ≡ Outcome.done) ↔ AllFit n (literalsFrom t p)
+  pub done : (assignedOf n (literalsFrom t p) (overwritten n 2 b) ≡ Outcome.done) ↔ AllFit n (literalsFrom t p)
   -- then the byte of a variable that a literal names is 1 if the literal is positive, 0 if it is negative
   pub values : AllFit n (literalsFrom t p) → (k : ℕ) → k < length (literalsFrom t p)
-      → getD (assignedBytes n (literalsFrom t p) (filledWith n 2 b)) (variableAt (literalsFrom t p) k - 1) 0 ≡ valueOf (literalAt (literalsFrom t p) k)
+      → getD (assignedBytes n (literalsFrom t p) (overwritten n 2 b)) (variableAt (literalsFrom t p) k - 1) 0 ≡ literalValue (literalAt (literalsFrom t p) k)
   -- and that of a variable that none names stays 2
-  pub unnamed : (v : ℕ) → zero < v → v ≤ n → Unnamed (literalsFrom t p) v → getD (assignedBytes n (literalsFrom t p) (filledWith n 2 b)) (v - 1) 0 ≡ 2
+  pub unnamed : (v : ℕ) → zero < v → v ≤ n → Unnamed (literalsFrom t p) v → getD (assignedBytes n (literalsFrom t p) (overwritten n 2 b)) (v - 1) 0 ≡ 2
   -- as many stay 2 as variables from 1 to n that no literal names
-  pub counted : AllFit n (literalsFrom t p) → unsetCount n (assignedBytes n (literalsFrom t p) (filledWith n 2 b)) ≡ unnamedCount n (literalsFrom t p)
+  pub counted : AllFit n (literalsFrom t p) → unsetCount n (assignedBytes n (literalsFrom t p) (overwritten n 2 b)) ≡ unnamedCount n (literalsFrom t p)
 
 -- literals from position p on that give no variable twice and none above n
 pub record Completing (t : List ℕ) (p n : ℕ) : Type 0 where
@@ -175,7 +175,7 @@ pub record Working : Type 0 where
   pub assigning : (t : List ℕ) (p n : ℕ) (b : List ℕ) → Assigning t p n b
   pub completing : (t : List ℕ) (p n : ℕ) → AllFit n (literalsFrom t p) → Completing t p n
   -- the first 65,537 bytes of an answer and its length give the result of the whole answer
-  pub counted-answer : (x : Reading) (u : List ℕ) (a l : ℕ) → readResult x (take 65537 u) (length u) a l ≡ readResult x u (length u) a l
+  pub counted-answer : (x : ReadResult) (u : List ℕ) (a l : ℕ) → callResult x (take 65537 u) (length u) a l ≡ callResult x u (length u) a l
 
 general : (P : Program) (w : ℕ) → General P w
 general P w = record { same-clauses = clauses-whole P w; same-variables = variables-whole P w; same-reduct = reduct-whole P w; same-fill = fill-whole P w }

@@ -27,7 +27,7 @@ use Rattle.theory.proofs.Base as Base
 use Rattle.text.specs.Limits.{Limits, Admitted}
 use Rattle.program.specs.Arrays.{decoded}
 use Rattle.program.proofs.Decode.{decoded-kept}
-use Rattle.reader.specs.declared.Reading.{Reading}
+use Rattle.reader.specs.declared.ReadResult.{ReadResult}
 use Rattle.reader.specs.declared.ReadVerdict.the-variants.{Accepted}
 use Rattle.reader.specs.Verdict.{readOf}
 use Rattle.reader.proofs.Counted.{counted-whole}
@@ -44,11 +44,11 @@ use Rattle.call_lines.proofs.Parts.{lines-many, file-parts, some-line}
 use Rattle.call_lines.proofs.Rows.{answers-line-first, first-line-answers, first-line-unique, written-none, none-written}
 use Rattle.call_lines.proofs.Calls.{line-stays, line-writes, run-refused-as, run-stays, run-writes}
 use Rattle.answer_form.specs.Answer.{Answer, proper, answerText, Status, OfStatus}
-use Rattle.answer_form.specs.Reading.{Spotted, spotsOf}
+use Rattle.answer_form.specs.Pieces.{Spotted, spotsOf}
 use Rattle.answer_form.proofs.Spot as AnswerSpot
 use Rattle.answer_form.proofs.Unique.{answer-unique}
 use Rattle.answer_form.proofs.FirstBytes.{literals-at}
-use Rattle.answer_values.specs.Assign.{filledWith}
+use Rattle.answer_values.specs.Assign.{overwritten}
 use Rattle.answer_offers.proofs.Values.{values-complete, values-unique}
 use Rattle.call_check.specs.Rows.{Offers}
 use Rattle.call_check.proofs.Spots.{offers-unique, offers-named}
@@ -158,9 +158,9 @@ program-text t =
       smallest-breach = answers-breach t;
       breach-at = λ P e. breach-at P;
       accepted = (accepted-none t, none-accepted t);
-      admitted = (accepted-admitted t, λ a. ap (λ (x : Reading). x .verdict) (admitted-answer t (a .0) (a .1)));
-      kept-whole = λ P a. ap (λ (x : Reading). x .program) (admitted-answer t P a);
-      decoded-whole = λ P a. ap (λ (x : Reading). decoded (x .program)) (admitted-answer t P a) ∙ decoded-kept P;
+      admitted = (accepted-admitted t, λ a. ap (λ (x : ReadResult). x .verdict) (admitted-answer t (a .0) (a .1)));
+      kept-whole = λ P a. ap (λ (x : ReadResult). x .program) (admitted-answer t P a);
+      decoded-whole = λ P a. ap (λ (x : ReadResult). decoded (x .program)) (admitted-answer t P a) ∙ decoded-kept P;
       kept-nothing = refused-empty t;
     }
 
@@ -257,7 +257,7 @@ answer-text u =
 -- ---- 7 The check
 
 check-call : (t u b l : List ℕ) → CheckCall t u b l
-unfolding filledWith
+unfolding overwritten
 check-call t u b l =
     record {
       refused = λ r s. (answers-check-first t u (length b) (length l) r s, first-check-answers t u (length b) (length l) r s);

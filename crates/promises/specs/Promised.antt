@@ -65,10 +65,10 @@ use Rattle.call_lines.specs.Parts.{partsOf}
 use Rattle.call_lines.specs.Rows.{LineRow, FirstLineRow, LineAnswers, RunWritten}
 use Rattle.answer_form.specs.Answer.{Answer, proper, answerText, OfStatus}
 use Rattle.answer_form.specs.Answer as Solver
-use Rattle.answer_form.specs.Reading.{Spotted, LiteralAt}
+use Rattle.answer_form.specs.Pieces.{Spotted, LiteralAt}
 use Rattle.answer_values.specs.Rows.{AllFit}
 use Rattle.answer_offers.specs.Offered.{valuesOf, Completes, offeredText}
-use Rattle.call_results.specs.Results.{levelIn, varTotal}
+use Rattle.call_results.specs.Results.{levelByte, varTotal}
 use Rattle.call_check.specs.declared.CheckVerdict.the-variants.{Model}
 use Rattle.call_check.specs.Check.{checkAnswer, checkAssignment, checkLevels}
 use Rattle.call_check.specs.Rows.{Offers, clauseOf, CheckRow, FirstCheckRow, CheckAnswers, Accepts, Shows, ModelWritten}
@@ -267,7 +267,7 @@ pub record WriterOutput (t : List ℕ) : Type 0 where
   -- where it accepts, the whole clause file: all lines of its program, from line 0 on
   pub written : (P : Program) → Admitted t P → writerText t ≡ Writer.clauseFile P
   -- the first 65,537 bytes of the text and its length give the same
-  pub front : Writer.outputText (take 65537 t) (length t) ≡ writerText t
+  pub front : Writer.writerOutput (take 65537 t) (length t) ≡ writerText t
 
 -- the parts in which it hands over a clause file, each as many whole lines as fit 65,536 bytes; `fileBefore P j` are the lines before line j, joined
 pub record WriterParts (P : Program) : Type 0 where
@@ -288,11 +288,11 @@ pub record AnswerText (u : List ℕ) : Type 0 where
   -- a text has the form, `HasForm`, if it is what `answerText` prints for some proper answer; no two proper answers have one text
   pub one-answer : (a b : Answer) → So (proper a) → So (proper b) → u ≡ answerText a → u ≡ answerText b → a ≡ b
   -- a text that does not have the form is malformed at one spot, and a text of the form at none
-  pub malformed-somewhere : (Solver.HasForm u → ⊥) → (s : ℕ) × Solver.Malformed u s
-  pub one-spot : (s v : ℕ) → Solver.Malformed u s → Solver.Malformed u v → s ≡ v
-  pub form-at-none : Solver.HasForm u → (s : ℕ) → Solver.Malformed u s → ⊥
+  pub malformed-somewhere : (Solver.HasAnswerForm u → ⊥) → (s : ℕ) × Solver.AnswerMalformed u s
+  pub one-spot : (s v : ℕ) → Solver.AnswerMalformed u s → Solver.AnswerMalformed u v → s ≡ v
+  pub form-at-none : Solver.HasAnswerForm u → (s : ℕ) → Solver.AnswerMalformed u s → ⊥
   -- a text of the form has the status SATISFIABLE and offers literals, or has another status
-  pub of-form : Solver.HasForm u → ((xs : List Spotted) × Offers u xs) ⊎ ((x : Solver.Status) × OfStatus u x)
+  pub of-form : Solver.HasAnswerForm u → ((xs : List Spotted) × Offers u xs) ⊎ ((x : Solver.Status) × OfStatus u x)
   -- and never both
   pub one-status : (xs : List Spotted) (x : Solver.Status) → Offers u xs → OfStatus u x → ⊥
   -- it offers one list of literals alone
@@ -329,7 +329,7 @@ pub record CheckerOutput (t u : List ℕ) : Type 0 where
   -- model, and their level numbers
   pub shown : (k h c : ℕ) → checkAnswer t u 9890 126 ≡ Model k h c → PrintsModel t u c
   -- the first 65,537 bytes of each and its length give the same
-  pub front : Checker.outputText (take 65537 t) (length t) (take 65537 u) (length u) ≡ checkerText t u
+  pub front : Checker.checkerOutput (take 65537 t) (length t) (take 65537 u) (length u) ≡ checkerText t u
 
 -- ---- 8 Filling out: the program text t, the set s, the buffers b for the assignment and l for the levels are any
 
@@ -366,7 +366,7 @@ pub record TextDemand3 (t : List ℕ) (P : Program) : Type 0 where
   -- for each atom the counter, the level byte that the check writes and the level number are equal
   pub levels : (bs : List Bool) (X : AcceptedAssignment t P bs) (b l : List ℕ) → Room P b l → (a : ℕ) → So (isAtom (P .atoms) a)
       → (counter (sizes P (width (P .atoms))) (valueOf bs) a ≡ level P (trueAtoms P bs) a)
-      × (levelIn (checkLevels t (X .answer) (length b) l) a ≡ level P (trueAtoms P bs) a)
+      × (levelByte (checkLevels t (X .answer) (length b) l) a ≡ level P (trueAtoms P bs) a)
   -- 0 for a false atom
   pub false-zero : (bs : List Bool) → AcceptedAssignment t P bs → (a : ℕ) → trueAtoms P bs a ≡ false → level P (trueAtoms P bs) a ≡ 0
   -- for every stable model there is an accepted assignment with it as its true atoms: the answer that prints the filled-out list has it
@@ -410,10 +410,10 @@ pub record LevelsWithoutGaps : Type 0 where
   -- in the bytes that every accepting check writes, with the number k of true atoms and the highest level h that it returns: the true atoms are those of 1 to
   -- n whose byte of the assignment is not 0, and their levels are their level bytes
   pub of-check : (t u b l : List ℕ) (k h c : ℕ) → checkAnswer t u (length b) (length l) ≡ Model k h c
-      → (P : Program) × Admitted t P × WithoutGaps (setIn (P .atoms) (checkAssignment t u b (length l))) (levelIn (checkLevels t u (length b) l)) k h
+      → (P : Program) × Admitted t P × WithoutGaps (setIn (P .atoms) (checkAssignment t u b (length l))) (levelByte (checkLevels t u (length b) l)) k h
   -- in the bytes that every accepting filling out writes
   pub of-fill : (t s b l : List ℕ) (k h : ℕ) → fillAnswer t s (length b) (length l) ≡ Filled k h
-      → (P : Program) × Admitted t P × WithoutGaps (setIn (P .atoms) (fillAssignment t s b (length l))) (levelIn (fillLevels t s (length b) l)) k h
+      → (P : Program) × Admitted t P × WithoutGaps (setIn (P .atoms) (fillAssignment t s b (length l))) (levelByte (fillLevels t s (length b) l)) k h
 
 -- ---- 11 The calls for other languages: a reply's number is 0 exactly if the call accepts
 

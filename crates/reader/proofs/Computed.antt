@@ -5,11 +5,11 @@ use Prim.Native.String.{String}
 use mathlib.Core.Path.{_≡_, refl}
 use mathlib.Core.List.{List, [], _∷_, map}
 use Rattle.lists.specs.Ascii.{ascii}
-use Rattle.reader_form.specs.Automaton.{formAt, digitTest, literalOf, leaveOf, digitOf, itemOf, actAt, stepOf}
+use Rattle.reader_form.specs.Automaton.{formAt, digitTest, literalOf, leaveOf, digitOf, itemOf, actAt, formStep}
 use Rattle.reader.specs.declared.ReadVerdict.{ReadVerdict}
 use Rattle.reader.specs.declared.ReadVerdict.the-variants.{Accepted, Refused}
 use Rattle.reader_work.specs.Work as Work
-use Rattle.reader_work.specs.Reading.{ended, readFrom}
+use Rattle.reader_work.specs.Fold.{ended, readFrom}
 use Rattle.refusals.specs.Numbers.{textNumber, textSpot}
 use Rattle.reader.specs.Verdict.{refusalOf, refuseOf, finished, readOf}
 
@@ -49,5 +49,5 @@ cases =
     ∷ []
 
 pub cases-hold : map computed cases ≡ cases
-unfolding ascii formAt digitTest literalOf leaveOf digitOf itemOf actAt stepOf Work.grownOf Work.valueOf Work.beginOf Work.atomsEnded Work.headEnded Work.headStored Work.bodyEnded Work.bodyStored Work.openedOf Work.startStored Work.ruleShut Work.endedOf Work.endedHeads Work.endedBodies Work.bracketOf Work.bracketStarts Work.workOf Work.workHeads Work.workStarts Work.workBodies ended readFrom refusalOf refuseOf finished readOf computed cases
+unfolding ascii formAt digitTest literalOf leaveOf digitOf itemOf actAt formStep Work.grownOf Work.valueAfter Work.beginAfter Work.atomsEnded Work.headEnded Work.headStored Work.bodyEnded Work.bodyStored Work.openedOf Work.startStored Work.ruleShut Work.endedOf Work.endedHeads Work.endedBodies Work.bracketOf Work.bracketStarts Work.workOf Work.workHeads Work.workStarts Work.workBodies ended readFrom refusalOf refuseOf finished readOf computed cases
 cases-hold = refl

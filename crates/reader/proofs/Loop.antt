@@ -9,15 +9,15 @@ use lib.Dec.{eqb}
 use lib.ListN.{length, getD, drop, drop-of-length-le}
 use lib.Seq.{drop-cons}
 use borrow.Author.Tests.{eq-eqb, ne-eqb}
-use Rattle.reader_form.specs.declared.Place.{Place}
-use Rattle.reader_form.specs.Automaton.{stepOf}
+use Rattle.reader_form.specs.declared.FormState.{FormState}
+use Rattle.reader_form.specs.Automaton.{formStep}
 use Rattle.reader_work.specs.declared.Counts.{Counts}
-use Rattle.reader_work.specs.Work.{refusedOf, valueOf, beginOf, workOf, workHeads, workStarts, workBodies}
+use Rattle.reader_work.specs.Work.{refusedOf, valueAfter, beginAfter, workOf, workHeads, workStarts, workBodies}
 use Rattle.refusals.specs.declared.TextRefusal.{TextRefusal}
 use Rattle.reader.specs.declared.ReadVerdict.the-variants.{Accepted}
-use Rattle.reader.specs.declared.Reading.{Reading}
+use Rattle.reader.specs.declared.ReadResult.{ReadResult}
 use Rattle.reader.specs.Verdict.{refusalOf, refuseOf, finished}
-use Rattle.reader_work.specs.Reading.{State, advance, deadAt, malformed, ended, readFrom, Ends}
+use Rattle.reader_work.specs.Fold.{State, advance, deadAt, malformed, ended, readFrom, Ends}
 
 pub ends-of : (c : Counts) (h st b : List ℕ) (s w : State) → s ≡ w → Ends c h st b s → Ends c h st b w
 ends-of c h st b s w e x = subst (λ (w : State). Ends c h st b w) e x
@@ -59,26 +59,26 @@ module _ (t : List ℕ) (i : ℕ) (s w : State) (inv : readFrom s i (drop i t) �
       (record { ends-counts = refl; ends-heads = refl; ends-starts = refl; ends-bodies = refl })
 
 -- the state after a turn, from what the turn's calls give
-pub advanced : (s : State) (i b : ℕ) (p : Place) (v g : ℕ) (c : Counts) (h st bo : List ℕ)
-    → p ≡ stepOf (s .k) (s .mode) b
+pub advanced : (s : State) (i b : ℕ) (p : FormState) (v g : ℕ) (c : Counts) (h st bo : List ℕ)
+    → p ≡ formStep (s .k) (s .mode) b
     → c ≡ workOf (p .act) (s .k) (s .value) (s .begin) i (s .counts)
     → h ≡ workHeads (p .act) (s .k) (s .value) (s .counts) (s .heads)
     → st ≡ workStarts (p .act) (s .counts) (s .starts)
     → bo ≡ workBodies (p .act) (s .k) (s .value) (s .counts) (s .bodies)
-    → v ≡ valueOf (p .act) (s .value) b
-    → g ≡ beginOf (p .act) (s .begin) i
+    → v ≡ valueAfter (p .act) (s .value) b
+    → g ≡ beginAfter (p .act) (s .begin) i
     → _≡_ {A = State} (record { k = p .k; mode = p .mode; value = v; begin = g; counts = c; heads = h; starts = st; bodies = bo }) (advance s i b)
 advanced s i b p v g c h st bo ep ec eh es eb ev eg = rw (ec, eh, es, eb, ev, eg, ep)
 
-pub dead-of : (k mode b : ℕ) (p : Place) → p ≡ stepOf k mode b → p .mode ≡ 4 → eqb (stepOf k mode b .mode) 4 ≡ true
-dead-of k mode b p e h = ap (λ (q : Place). eqb (q .mode) 4) (sym e) ∙ eq-eqb (p .mode) 4 h
+pub dead-of : (k mode b : ℕ) (p : FormState) → p ≡ formStep k mode b → p .mode ≡ 4 → eqb (formStep k mode b .mode) 4 ≡ true
+dead-of k mode b p e h = ap (λ (q : FormState). eqb (q .mode) 4) (sym e) ∙ eq-eqb (p .mode) 4 h
 
-pub live-of : (k mode b : ℕ) (p : Place) → p ≡ stepOf k mode b → (p .mode ≡ 4 → ⊥) → eqb (stepOf k mode b .mode) 4 ≡ false
-live-of k mode b p e h = ap (λ (q : Place). eqb (q .mode) 4) (sym e) ∙ ne-eqb (p .mode) 4 h
+pub live-of : (k mode b : ℕ) (p : FormState) → p ≡ formStep k mode b → (p .mode ≡ 4 → ⊥) → eqb (formStep k mode b .mode) 4 ≡ false
+live-of k mode b p e h = ap (λ (q : FormState). eqb (q .mode) 4) (sym e) ∙ ne-eqb (p .mode) 4 h
 
 -- ---- the whole answer, from the loop's
 
-pub finish-refused : (c : Counts) (h st b : List ℕ) (s : State) (x : TextRefusal) (r : Reading)
+pub finish-refused : (c : Counts) (h st b : List ℕ) (s : State) (x : TextRefusal) (r : ReadResult)
     → Ends c h st b s → (c .number ≡ 0 → ⊥) → x ≡ refusalOf (c .number) (c .spot) → r ≡ refuseOf x → r ≡ finished s
 unfolding finished
 finish-refused c h st b s x r e z p q =
@@ -86,7 +86,7 @@ finish-refused c h st b s x r e z p q =
     ∙ rw (ne-eqb (s .counts .number) 0 (λ n. z (ap (λ (c : Counts). c .number) (e .ends-counts) ∙ n)))
 
 pub finish-accepted : (c : Counts) (h st b : List ℕ) (s : State) → Ends c h st b s → c .number ≡ 0
-    → _≡_ {A = Reading} (record { verdict = Accepted; program = record { atoms = c .atoms; rules = c .rules; held = c .held; heads = h; starts = st; bodies = b } }) (finished s)
+    → _≡_ {A = ReadResult} (record { verdict = Accepted; program = record { atoms = c .atoms; rules = c .rules; held = c .held; heads = h; starts = st; bodies = b } }) (finished s)
 unfolding finished
 finish-accepted c h st b s e z =
     rw (eq-eqb (s .counts .number) 0 (sym (ap (λ (c : Counts). c .number) (e .ends-counts)) ∙ z), e .ends-counts, e .ends-heads, e .ends-starts, e .ends-bodies)

@@ -6,9 +6,9 @@ use mathlib.Core.Bool.{cond}
 use mathlib.Core.List.{List}
 use lib.Dec.{ltb}
 use Rattle.text.specs.Limits.{maxText}
-use Rattle.reader.specs.declared.Reading.{Reading}
+use Rattle.reader.specs.declared.ReadResult.{ReadResult}
 use Rattle.refusals.specs.declared.TextRefusal.the-variants.{Overlong}
 use Rattle.reader.specs.Verdict.{refuseOf, readOf}
 
-unfoldable pub countedOf : List ℕ → ℕ → Reading
+unfoldable pub countedOf : List ℕ → ℕ → ReadResult
 countedOf front total = cond (ltb maxText total) (refuseOf (Overlong total)) (readOf front)

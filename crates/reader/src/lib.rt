@@ -5,7 +5,7 @@ use numbers::STARTS;
 use program::Program;
 use program::empty;
 use reader_fast::Stand;
-use reader_fast::lines;
+use reader_fast::take_lines;
 use reader_form::AT_PLACE;
 use reader_form::DEAD;
 use reader_form::FORM_RULE;
@@ -17,8 +17,8 @@ use reader_work::value_after;
 use reader_work::work;
 use refusals::TextRefusal;
 ghost use mathlib.Core.Path.{_≡_};
-ghost use Rattle.reader_work.specs.Reading.{Ends, readFrom, started};
-ghost use Rattle.reader_fast.specs.Standing.{readOn};
+ghost use Rattle.reader_work.specs.Fold.{Ends, readFrom, started};
+ghost use Rattle.reader_fast.specs.Standing.{readRest};
 ghost use Rattle.reader.specs.Verdict.{refusalOf, refuseOf, readOf};
 ghost use Rattle.reader.specs.Counted.{countedOf};
 
@@ -32,7 +32,7 @@ pub enum ReadVerdict {
 }
 
 // The verdict, and the program: the empty one where the text is refused.
-pub struct Reading {
+pub struct ReadResult {
     pub verdict: ReadVerdict,
     pub program: Program,
 }
@@ -45,7 +45,7 @@ fn finish(
     starts: &mut [u16; STARTS],
     bodies: &mut [u16; BODIES],
 ) -> Counts
-    ensures { λ r. ⌜ Ends r (now (heads .exit)) (now (starts .exit)) (now (bodies .exit)) (readOn s (now (heads .entry)) (now (starts .entry)) (now (bodies .entry)) (now (text .entry))) ⌝ }
+    ensures { λ r. ⌜ Ends r (now (heads .exit)) (now (starts .exit)) (now (bodies .exit)) (readRest s (now (heads .entry)) (now (starts .entry)) (now (bodies .entry)) (now (text .entry))) ⌝ }
 {
     let mut k = s.k;
     let mut mode = s.mode;
@@ -111,7 +111,7 @@ fn read_into(
         held: 0,
         prev: 0,
     };
-    let p = lines(text, s, &mut *heads, &mut *starts, &mut *bodies);
+    let p = take_lines(text, s, &mut *heads, &mut *starts, &mut *bodies);
     finish(text, p, &mut *heads, &mut *starts, &mut *bodies)
 }
 
@@ -138,18 +138,18 @@ fn refusal(number: u8, spot: usize) -> TextRefusal
 }
 
 // A text that is refused, and the empty program.
-fn refuse(refusal: TextRefusal) -> Reading
+fn refuse(refusal: TextRefusal) -> ReadResult
     ensures { λ r. ⌜ r ≡ refuseOf refusal ⌝ }
 {
     let program = empty();
-    Reading {
+    ReadResult {
         verdict: ReadVerdict::Refused(refusal),
         program: program,
     }
 }
 
 // Reads a program text: its verdict, and its program if it is accepted.
-pub fn read(text: &[u8]) -> Reading
+pub fn read(text: &[u8]) -> ReadResult
     ensures { λ r. ⌜ r ≡ readOf (now (text .entry)) ⌝ }
 {
     if MAX_TEXT < text.len() {
@@ -170,18 +170,18 @@ pub fn read(text: &[u8]) -> Reading
         starts: starts,
         bodies: bodies,
     };
-    Reading {
+    ReadResult {
         verdict: ReadVerdict::Accepted,
         program: program,
     }
 }
 
 // Reads the text that begins with `front` and has `total` bytes. Of a text that is not overlong `front` is all.
-pub fn read_counted(front: &[u8], total: usize) -> Reading
+pub fn read_counted(front: &[u8], total: usize) -> ReadResult
     ensures { λ r. ⌜ r ≡ countedOf (now (front .entry)) total ⌝ }
 {
     if MAX_TEXT < total {
-        return Reading {
+        return ReadResult {
             verdict: ReadVerdict::Refused(TextRefusal::Overlong(total)),
             program: empty(),
         };

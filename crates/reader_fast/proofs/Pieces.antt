@@ -11,12 +11,12 @@ use mathlib.Core.List.{List, [], _∷_}
 use lib.Dec.{eqb}
 use lib.ListN.{length, getD, set}
 use borrow.Author.Tests.{not-false}
-use Rattle.reader_form.specs.Automaton.{placed, stepOf}
+use Rattle.reader_form.specs.Automaton.{placed, formStep}
 use Rattle.reader_fast.specs.declared.Stand.{Stand}
-use Rattle.reader_fast.specs.declared.Numeral.{Numeral}
-use Rattle.reader_fast.specs.Standing.{standing, readOn, Goes, GoesHeads, GoesStarts, GoesBodies, hasAt, readyAt, listAt, listingAt, fitsAt, addedTo, numeralAt}
+use Rattle.reader_fast.specs.declared.ShortNumber.{ShortNumber}
+use Rattle.reader_fast.specs.Standing.{standing, readRest, Goes, GoesHeads, GoesStarts, GoesBodies, hasAt, readyAt, listAt, listingAt, fitsAt, addedTo, shortNumberAt}
 use Rattle.reader_fast.proofs.Words.{word-found}
-use Rattle.reader_fast.proofs.Digits.{Item, Read, numeral-read}
+use Rattle.reader_fast.proofs.Digits.{Item, Read, short-number-read}
 use Rattle.reader_fast.proofs.Tokens.{put, on, shutAs, beforeHead, beforeList, atLineEnd, beforeAtoms, ready-found, begun-from, between-from, shut-from}
 use Rattle.reader_fast.proofs.Tokens.{head-from, first-from, list-cases, closed-from, ListPlace, listing-found, fits-found, atom-behind}
 
@@ -76,41 +76,41 @@ module _ (s : Stand) (t : List ℕ) (r q : Bool) where
       subst (λ (x : Stand). Goes x (on s (s .k + 2) (s .at + 1) (s .prev)) t) (sym (ap (λ (m : ℕ). put s (s .k) m) m))
       (closed-from s t (yes q (hasAt t (s .at) (41 ∷ [])) f g) (s .k) (yes r (listAt (s .k)) e h))
 
-  module _ (n : Numeral) (z : n .size ≡ 0 → ⊥) where
-    pub headed-goes : r ≡ readyAt s 16 → not r ≡ false → n ≡ numeralAt t (s .at) → n .value ≤ s .atoms
-        → q ≡ hasAt t (s .at + n .size) beforeList → not q ≡ false → (heads heads′ : List ℕ) → heads′ ≡ set heads (s .rules + 1 - 1) (n .value)
-        → GoesHeads s heads (on s 19 (s .at + n .size + 2) 0) heads′ t
+  module _ (n : ShortNumber) (z : n .count ≡ 0 → ⊥) where
+    pub headed-goes : r ≡ readyAt s 16 → not r ≡ false → n ≡ shortNumberAt t (s .at) → n .value ≤ s .atoms
+        → q ≡ hasAt t (s .at + n .count) beforeList → not q ≡ false → (heads heads′ : List ℕ) → heads′ ≡ set heads (s .rules + 1 - 1) (n .value)
+        → GoesHeads s heads (on s 19 (s .at + n .count + 2) 0) heads′ t
     headed-goes e h p l f g heads heads′ w =
         rw (w, add-sub-cancel)
-        (from-ready s 16 r e h (λ (x : Stand). GoesHeads x heads (on s 19 (s .at + n .size + 2) 0) (set heads (s .rules) (n .value)) t)
-        (head-from s t n p z l (few-rules s 16 r e h) (yes q (hasAt t (s .at + n .size) beforeList) f g) heads))
+        (from-ready s 16 r e h (λ (x : Stand). GoesHeads x heads (on s 19 (s .at + n .count + 2) 0) (set heads (s .rules) (n .value)) t)
+        (head-from s t n p z l (few-rules s 16 r e h) (yes q (hasAt t (s .at + n .count) beforeList) f g) heads))
 
-    pub first-goes : (q′ : Bool) → r ≡ readyAt s 0 → not r ≡ false → q ≡ hasAt t (s .at) beforeAtoms → not q ≡ false → n ≡ numeralAt t (s .at + 7)
-        → n .value ≤ 126 → q′ ≡ hasAt t (s .at + 7 + n .size) atLineEnd → not q′ ≡ false
-        → Goes s (record { k = 10; at = s .at + 7 + n .size + 2; rules = s .rules; held = s .held; prev = s .prev; atoms = n .value; mode = 0 }) t
+    pub first-goes : (q′ : Bool) → r ≡ readyAt s 0 → not r ≡ false → q ≡ hasAt t (s .at) beforeAtoms → not q ≡ false → n ≡ shortNumberAt t (s .at + 7)
+        → n .value ≤ 126 → q′ ≡ hasAt t (s .at + 7 + n .count) atLineEnd → not q′ ≡ false
+        → Goes s (record { k = 10; at = s .at + 7 + n .count + 2; rules = s .rules; held = s .held; prev = s .prev; atoms = n .value; mode = 0 }) t
     first-goes q′ e h f g p l f′ g′ =
         from-ready s 0 r e h
         (λ (x : Stand).
-        Goes x (record { k = 10; at = s .at + 7 + n .size + 2; rules = s .rules; held = s .held; prev = s .prev; atoms = n .value; mode = 0 }) t)
-        (first-from s t n p z l (yes q (hasAt t (s .at) beforeAtoms) f g) (yes q′ (hasAt t (s .at + 7 + n .size) atLineEnd) f′ g′))
+        Goes x (record { k = 10; at = s .at + 7 + n .count + 2; rules = s .rules; held = s .held; prev = s .prev; atoms = n .value; mode = 0 }) t)
+        (first-from s t n p z l (yes q (hasAt t (s .at) beforeAtoms) f g) (yes q′ (hasAt t (s .at + 7 + n .count) atLineEnd) f′ g′))
 
-    -- a body atom and the byte behind it
-    module _ (e : r ≡ listingAt s) (h : not r ≡ false) (p : n ≡ numeralAt t (s .at)) (f : q ≡ fitsAt s (n .value)) (g : not q ≡ false) where
-      atom-goes : (k mode b : ℕ) → getD t (s .at + n .size) 0 ≡ b → (ListPlace (s .k) → stepOf (s .k) 2 b ≡ placed k mode 3) → eqb mode 4 ≡ false
-          → (bodies : List ℕ) → GoesBodies s bodies (addedTo s (n .value) k mode (s .at + n .size + 1)) (set bodies (s .held) (n .value)) t
-      unfolding readOn
+    -- a body atom and the byte after it
+    module _ (e : r ≡ listingAt s) (h : not r ≡ false) (p : n ≡ shortNumberAt t (s .at)) (f : q ≡ fitsAt s (n .value)) (g : not q ≡ false) where
+      atom-goes : (k mode b : ℕ) → getD t (s .at + n .count) 0 ≡ b → (ListPlace (s .k) → formStep (s .k) 2 b ≡ placed k mode 3) → eqb mode 4 ≡ false
+          → (bodies : List ℕ) → GoesBodies s bodies (addedTo s (n .value) k mode (s .at + n .count + 1)) (set bodies (s .held) (n .value)) t
+      unfolding readRest
       atom-goes k mode b c d a bodies heads starts =
           let l : ListPlace (s .k) × Item (s .k) (s .mode) = listing-found s (yes r (listingAt s) e h) in
-          let m : Read t (s .at) (standing s heads starts bodies) n = numeral-read t (s .at) (standing s heads starts bodies) (l .1) n p z in
+          let m : Read t (s .at) (standing s heads starts bodies) n = short-number-read t (s .at) (standing s heads starts bodies) (l .1) n p z in
           sym
           (m .same
-          ∙ atom-behind s t (n .value) (s .at) (s .at + n .size) (fits-found s (n .value) (yes q (fitsAt s (n .value)) f g)) (l .0) (m .left) heads starts bodies k mode b c (d (l .0)) a)
+          ∙ atom-behind s t (n .value) (s .at) (s .at + n .count) (fits-found s (n .value) (yes q (fitsAt s (n .value)) f g)) (l .0) (m .left) heads starts bodies k mode b c (d (l .0)) a)
 
       module _ (bodies bodies′ : List ℕ) (w : ℕ) (u : w ≡ s .held) (v : bodies′ ≡ set bodies w (n .value)) (x : Stand) where
-        pub space-goes : getD t (s .at + n .size) 0 ≡ 32 → x ≡ addedTo s (n .value) (s .k) 3 (s .at + n .size + 1) → GoesBodies s bodies x bodies′ t
+        pub space-goes : getD t (s .at + n .count) 0 ≡ 32 → x ≡ addedTo s (n .value) (s .k) 3 (s .at + n .count + 1) → GoesBodies s bodies x bodies′ t
         space-goes c y = rw (y, v, u) (atom-goes (s .k) 3 32 c (λ l. l .at-space) refl bodies)
 
-        pub bracket-goes : getD t (s .at + n .size) 0 ≡ 41 → x ≡ addedTo s (n .value) (s .k + 2) 0 (s .at + n .size + 1) → GoesBodies s bodies x bodies′ t
+        pub bracket-goes : getD t (s .at + n .count) 0 ≡ 41 → x ≡ addedTo s (n .value) (s .k + 2) 0 (s .at + n .count + 1) → GoesBodies s bodies x bodies′ t
         bracket-goes c y = rw (y, v, u) (atom-goes (s .k + 2) 0 41 c (λ l. l .at-bracket) refl bodies)
 
 -- ---- one after the other

@@ -59,7 +59,7 @@ module _ (t w : List ℕ) (at k : ℕ) where
     word-all h = sym (rw (drop-of-length-le w h) (begins-nil (drop (at + k) t))) ∙ inv
 
 module _ (t w : List ℕ) (at : ℕ) where
-  -- the word would end behind the text
+  -- the word would end after the text
   pub word-beyond : length t < at + length w → false ≡ hasAt t at w
   unfolding hasAt
   word-beyond h = go (ltb (length t) at) refl

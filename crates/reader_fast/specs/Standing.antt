@@ -1,11 +1,11 @@
 -- The reading where it stands between two words, numbers or lists of the form, and what the text has there.
---   standing s heads starts bodies   the state of a stand with three arrays: no number is at hand, nothing is refused
---   readOn s heads starts bodies t   the last state, from there over the rest of the text t
---   Goes s r t                       the reading from r is that from s, whatever the arrays hold
+--   standing s heads starts bodies     the state of a stand with three arrays: no number is begun, nothing is refused
+--   readRest s heads starts bodies t   the last state, from there over the rest of the text t
+--   Goes s r t                         the reading from r is that from s, whatever the arrays hold
 --   GoesHeads, GoesStarts, GoesBodies   the same, with the array before and after
---   hasAt t i w                      the bytes of t from i on begin with w
---   numeralAt t i                    the number at i, of one to three digits, the first not 0; size 0 where there is none
---   readyAt s k, listingAt s         s stands at place k itself; in a list, where a number may begin
+--   hasAt t i w                        the bytes of t from i on begin with w
+--   shortNumberAt t i                  the number at i, of one to three digits, the first not 0; count 0 where there is none
+--   readyAt s k, listingAt s           s stands at place k itself; in a list, where a number may begin
 --   fitsAt s v, addedTo s v k mode i   v may be the list's next atom; s with it, at place k before byte i
 -- Assumes nothing.
 use Prim.Native.Nat.{ℕ, _+_, _-_, _*_}
@@ -17,8 +17,8 @@ use lib.ListN.{length, getD, drop}
 use Rattle.text.specs.Limits.{maxRules, maxBodyAtoms}
 use Rattle.reader_form.specs.Automaton.{formPositive, formNegative, digitTest}
 use Rattle.reader_fast.specs.declared.Stand.{Stand}
-use Rattle.reader_fast.specs.declared.Numeral.{Numeral}
-use Rattle.reader_work.specs.Reading.{State, readFrom}
+use Rattle.reader_fast.specs.declared.ShortNumber.{ShortNumber}
+use Rattle.reader_work.specs.Fold.{State, readFrom}
 
 abbrev pub standing : Stand → List ℕ → List ℕ → List ℕ → State
 standing s heads starts bodies =
@@ -33,20 +33,20 @@ standing s heads starts bodies =
       bodies = bodies;
     }
 
-unfoldable pub readOn : Stand → List ℕ → List ℕ → List ℕ → List ℕ → State
-readOn s heads starts bodies t = readFrom (standing s heads starts bodies) (s .at) (drop (s .at) t)
+unfoldable pub readRest : Stand → List ℕ → List ℕ → List ℕ → List ℕ → State
+readRest s heads starts bodies t = readFrom (standing s heads starts bodies) (s .at) (drop (s .at) t)
 
 abbrev pub Goes : Stand → Stand → List ℕ → Type 0
-Goes s r t = (heads starts bodies : List ℕ) → readOn r heads starts bodies t ≡ readOn s heads starts bodies t
+Goes s r t = (heads starts bodies : List ℕ) → readRest r heads starts bodies t ≡ readRest s heads starts bodies t
 
 abbrev pub GoesHeads : Stand → List ℕ → Stand → List ℕ → List ℕ → Type 0
-GoesHeads s heads r heads′ t = (starts bodies : List ℕ) → readOn r heads′ starts bodies t ≡ readOn s heads starts bodies t
+GoesHeads s heads r heads′ t = (starts bodies : List ℕ) → readRest r heads′ starts bodies t ≡ readRest s heads starts bodies t
 
 abbrev pub GoesStarts : Stand → List ℕ → Stand → List ℕ → List ℕ → Type 0
-GoesStarts s starts r starts′ t = (heads bodies : List ℕ) → readOn r heads starts′ bodies t ≡ readOn s heads starts bodies t
+GoesStarts s starts r starts′ t = (heads bodies : List ℕ) → readRest r heads starts′ bodies t ≡ readRest s heads starts bodies t
 
 abbrev pub GoesBodies : Stand → List ℕ → Stand → List ℕ → List ℕ → Type 0
-GoesBodies s bodies r bodies′ t = (heads starts : List ℕ) → readOn r heads starts bodies′ t ≡ readOn s heads starts bodies t
+GoesBodies s bodies r bodies′ t = (heads starts : List ℕ) → readRest r heads starts bodies′ t ≡ readRest s heads starts bodies t
 
 -- t begins with w
 unfoldable pub begins : List ℕ → List ℕ → Bool
@@ -57,23 +57,23 @@ begins (a ∷ t) (b ∷ w) = cond (eqb a b) (begins t w) false
 unfoldable pub hasAt : List ℕ → ℕ → List ℕ → Bool
 hasAt t i w = cond (ltb (length t) i) false (begins (drop i t) w)
 
-abbrev pub numeral : ℕ → ℕ → Numeral
-numeral value size = record { value = value; size = size }
+abbrev pub shortNumber : ℕ → ℕ → ShortNumber
+shortNumber value size = record { value = value; count = size }
 
 -- the number that begins with the bytes a, b and c
-unfoldable pub numeralOf : ℕ → ℕ → ℕ → Numeral
-numeralOf a b c =
-    cond (ltb a 49) (numeral 0 0)
-    (cond (ltb 57 a) (numeral 0 0)
+unfoldable pub shortNumberOf : ℕ → ℕ → ℕ → ShortNumber
+shortNumberOf a b c =
+    cond (ltb a 49) (shortNumber 0 0)
+    (cond (ltb 57 a) (shortNumber 0 0)
     (cond (digitTest b)
-    (cond (digitTest c) (numeral (((a - 48) * 10 + (b - 48)) * 10 + (c - 48)) 3) (numeral ((a - 48) * 10 + (b - 48)) 2))
-    (numeral (a - 48) 1)))
+    (cond (digitTest c) (shortNumber (((a - 48) * 10 + (b - 48)) * 10 + (c - 48)) 3) (shortNumber ((a - 48) * 10 + (b - 48)) 2))
+    (shortNumber (a - 48) 1)))
 
--- four bytes are asked for, so that one stands behind the number
-unfoldable pub numeralAt : List ℕ → ℕ → Numeral
-numeralAt t i =
-    cond (ltb (length t) 4) (numeral 0 0)
-    (cond (ltb (length t - 4) i) (numeral 0 0) (numeralOf (getD t i 0) (getD t (i + 1) 0) (getD t (i + 2) 0)))
+-- four bytes are asked for, so that one stands after the number
+unfoldable pub shortNumberAt : List ℕ → ℕ → ShortNumber
+shortNumberAt t i =
+    cond (ltb (length t) 4) (shortNumber 0 0)
+    (cond (ltb (length t - 4) i) (shortNumber 0 0) (shortNumberOf (getD t i 0) (getD t (i + 1) 0) (getD t (i + 2) 0)))
 
 -- at place k itself, with fewer than 500 rules
 unfoldable pub readyAt : Stand → ℕ → Bool

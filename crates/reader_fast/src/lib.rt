@@ -24,10 +24,10 @@ use reader_work::put_body;
 use reader_work::put_head;
 ghost use Prim.Native.Nat.{_<_};
 ghost use mathlib.Core.Path.{_≡_};
-ghost use Rattle.reader_fast.specs.Standing.{readOn, Goes, GoesHeads, GoesStarts, GoesBodies};
-ghost use Rattle.reader_fast.specs.Standing.{hasAt, numeralOf, numeralAt, readyAt, listAt, listingAt, fitsAt, addedTo};
+ghost use Rattle.reader_fast.specs.Standing.{readRest, Goes, GoesHeads, GoesStarts, GoesBodies};
+ghost use Rattle.reader_fast.specs.Standing.{hasAt, shortNumberOf, shortNumberAt, readyAt, listAt, listingAt, fitsAt, addedTo};
 
-// Where the reading stands, with no number at hand and nothing refused: the place in the form and its mode, the next byte, what is counted,
+// Where the reading stands, with no number begun and nothing refused: the place in the form and its mode, the next byte, what is counted,
 // and the list's last number. The fields leave no gap between them, so a copy moves whole words.
 pub struct Stand {
     pub k: usize,
@@ -39,10 +39,10 @@ pub struct Stand {
     pub mode: u8,
 }
 
-// A number, and how many digits it has: size 0 stands for no number.
-struct Numeral {
+// A number, and how many digits it has: count 0 stands for no number.
+struct ShortNumber {
     value: u16,
-    size: usize,
+    count: usize,
 }
 
 // ---- the text
@@ -68,40 +68,40 @@ fn has<'a>(text: &'a [u8], at: usize, word: &'a [u8]) -> bool
 }
 
 // The number of one to three digits, the first not 0, that begins with the bytes a, b and c.
-fn numeral_of(a: u8, b: u8, c: u8) -> Numeral
-    ensures { λ r. ⌜ r ≡ numeralOf a b c ⌝ }
+fn short_number_of(a: u8, b: u8, c: u8) -> ShortNumber
+    ensures { λ r. ⌜ r ≡ shortNumberOf a b c ⌝ }
 {
     if a < 49 {
-        return Numeral { value: 0, size: 0 };
+        return ShortNumber { value: 0, count: 0 };
     }
     if 57 < a {
-        return Numeral { value: 0, size: 0 };
+        return ShortNumber { value: 0, count: 0 };
     }
     let x = (a - 48) as u16;
     if !is_digit(b) {
-        return Numeral { value: x, size: 1 };
+        return ShortNumber { value: x, count: 1 };
     }
     let y = x * 10 + (b - 48) as u16;
     if !is_digit(c) {
-        return Numeral { value: y, size: 2 };
+        return ShortNumber { value: y, count: 2 };
     }
-    Numeral {
+    ShortNumber {
         value: y * 10 + (c - 48) as u16,
-        size: 3,
+        count: 3,
     }
 }
 
-// Such a number at `at`, where four bytes are left.
-fn numeral_at(text: &[u8], at: usize) -> Numeral
-    ensures { λ r. ⌜ r ≡ numeralAt (now (text .entry)) at ⌝ }
+// The number of one to three digits at `at`, where four bytes are left.
+fn short_number_at(text: &[u8], at: usize) -> ShortNumber
+    ensures { λ r. ⌜ r ≡ shortNumberAt (now (text .entry)) at ⌝ }
 {
     if text.len() < 4 {
-        return Numeral { value: 0, size: 0 };
+        return ShortNumber { value: 0, count: 0 };
     }
     if text.len() - 4 < at {
-        return Numeral { value: 0, size: 0 };
+        return ShortNumber { value: 0, count: 0 };
     }
-    numeral_of(text[at], text[at + 1], text[at + 2])
+    short_number_of(text[at], text[at + 1], text[at + 2])
 }
 
 // ---- the stand
@@ -173,8 +173,8 @@ fn added(s: Stand, value: u16, k: usize, mode: u8, at: usize) -> Stand
 
 // ---- the parts of the form
 
-// The first line.
-fn first(text: &[u8], s: Stand) -> Stand
+// Takes the first line.
+fn take_atoms_line(text: &[u8], s: Stand) -> Stand
     ensures { λ r. ⌜ Goes s r (now (text .entry)) ⌝ }
 {
     if !ready(s, 0) {
@@ -184,14 +184,14 @@ fn first(text: &[u8], s: Stand) -> Stand
     if !has(text, at, b"(atoms ") {
         return s;
     }
-    let n = numeral_at(text, at + 7);
-    if n.size == 0 {
+    let n = short_number_at(text, at + 7);
+    if n.count == 0 {
         return s;
     }
     if MAX_ATOMS < n.value {
         return s;
     }
-    let to = at + 7 + n.size;
+    let to = at + 7 + n.count;
     if !has(text, to, b")\n") {
         return s;
     }
@@ -206,8 +206,8 @@ fn first(text: &[u8], s: Stand) -> Stand
     }
 }
 
-// The bytes before a head.
-fn begun(text: &[u8], s: Stand) -> Stand
+// Takes the bytes before a head.
+fn take_rule_word(text: &[u8], s: Stand) -> Stand
     ensures { λ r. ⌜ Goes s r (now (text .entry)) ⌝ }
 {
     if !ready(s, FORM_RULE) {
@@ -228,22 +228,22 @@ fn begun(text: &[u8], s: Stand) -> Stand
     }
 }
 
-// A head, and the bytes up to the first list.
-fn headed(text: &[u8], s: Stand, heads: &mut [u16; HEADS]) -> Stand
+// Takes a head, and the bytes up to the first list.
+fn take_head(text: &[u8], s: Stand, heads: &mut [u16; HEADS]) -> Stand
     ensures { λ r. ⌜ GoesHeads s (now (heads .entry)) r (now (heads .exit)) (now (text .entry)) ⌝ }
 {
     if !ready(s, FORM_HEAD) {
         return s;
     }
     let at = s.at;
-    let n = numeral_at(text, at);
-    if n.size == 0 {
+    let n = short_number_at(text, at);
+    if n.count == 0 {
         return s;
     }
     if (s.atoms as u16) < n.value {
         return s;
     }
-    let to = at + n.size;
+    let to = at + n.count;
     if !has(text, to, b" (") {
         return s;
     }
@@ -259,8 +259,8 @@ fn headed(text: &[u8], s: Stand, heads: &mut [u16; HEADS]) -> Stand
     }
 }
 
-// The closing bracket of an empty list.
-fn closed(text: &[u8], s: Stand) -> Stand
+// Takes the closing bracket of an empty list.
+fn take_empty_list(text: &[u8], s: Stand) -> Stand
     ensures { λ r. ⌜ Goes s r (now (text .entry)) ⌝ }
 {
     if !is_list(s.k) {
@@ -284,21 +284,21 @@ fn closed(text: &[u8], s: Stand) -> Stand
     }
 }
 
-// A body atom, and the space or bracket behind it.
-fn item(text: &[u8], s: Stand, bodies: &mut [u16; BODIES]) -> Stand
+// Takes a body atom, and the space or bracket after it.
+fn take_body_atom(text: &[u8], s: Stand, bodies: &mut [u16; BODIES]) -> Stand
     ensures { λ r. ⌜ GoesBodies s (now (bodies .entry)) r (now (bodies .exit)) (now (text .entry)) ⌝ }
 {
     if !listing(s) {
         return s;
     }
-    let n = numeral_at(text, s.at);
-    if n.size == 0 {
+    let n = short_number_at(text, s.at);
+    if n.count == 0 {
         return s;
     }
     if !fits(s, n.value) {
         return s;
     }
-    let to = s.at + n.size;
+    let to = s.at + n.count;
     let b = text[to];
     if b == 32 {
         put_body(&mut *bodies, wide(s.held), Atom(n.value));
@@ -311,13 +311,13 @@ fn item(text: &[u8], s: Stand, bodies: &mut [u16; BODIES]) -> Stand
     s
 }
 
-// The atoms of a list, and its closing bracket.
-fn items(text: &[u8], s: Stand, bodies: &mut [u16; BODIES]) -> Stand
+// Takes the atoms of a list, and its closing bracket.
+fn take_body_atoms(text: &[u8], s: Stand, bodies: &mut [u16; BODIES]) -> Stand
     ensures { λ r. ⌜ GoesBodies s (now (bodies .entry)) r (now (bodies .exit)) (now (text .entry)) ⌝ }
 {
     let mut p = s;
     while is_list(p.k) {
-        let q = item(text, p, &mut *bodies);
+        let q = take_body_atom(text, p, &mut *bodies);
         if q.at <= p.at {
             return q;
         }
@@ -326,8 +326,8 @@ fn items(text: &[u8], s: Stand, bodies: &mut [u16; BODIES]) -> Stand
     p
 }
 
-// The bytes between the two lists.
-fn between(text: &[u8], s: Stand, starts: &mut [u16; STARTS]) -> Stand
+// Takes the bytes between the two lists.
+fn take_separator(text: &[u8], s: Stand, starts: &mut [u16; STARTS]) -> Stand
     ensures { λ r. ⌜ GoesStarts s (now (starts .entry)) r (now (starts .exit)) (now (text .entry)) ⌝ }
 {
     if !ready(s, FORM_BETWEEN) {
@@ -349,8 +349,8 @@ fn between(text: &[u8], s: Stand, starts: &mut [u16; STARTS]) -> Stand
     }
 }
 
-// The end of a rule line.
-fn shut(text: &[u8], s: Stand, starts: &mut [u16; STARTS]) -> Stand
+// Takes the end of a rule line.
+fn take_line_end(text: &[u8], s: Stand, starts: &mut [u16; STARTS]) -> Stand
     ensures { λ r. ⌜ GoesStarts s (now (starts .entry)) r (now (starts .exit)) (now (text .entry)) ⌝ }
 {
     if !ready(s, FORM_CLOSE) {
@@ -372,51 +372,51 @@ fn shut(text: &[u8], s: Stand, starts: &mut [u16; STARTS]) -> Stand
     }
 }
 
-// A rule line, or what of it is taken.
-fn rule(
+// Takes a rule line, or the front of one.
+fn take_rule(
     text: &[u8],
     s: Stand,
     heads: &mut [u16; HEADS],
     starts: &mut [u16; STARTS],
     bodies: &mut [u16; BODIES],
 ) -> Stand
-    ensures { λ r. ⌜ readOn r (now (heads .exit)) (now (starts .exit)) (now (bodies .exit)) (now (text .entry)) ≡ readOn s (now (heads .entry)) (now (starts .entry)) (now (bodies .entry)) (now (text .entry)) ⌝ }
+    ensures { λ r. ⌜ readRest r (now (heads .exit)) (now (starts .exit)) (now (bodies .exit)) (now (text .entry)) ≡ readRest s (now (heads .entry)) (now (starts .entry)) (now (bodies .entry)) (now (text .entry)) ⌝ }
 {
-    let a = begun(text, s);
+    let a = take_rule_word(text, s);
     if a.k != FORM_HEAD {
         return a;
     }
-    let b = headed(text, a, &mut *heads);
+    let b = take_head(text, a, &mut *heads);
     if b.k != FORM_POSITIVE {
         return b;
     }
-    let c = closed(text, b);
-    let d = items(text, c, &mut *bodies);
+    let c = take_empty_list(text, b);
+    let d = take_body_atoms(text, c, &mut *bodies);
     if d.k != FORM_BETWEEN {
         return d;
     }
-    let e = between(text, d, &mut *starts);
+    let e = take_separator(text, d, &mut *starts);
     if e.k != FORM_NEGATIVE {
         return e;
     }
-    let f = closed(text, e);
-    let g = items(text, f, &mut *bodies);
-    shut(text, g, &mut *starts)
+    let f = take_empty_list(text, e);
+    let g = take_body_atoms(text, f, &mut *bodies);
+    take_line_end(text, g, &mut *starts)
 }
 
-// The first line and the rule lines, up to what is not taken.
-pub fn lines(
+// Takes the first line and the rule lines, up to what is not of the expected form.
+pub fn take_lines(
     text: &[u8],
     s: Stand,
     heads: &mut [u16; HEADS],
     starts: &mut [u16; STARTS],
     bodies: &mut [u16; BODIES],
 ) -> Stand
-    ensures { λ r. ⌜ readOn r (now (heads .exit)) (now (starts .exit)) (now (bodies .exit)) (now (text .entry)) ≡ readOn s (now (heads .entry)) (now (starts .entry)) (now (bodies .entry)) (now (text .entry)) ⌝ }
+    ensures { λ r. ⌜ readRest r (now (heads .exit)) (now (starts .exit)) (now (bodies .exit)) (now (text .entry)) ≡ readRest s (now (heads .entry)) (now (starts .entry)) (now (bodies .entry)) (now (text .entry)) ⌝ }
 {
-    let mut p = first(text, s);
+    let mut p = take_atoms_line(text, s);
     while p.at < text.len() {
-        let q = rule(text, p, &mut *heads, &mut *starts, &mut *bodies);
+        let q = take_rule(text, p, &mut *heads, &mut *starts, &mut *bodies);
         if q.at <= p.at {
             return q;
         }

@@ -2,7 +2,7 @@
 ghost use mathlib.Core.Path.{_≡_};
 ghost use Prim.Native.Nat.{_<_};
 ghost use lib.ListN.{getD};
-ghost use Rattle.reader_form.specs.Automaton.{formAt, digitTest, literalOf, leaveOf, digitOf, itemOf, actAt, stepOf};
+ghost use Rattle.reader_form.specs.Automaton.{formAt, digitTest, literalOf, leaveOf, digitOf, itemOf, actAt, formStep};
 
 // The place of the number of atoms.
 pub const FORM_ATOMS: usize = 7;
@@ -68,7 +68,7 @@ pub const ACT_LIST: u8 = 5;
 pub const ACT_LINE: u8 = 6;
 
 // Place k of the form, how far it is read there, and what the last byte does.
-pub struct Place {
+pub struct FormState {
     pub k: usize,
     pub mode: u8,
     pub act: u8,
@@ -101,40 +101,40 @@ pub fn is_digit(b: u8) -> bool
 }
 
 // Byte b where place k has a fixed byte; the action is `act` if it is that byte.
-fn literal(k: usize, b: u8, act: u8) -> Place
+fn literal(k: usize, b: u8, act: u8) -> FormState
     ensures { λ r. ⌜ r ≡ literalOf k b act ⌝ }
 {
     let c = form_at(k);
     if b != c {
-        return Place {
+        return FormState {
             k: k,
             mode: DEAD,
             act: ACT_NONE,
         };
     }
     if c == 10 {
-        return Place {
+        return FormState {
             k: FORM_RULE,
             mode: AT_PLACE,
             act: act,
         };
     }
     if k < FORM_LENGTH {
-        return Place {
+        return FormState {
             k: k + 1,
             mode: AT_PLACE,
             act: act,
         };
     }
-    Place {
+    FormState {
         k: k,
         mode: DEAD,
         act: ACT_NONE,
     }
 }
 
-// Byte b, no digit, at or behind the numbers of place k, whose byte in the form is c.
-fn leave(k: usize, c: u8, mode: u8, b: u8) -> Place
+// Byte b, no digit, at or after the numbers of place k, whose byte in the form is c.
+fn leave(k: usize, c: u8, mode: u8, b: u8) -> FormState
     requires { ⌜ k < 27 ⌝ }
     ensures { λ r. ⌜ r ≡ leaveOf k c mode b ⌝ }
 {
@@ -142,14 +142,14 @@ fn leave(k: usize, c: u8, mode: u8, b: u8) -> Place
         if c == 42 {
             return literal(k + 1, b, ACT_NONE);
         }
-        return Place {
+        return FormState {
             k: k,
             mode: DEAD,
             act: ACT_NONE,
         };
     }
     if mode == AT_SPACE {
-        return Place {
+        return FormState {
             k: k,
             mode: DEAD,
             act: ACT_NONE,
@@ -159,7 +159,7 @@ fn leave(k: usize, c: u8, mode: u8, b: u8) -> Place
         return literal(k + 1, b, ACT_END);
     }
     if b == 32 {
-        return Place {
+        return FormState {
             k: k,
             mode: AT_SPACE,
             act: ACT_END,
@@ -169,31 +169,31 @@ fn leave(k: usize, c: u8, mode: u8, b: u8) -> Place
 }
 
 // A digit b in the numbers of place k.
-fn digit(k: usize, mode: u8, b: u8) -> Place
+fn digit(k: usize, mode: u8, b: u8) -> FormState
     ensures { λ r. ⌜ r ≡ digitOf k mode b ⌝ }
 {
     if mode == IN_ZERO {
-        return Place {
+        return FormState {
             k: k,
             mode: DEAD,
             act: ACT_NONE,
         };
     }
     if mode == IN_NUMBER {
-        return Place {
+        return FormState {
             k: k,
             mode: IN_NUMBER,
             act: ACT_GO,
         };
     }
     if b == 48 {
-        return Place {
+        return FormState {
             k: k,
             mode: IN_ZERO,
             act: ACT_BEGIN,
         };
     }
-    Place {
+    FormState {
         k: k,
         mode: IN_NUMBER,
         act: ACT_BEGIN,
@@ -201,7 +201,7 @@ fn digit(k: usize, mode: u8, b: u8) -> Place
 }
 
 // Byte b where place k has a number or a list, whose byte in the form is c.
-fn item(k: usize, c: u8, mode: u8, b: u8) -> Place
+fn item(k: usize, c: u8, mode: u8, b: u8) -> FormState
     requires { ⌜ k < 27 ⌝ }
     ensures { λ r. ⌜ r ≡ itemOf k c mode b ⌝ }
 {
@@ -227,9 +227,9 @@ fn act_at(k: usize) -> u8
     ACT_NONE
 }
 
-// Byte b, from place k with `mode` at hand.
-pub fn step(k: usize, mode: u8, b: u8) -> Place
-    ensures { λ r. ⌜ r ≡ stepOf k mode b ⌝ }
+// Byte b, from place k in mode `mode`.
+pub fn step(k: usize, mode: u8, b: u8) -> FormState
+    ensures { λ r. ⌜ r ≡ formStep k mode b ⌝ }
 {
     let c = form_at(k);
     if c == 35 {

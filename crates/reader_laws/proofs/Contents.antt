@@ -9,7 +9,7 @@ use Rattle.meaning.specs.Program.{Program}
 use Rattle.text.specs.Text.{textOf}
 use Rattle.refusals.specs.declared.TextRefusal.{TextRefusal}
 use Rattle.reader.specs.declared.ReadVerdict.the-variants.{Accepted, Refused}
-use Rattle.reader.specs.declared.Reading.{Reading}
+use Rattle.reader.specs.declared.ReadResult.{ReadResult}
 use Rattle.program.specs.Arrays.{emptyProgram}
 use Rattle.reader.specs.Verdict.{refuseOf, readOf}
 use Rattle.reader_laws.specs.Breach.{hits}
@@ -23,7 +23,7 @@ use Rattle.reader_laws.proofs.Within.{within, limits-no-hit}
 -- the verdict and program of a refusal
 refuses : (t : List ℕ) (r : TextRefusal) → readOf t ≡ refuseOf r → (readOf t .verdict ≡ Refused r) × (readOf t .program ≡ emptyProgram)
 unfolding refuseOf
-refuses t r e = (ap (λ (x : Reading). x .verdict) e, ap (λ (x : Reading). x .program) e)
+refuses t r e = (ap (λ (x : ReadResult). x .verdict) e, ap (λ (x : ReadResult). x .program) e)
 
 pub accepted-admitted : (t : List ℕ) → readOf t .verdict ≡ Accepted → (P : Program) × Admitted t P
 accepted-admitted t a = go (outcome t)
@@ -56,4 +56,4 @@ refused-empty t r v = go (outcome t)
     go (too-long h e) = refuses t _ e .1
     go (left-form s h m e) = refuses t _ e .1
     go (breached P x rest h p hs e) = refuses t _ e .1
-    go (fine P h p hs e) = absurd (not-both (ap (λ (x : Reading). x .verdict) e) v)
+    go (fine P h p hs e) = absurd (not-both (ap (λ (x : ReadResult). x .verdict) e) v)

@@ -1,10 +1,10 @@
 -- From every place that a text can reach some ending of bytes is accepted; a text that is not accepted has a longest part from which one is,
--- and that part is what `leaves` counts.
---   Ended k m t      some bytes behind t are accepted
---   ends             so it is behind nothing, from every live place
---   ended            and behind t, where any numbers behind t are accepted
+-- and that part is what `textLeaves` counts.
+--   Ended k m t      some bytes after t are accepted
+--   ends             so it is after nothing, from every live place
+--   ended            and after t, where any numbers after t are accepted
 --   LeftAt k m t n   n bytes of t are read before no ending is accepted
---   left             a text that is not accepted is left where `leaves` says
+--   left             a text that is not accepted is left where `textLeaves` says
 -- Assumes nothing.
 use Prim.Native.Nat.{ℕ, suc, pred, _+_, _≤_, _<_, suc-le-suc}
 use native.Mathlib.Nat.{not-suc-le-zero, eq-or-lt-of-le, le-of-suc-le-suc, suc-add}
@@ -20,12 +20,12 @@ use Rattle.lists.specs.Lists.{allTo}
 use Rattle.lists.proofs.Bools.{and-in, and-left, and-right, or-left, or-right}
 use Rattle.lists.proofs.Tests.{allTo-at}
 use Rattle.text.specs.Bytes.{areBytes}
-use Rattle.reader_form.specs.declared.Place.{Place}
-use Rattle.reader_form.specs.Automaton.{placed, formAt, digitTest, literalOf, leaveOf, digitOf, actAt, itemOf, stepOf}
-use Rattle.reader_laws.specs.Scan.{accepts, leaves, takesNumbers, live, endOf}
+use Rattle.reader_form.specs.declared.FormState.{FormState}
+use Rattle.reader_form.specs.Automaton.{placed, formAt, digitTest, literalOf, leaveOf, digitOf, actAt, itemOf, formStep}
+use Rattle.reader_laws.specs.Scan.{textAccepts, textLeaves, takesNumbers, live, textEnd}
 
 -- the place after a byte: past the form, or live
-data Alive (p : Place) : Type 0 where
+data Alive (p : FormState) : Type 0 where
   died : eqb (p .mode) 4 ≡ true → Alive p
   lives : live (p .k) (p .mode) ≡ true → Alive p
 
@@ -82,8 +82,8 @@ module _ (k : ℕ) (h : ltb k 27 ≡ true) (n : takesNumbers (formAt k) ≡ true
       go true = digit-alive m b
       go false = leave-alive c m b
 
-step-alive : (k m b : ℕ) → live k m ≡ true → Alive (stepOf k m b)
-unfolding stepOf live
+step-alive : (k m b : ℕ) → live k m ≡ true → Alive (formStep k m b)
+unfolding formStep live
 step-alive k m b l = go (eqb (formAt k) 35) refl (eqb (formAt k) 42) refl
   where
     go : (x : Bool) → eqb (formAt k) 35 ≡ x → (y : Bool) → eqb (formAt k) 42 ≡ y → Alive (cond x (itemOf k (formAt k) m b) (cond y (itemOf k (formAt k) m b) (literalOf k b (actAt k))))
@@ -103,54 +103,54 @@ live-mode k m l = go (eqb m 0) refl (and-right (ltb k 27) _ l)
     go true e t = omega (arith, eqb-true m 0 e)
     go false e t = ltb-true m 4 (and-left (ltb m 4) (takesNumbers (formAt k)) t)
 
--- from place k in mode m, if it is live, `endOf` is accepted and made of bytes
+-- from place k in mode m, if it is live, `textEnd` is accepted and made of bytes
 abbrev endsWell : ℕ → ℕ → Bool
-endsWell k m = not (live k m) || (accepts k m (endOf k m) && areBytes (endOf k m))
+endsWell k m = not (live k m) || (textAccepts k m (textEnd k m) && areBytes (textEnd k m))
 
 -- computed once for all of them
 endings : allTo 27 (λ k. allTo 4 (λ m. endsWell (pred k) (pred m))) ≡ true
-unfolding live accepts endOf stepOf formAt itemOf digitTest leaveOf digitOf literalOf actAt
+unfolding live textAccepts textEnd formStep formAt itemOf digitTest leaveOf digitOf literalOf actAt
 endings = refl
 
--- some bytes behind t are accepted
+-- some bytes after t are accepted
 pub record Ended (k m : ℕ) (t : List ℕ) : Type 0 where
   pub ending : List ℕ
   pub bytes : So (areBytes ending)
-  pub gives : accepts k m (t ++ ending) ≡ true
+  pub gives : textAccepts k m (t ++ ending) ≡ true
 
 pub ends : (k m : ℕ) → live k m ≡ true → Ended k m []
 ends k m l =
     let t = implied (live k m) _ l
     (allTo-at 4 (λ m. endsWell k (pred m)) (allTo-at 27 (λ k. allTo 4 (λ m. endsWell (pred k) (pred m))) endings k (live-place k m l)) m (live-mode k m l)) in
-    let e = endOf k m in
-    record { ending = e; bytes = and-right (accepts k m e) (areBytes e) t; gives = and-left (accepts k m e) (areBytes e) t }
+    let e = textEnd k m in
+    record { ending = e; bytes = and-right (textAccepts k m e) (areBytes e) t; gives = and-left (textAccepts k m e) (areBytes e) t }
   where
     implied : (a b : Bool) → a ≡ true → So (not a || b) → b ≡ true
     implied true b e t = t
     implied false b e t = absurd (false≢true e)
 
 -- a byte that does not lead past the form leads from a live place to a live one
-lively : (k m b : ℕ) → live k m ≡ true → eqb (stepOf k m b .mode) 4 ≡ false → live (stepOf k m b .k) (stepOf k m b .mode) ≡ true
+lively : (k m b : ℕ) → live k m ≡ true → eqb (formStep k m b .mode) 4 ≡ false → live (formStep k m b .k) (formStep k m b .mode) ≡ true
 lively k m b l e = go (step-alive k m b l)
   where
-    go : Alive (stepOf k m b) → live (stepOf k m b .k) (stepOf k m b .mode) ≡ true
+    go : Alive (formStep k m b) → live (formStep k m b .k) (formStep k m b .mode) ≡ true
     go (died d) = absurd (true≢false (sym d ∙ e))
     go (lives d) = d
 
--- an ending from the place after byte b, behind b
-ended-more : (k m b : ℕ) (t : List ℕ) → eqb (stepOf k m b .mode) 4 ≡ false → Ended (stepOf k m b .k) (stepOf k m b .mode) t → Ended k m (b ∷ t)
-unfolding accepts
+-- an ending from the place after byte b, after b
+ended-more : (k m b : ℕ) (t : List ℕ) → eqb (formStep k m b .mode) 4 ≡ false → Ended (formStep k m b .k) (formStep k m b .mode) t → Ended k m (b ∷ t)
+unfolding textAccepts
 ended-more k m b t e r = record { ending = r .ending; bytes = r .bytes; gives = rw e (r .gives) }
 
--- where any numbers behind t are accepted, some bytes are
-pub ended : (t u : List ℕ) (k m : ℕ) → live k m ≡ true → accepts k m (t ++ u) ≡ true → Ended k m t
-unfolding accepts
+-- where any numbers after t are accepted, some bytes are
+pub ended : (t u : List ℕ) (k m : ℕ) → live k m ≡ true → textAccepts k m (t ++ u) ≡ true → Ended k m t
+unfolding textAccepts
 ended [] u k m l a = ends k m l
-ended (b ∷ t) u k m l a = go (eqb (stepOf k m b .mode) 4) refl a (ended t u (stepOf k m b .k) (stepOf k m b .mode))
+ended (b ∷ t) u k m l a = go (eqb (formStep k m b .mode) 4) refl a (ended t u (formStep k m b .k) (formStep k m b .mode))
   where
-    go : (d : Bool) → eqb (stepOf k m b .mode) 4 ≡ d → cond d false (accepts (stepOf k m b .k) (stepOf k m b .mode) (t ++ u)) ≡ true
-        → (live (stepOf k m b .k) (stepOf k m b .mode) ≡ true → accepts (stepOf k m b .k) (stepOf k m b .mode) (t ++ u) ≡ true
-        → Ended (stepOf k m b .k) (stepOf k m b .mode) t)
+    go : (d : Bool) → eqb (formStep k m b .mode) 4 ≡ d → cond d false (textAccepts (formStep k m b .k) (formStep k m b .mode) (t ++ u)) ≡ true
+        → (live (formStep k m b .k) (formStep k m b .mode) ≡ true → textAccepts (formStep k m b .k) (formStep k m b .mode) (t ++ u) ≡ true
+        → Ended (formStep k m b .k) (formStep k m b .mode) t)
         → Ended k m (b ∷ t)
     go true e a ih = absurd (false≢true a)
     go false e a ih = ended-more k m b t e (ih (lively k m b l e) a)
@@ -159,24 +159,24 @@ ended (b ∷ t) u k m l a = go (eqb (stepOf k m b .mode) 4) refl a (ended t u (s
 pub record LeftAt (k m : ℕ) (t : List ℕ) (n : ℕ) : Type 0 where
   pub within : n ≤ length t
   pub before : Ended k m (take n t)
-  pub dead : n < length t → (e : List ℕ) → accepts k m (take (n + 1) t ++ e) ≡ false
+  pub dead : n < length t → (e : List ℕ) → textAccepts k m (take (n + 1) t ++ e) ≡ false
 
-pub left : (t : List ℕ) (k m : ℕ) → live k m ≡ true → accepts k m t ≡ false → LeftAt k m t (leaves k m t)
-unfolding accepts leaves
+pub left : (t : List ℕ) (k m : ℕ) → live k m ≡ true → textAccepts k m t ≡ false → LeftAt k m t (textLeaves k m t)
+unfolding textAccepts textLeaves
 left [] k m l e = record { within = omega arith; before = ends k m l; dead = λ h. absurd (not-suc-le-zero h) }
 left (b ∷ t) k m l e = go (eqb (p .mode) 4) refl e (left t (p .k) (p .mode))
   where
-    p : Place
-    p = stepOf k m b
+    p : FormState
+    p = formStep k m b
 
-    go : (d : Bool) → eqb (p .mode) 4 ≡ d → cond d false (accepts (p .k) (p .mode) t) ≡ false
-        → (live (p .k) (p .mode) ≡ true → accepts (p .k) (p .mode) t ≡ false → LeftAt (p .k) (p .mode) t (leaves (p .k) (p .mode) t))
-        → LeftAt k m (b ∷ t) (cond d 0 (suc (leaves (p .k) (p .mode) t)))
+    go : (d : Bool) → eqb (p .mode) 4 ≡ d → cond d false (textAccepts (p .k) (p .mode) t) ≡ false
+        → (live (p .k) (p .mode) ≡ true → textAccepts (p .k) (p .mode) t ≡ false → LeftAt (p .k) (p .mode) t (textLeaves (p .k) (p .mode) t))
+        → LeftAt k m (b ∷ t) (cond d 0 (suc (textLeaves (p .k) (p .mode) t)))
     go true q e ih = record { within = omega arith; before = ends k m l; dead = λ h e. rw q }
     go false q e ih =
         let r = ih (lively k m b l q) e in
         record {
           within = suc-le-suc (r .within);
-          before = ended-more k m b (take (leaves (p .k) (p .mode) t) t) q (r .before);
-          dead = λ h e. ap (λ (n : ℕ). accepts k m (take n (b ∷ t) ++ e)) (suc-add (leaves (p .k) (p .mode) t) 1) ∙ rw q (r .dead (le-of-suc-le-suc h) e);
+          before = ended-more k m b (take (textLeaves (p .k) (p .mode) t) t) q (r .before);
+          dead = λ h e. ap (λ (n : ℕ). textAccepts k m (take n (b ∷ t) ++ e)) (suc-add (textLeaves (p .k) (p .mode) t) 1) ∙ rw q (r .dead (le-of-suc-le-suc h) e);
         }

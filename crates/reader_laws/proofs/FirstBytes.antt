@@ -23,7 +23,7 @@ use Rattle.reader_laws.specs.FirstBytes.{EventAt, atoms-at, rule-at, hea
 use Rattle.reader_laws.specs.FirstBytes as Shown
 use Rattle.reader_laws.proofs.Values.{rule-then}
 
--- a space or the bracket stands behind a number of a list
+-- a space or the bracket stands after a number of a list
 stops : (xs w : List ℕ) → So (separates (getD (moreText xs ++ (41 ∷ w)) 0 0))
 stops [] w = refl
 stops (x ∷ xs) w = refl
@@ -35,7 +35,7 @@ module _ (P : Program) where
   abbrev B : List ℕ
   B = bodiesOf (P .rules)
 
-  -- the numbers behind y, which stands at h
+  -- the numbers after y, which stands at h
   more-at : (xs : List ℕ) (y h j : ℕ) (w bs : List ℕ) → FreshAt t h (decimal y ++ (moreText xs ++ (41 ∷ w))) → drop j B ≡ xs ++ bs
       → Each (EventAt P) (moreEvents xs y (h + length (decimal y)) j)
   more-at [] y h j w bs f e = none

@@ -50,7 +50,7 @@ rules-out N n (R ∷ rs) r g hs st bs eh es h k = go (rules-out N n rs (r + 1) (
     jC : length ((bs ++ R .positive) ++ R .negative) ≡ length bs + length (R .positive) + length (R .negative)
     jC = length-append (bs ++ R .positive) (R .negative) ∙ ap (λ (x : ℕ). x + length (R .negative)) (length-append bs (R .positive))
 
-    -- the work after the rules behind R, in the words of the whole list
+    -- the work after the rules after R, in the words of the whole list
     ends-is : good N (r + 1 + length rs) ((hs ++ (R .head ∷ [])) ++ map (λ R. R .head) rs)
         (((st ++ (length (bs ++ R .positive) ∷ [])) ++ (length ((bs ++ R .positive) ++ R .negative) ∷ [])) ++ endsOf (length ((bs ++ R .positive) ++ R .negative)) rs)
         (((bs ++ R .positive) ++ R .negative) ++ bodiesOf rs) 0

@@ -1,4 +1,4 @@
--- The events of a text stand in it one behind the other, so the first breach in text order is the one with the smallest spot and, at one
+-- The events of a text stand in it one after the other, so the first breach in text order is the one with the smallest spot and, at one
 -- spot, the smallest row. The computed rows are the breaches.
 -- Assumes nothing.
 use Prim.Native.Nat.{ℕ, zero, suc, _+_, _≤_, _<_, zero-le, suc-le-suc}

@@ -111,7 +111,7 @@ pub data Neighbour : List ℕ → ℕ → Type 0 where
   none : Neighbour [] 0
   some : {y : ℕ} → Neighbour (y ∷ []) y
 
--- behind the first row, the other rows of a body atom
+-- after the first row, the other rows of a body atom
 abbrev later : ℕ → List ℕ → ℕ → ℕ → List Hit
 later x ys j g = map (λ k. record { row = k; spot = g }) (whenMet (notAbove x ys) 5 ++ whenMet (eqb j 500) 7)
 
@@ -178,18 +178,18 @@ room N x g ys j h e = go (eqb j 500) refl (unknown N x) (notAbove x ys) e
 
 -- ---- lists
 
--- the last of the numbers xs behind y
+-- the last of the numbers xs after y
 abbrev pub lastOf : ℕ → List ℕ → ℕ
 lastOf y [] = y
 lastOf y (x ∷ xs) = lastOf x xs
 
 module _ (k N r : ℕ) (hs st : List ℕ) (l : ListAt k) (n : N ≤ 126) where
-  -- what the further numbers xs of a list do behind x
+  -- what the further numbers xs of a list do after x
   abbrev More : List ℕ → Type 0
   More xs = (bs : List ℕ) (x g : ℕ) → length bs ≤ 500
       → Out (hitsIn N (moreEvents xs x g (length bs))) (moreRead k xs g (good N r hs st bs x)) (good N r hs st (bs ++ xs) (lastOf x xs))
 
-  -- a number of a list and the numbers behind it
+  -- a number of a list and the numbers after it
   chained : (xs : List ℕ) → More xs → (bs ys : List ℕ) (p x s : ℕ) → Neighbour ys p → length bs ≤ 500
       → Out (hitsOf N (bodyRead x s ys (length bs)) ++ hitsIn N (moreEvents xs x (s + length (decimal x)) (length bs + 1)))
       (moreRead k xs (s + length (decimal x)) (numberRead k x s (good N r hs st bs p))) (good N r hs st (bs ++ (x ∷ xs)) (lastOf x xs))

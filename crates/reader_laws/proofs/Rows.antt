@@ -16,13 +16,13 @@ use Rattle.refusals.specs.declared.TextRefusal.{TextRefusal}
 use Rattle.refusals.specs.declared.TextRefusal.the-variants as Refusal
 use Rattle.reader.specs.declared.ReadVerdict.{ReadVerdict}
 use Rattle.reader.specs.declared.ReadVerdict.the-variants.{Accepted, Refused}
-use Rattle.reader.specs.declared.Reading.{Reading}
-use Rattle.reader_work.specs.Reading.{State, readFrom}
+use Rattle.reader.specs.declared.ReadResult.{ReadResult}
+use Rattle.reader_work.specs.Fold.{State, readFrom}
 use Rattle.refusals.specs.Numbers.{textNumber, textSpot}
 use Rattle.reader.specs.Verdict.{refusalOf, refuseOf, finished, readOf}
 use Rattle.reader.specs.Verdict as Verdict
 use Rattle.reader_laws.specs.Judge.{Work, judged}
-use Rattle.reader_laws.specs.Scan.{accepts, leaves}
+use Rattle.reader_laws.specs.Scan.{textAccepts, textLeaves}
 use Rattle.reader_laws.specs.Breach.{Event, events, noEvent, Breached, too-many-atoms, unknown-head, unknown-atom, unordered, too-many-rules, bodies-full, Breach, Hit, hits}
 use Rattle.program.specs.Arrays.{kept}
 use Rattle.reader_laws.specs.Row.{Row, overlong, malformed, breach, rank, NoLaterBy, NoLater, ranked, nearer, smaller, FirstRow, Answers}
@@ -54,10 +54,10 @@ read-long : (t : List ℕ) → 65536 < length t → readOf t ≡ refuseOf (Refus
 unfolding readOf
 read-long t h = rw (lt-ltb 65536 (length t) h)
 
-read-malformed : (t : List ℕ) → accepts 0 0 t ≡ false → finished (readFrom Verdict.start 0 t) ≡ refuseOf (Refusal.Malformed (leaves 0 0 t))
+read-malformed : (t : List ℕ) → textAccepts 0 0 t ≡ false → finished (readFrom Verdict.start 0 t) ≡ refuseOf (Refusal.Malformed (textLeaves 0 0 t))
 read-malformed t e =
-    finish-malformed (readFrom Verdict.start 0 t) (leaves 0 0 t)
-    (subst (MalformedAt (readFrom Verdict.start 0 t .counts)) (zero-add (leaves 0 0 t)) (read-rejects t Verdict.start 0 e))
+    finish-malformed (readFrom Verdict.start 0 t) (textLeaves 0 0 t)
+    (subst (MalformedAt (readFrom Verdict.start 0 t .counts)) (zero-add (textLeaves 0 0 t)) (read-rejects t Verdict.start 0 e))
 
 read-form : (P : Program) → readFrom Verdict.start 0 (textOf P) ≡ stateOf 10 0 0 0 (judged P start)
 unfolding start
@@ -81,12 +81,12 @@ form-outcome t P h p = go (judged-out P)
     go (passed e w) = fine P h p e (answer ∙ ap (λ (W : Work). finished (stateOf 10 0 0 0 W)) w ∙ finish-passed P)
     go (stopped x rest e s) = breached P x rest h p e (answer ∙ finish-stopped (judged P start) x s)
 
-short-outcome : (t : List ℕ) → length t ≤ 65536 → (d : Bool) → accepts 0 0 t ≡ d → Outcome t
+short-outcome : (t : List ℕ) → length t ≤ 65536 → (d : Bool) → textAccepts 0 0 t ≡ d → Outcome t
 short-outcome t h true e = let f = sound t e in form-outcome t (f .program) h (f .its-text)
-short-outcome t h false e = left-form (leaves 0 0 t) h (rejected-malformed t e) (read-short t h ∙ read-malformed t e)
+short-outcome t h false e = left-form (textLeaves 0 0 t) h (rejected-malformed t e) (read-short t h ∙ read-malformed t e)
 
 pub outcome : (t : List ℕ) → Outcome t
-outcome t = ⊎-elim (λ (h : length t ≤ 65536). short-outcome t h (accepts 0 0 t) refl) (λ (h : 65536 < length t). too-long h (read-long t h)) (le-or-lt (length t) 65536)
+outcome t = ⊎-elim (λ (h : length t ≤ 65536). short-outcome t h (textAccepts 0 0 t) refl) (λ (h : 65536 < length t). too-long h (read-long t h)) (le-or-lt (length t) 65536)
 
 -- ---- the rows met
 
@@ -183,7 +183,7 @@ row-few t k s (breach P p b) = few (b .breached)
 
 answers : (t : List ℕ) (r : TextRefusal) (k s : ℕ) → readOf t ≡ refuseOf r → textNumber r ≡ k → textSpot r ≡ s → Answers t k s
 unfolding refuseOf
-answers t r k s e a b = record { refusal = r; verdict-is = ap (λ (x : Reading). x .verdict) e; row-is = a; spot-is = b }
+answers t r k s e a b = record { refusal = r; verdict-is = ap (λ (x : ReadResult). x .verdict) e; row-is = a; spot-is = b }
 
 -- the two ways of the reader
 data Told (t : List ℕ) : Type 0 where
@@ -203,7 +203,7 @@ told t = go (outcome t)
     go (fine P h p hs e) =
         no-row (λ k s r. let b = row-breach t P h p k s r in
         no-hit (P .atoms) (events P) hs (b .place) (b .is-event) k (breached-meets (P .atoms) (getD (events P) (b .place) noEvent) k (b .breached)))
-        (ap (λ (x : Reading). x .verdict) e)
+        (ap (λ (x : ReadResult). x .verdict) e)
 
 -- the refusal of a verdict, if it is one
 abbrev refusal-in : ReadVerdict → TextRefusal → TextRefusal

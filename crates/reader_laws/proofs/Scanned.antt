@@ -10,11 +10,11 @@ use mathlib.Core.List.{List, [], _∷_}
 use lib.Dec.{eqb}
 use Rattle.lists.proofs.Bools.{So-or-not}
 use Rattle.text.specs.Text.{HasForm}
-use Rattle.reader_form.specs.Automaton.{stepOf}
+use Rattle.reader_form.specs.Automaton.{formStep}
 use Rattle.reader_work.specs.declared.Counts.{Counts}
-use Rattle.reader_work.specs.Reading.{State, advance, malformed, ended, readFrom}
+use Rattle.reader_work.specs.Fold.{State, advance, malformed, ended, readFrom}
 use Rattle.reader_laws.specs.Judge.{Work}
-use Rattle.reader_laws.specs.Scan.{accepts, leaves}
+use Rattle.reader_laws.specs.Scan.{textAccepts, textLeaves}
 use Rattle.reader_laws.proofs.Values.{stateOf, read-text}
 use Rattle.reader_laws.proofs.Frozen.{judged-frozen}
 
@@ -23,21 +23,21 @@ pub record MalformedAt (c : Counts) (s : ℕ) : Type 0 where
   pub row : c .number ≡ 2
   pub spot : c .spot ≡ s
 
-pub read-rejects : (t : List ℕ) (s : State) (i : ℕ) → accepts (s .k) (s .mode) t ≡ false → MalformedAt (readFrom s i t .counts) (i + leaves (s .k) (s .mode) t)
-unfolding readFrom accepts leaves ended
+pub read-rejects : (t : List ℕ) (s : State) (i : ℕ) → textAccepts (s .k) (s .mode) t ≡ false → MalformedAt (readFrom s i t .counts) (i + textLeaves (s .k) (s .mode) t)
+unfolding readFrom textAccepts textLeaves ended
 read-rejects [] s i e = go (eqb (s .k) 10) (eqb (s .mode) 0) e
   where
     go : (a b : Bool) → (a && b) ≡ false → MalformedAt (cond a (cond b s (malformed s i)) (malformed s i) .counts) (i + 0)
     go true true e = absurd (true≢false e)
     go true false e = record { row = refl; spot = sym (add-zero i) }
     go false b e = record { row = refl; spot = sym (add-zero i) }
-read-rejects (b ∷ t) s i e = go (eqb (stepOf (s .k) (s .mode) b .mode) 4) e (read-rejects t (advance s i b) (i + 1))
+read-rejects (b ∷ t) s i e = go (eqb (formStep (s .k) (s .mode) b .mode) 4) e (read-rejects t (advance s i b) (i + 1))
   where
     A : Bool
-    A = accepts (stepOf (s .k) (s .mode) b .k) (stepOf (s .k) (s .mode) b .mode) t
+    A = textAccepts (formStep (s .k) (s .mode) b .k) (formStep (s .k) (s .mode) b .mode) t
 
     L : ℕ
-    L = leaves (stepOf (s .k) (s .mode) b .k) (stepOf (s .k) (s .mode) b .mode) t
+    L = textLeaves (formStep (s .k) (s .mode) b .k) (formStep (s .k) (s .mode) b .mode) t
 
     go : (d : Bool) → cond d false A ≡ false → (A ≡ false → MalformedAt (readFrom (advance s i b) (i + 1) t .counts) (i + 1 + L))
         → MalformedAt (cond d (malformed s i) (readFrom (advance s i b) (i + 1) t) .counts) (i + cond d 0 (suc L))
@@ -48,9 +48,9 @@ read-rejects (b ∷ t) s i e = go (eqb (stepOf (s .k) (s .mode) b .mode) 4) e (r
 held : Work
 held = record { counts = record { atoms = 0; rules = 0; held = 0; prev = 0; number = 9; spot = 0 }; heads = []; starts = []; bodies = [] }
 
-pub form-accepted : (t : List ℕ) → HasForm t → accepts 0 0 t ≡ true
+pub form-accepted : (t : List ℕ) → HasForm t → textAccepts 0 0 t ≡ true
 unfolding held
-form-accepted t f = go (So-or-not (accepts 0 0 t))
+form-accepted t f = go (So-or-not (textAccepts 0 0 t))
   where
     -- the fold ends with the number that it began with
     kept : readFrom (stateOf 0 0 0 0 held) 0 t .counts .number ≡ 9
@@ -62,6 +62,6 @@ form-accepted t f = go (So-or-not (accepts 0 0 t))
     nine : readFrom (stateOf 0 0 0 0 held) 0 t .counts .number ≡ 2 → ⊥
     nine e = omega (arith, kept, e)
 
-    go : _⊎_ (So (accepts 0 0 t)) (accepts 0 0 t ≡ false) → accepts 0 0 t ≡ true
+    go : _⊎_ (So (textAccepts 0 0 t)) (textAccepts 0 0 t ≡ false) → textAccepts 0 0 t ≡ true
     go (inl a) = a
     go (inr e) = absurd (nine (read-rejects t (stateOf 0 0 0 0 held) 0 e .row))

@@ -12,7 +12,7 @@ use mathlib.Core.List.{List, _++_}
 use lib.ListN.{take}
 use Rattle.text.specs.Text.{HasForm, Viable, Malformed}
 use Rattle.text.proofs.Spots as Spots
-use Rattle.reader_laws.specs.Scan.{accepts, leaves, live}
+use Rattle.reader_laws.specs.Scan.{textAccepts, textLeaves, live}
 use Rattle.reader_laws.proofs.Scanned.{form-accepted}
 use Rattle.reader_laws.proofs.Endings.{Ended, ended, left}
 use Rattle.reader_laws.proofs.Sound.{sound}
@@ -24,11 +24,11 @@ pub viable-part : (t u : List ℕ) → HasForm (t ++ u) → Viable t
 unfolding live
 viable-part t u f = viable-of t (ended t u 0 0 refl (form-accepted (t ++ u) f))
 
-pub rejected-malformed : (t : List ℕ) → accepts 0 0 t ≡ false → Malformed t (leaves 0 0 t)
+pub rejected-malformed : (t : List ℕ) → textAccepts 0 0 t ≡ false → Malformed t (textLeaves 0 0 t)
 unfolding live
 rejected-malformed t e =
     let l = left t 0 0 refl e in
-    Spots.left-malformed HasForm (accepts 0 0) form-accepted t (leaves 0 0 t) e (l .within) (viable-of (take (leaves 0 0 t) t) (l .before)) (l .dead)
+    Spots.left-malformed HasForm (textAccepts 0 0) form-accepted t (textLeaves 0 0 t) e (l .within) (viable-of (take (textLeaves 0 0 t) t) (l .before)) (l .dead)
 
 pub spot-unique : (t : List ℕ) (s u : ℕ) → Malformed t s → Malformed t u → s ≡ u
 spot-unique = Spots.spot-unique HasForm viable-part
@@ -37,8 +37,8 @@ pub form-not-malformed : (t : List ℕ) (s : ℕ) → HasForm t → Malformed t 
 form-not-malformed = Spots.form-not-malformed HasForm viable-part
 
 pub formless-malformed : (t : List ℕ) → (HasForm t → ⊥) → (s : ℕ) × Malformed t s
-formless-malformed t f = go (accepts 0 0 t) refl
+formless-malformed t f = go (textAccepts 0 0 t) refl
   where
-    go : (d : Bool) → accepts 0 0 t ≡ d → (s : ℕ) × Malformed t s
+    go : (d : Bool) → textAccepts 0 0 t ≡ d → (s : ℕ) × Malformed t s
     go true e = absurd (f (sound t e))
-    go false e = (leaves 0 0 t, rejected-malformed t e)
+    go false e = (textLeaves 0 0 t, rejected-malformed t e)

@@ -72,7 +72,7 @@ number-cancel x y c d u v p q e = (
   sym (rest-append (decimal x) c u (decimal-digits x) p) ∙ ap rest e ∙ rest-append (decimal y) d v (decimal-digits y) q,
 )
 
--- the byte behind a list's number
+-- the byte after a list's number
 follow : List ℕ → ℕ
 follow [] = 41
 follow (x ∷ xs) = 32

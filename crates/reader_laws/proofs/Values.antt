@@ -14,9 +14,9 @@ use Rattle.meaning.specs.Program.{Rule, Program}
 use Rattle.text.specs.Decimal.{decimal}
 use Rattle.text.specs.Text.{moreText, listText, ruleText, rulesText, textOf}
 use Rattle.text.proofs.Decimals.{decimal-small, decimal-large, digits-ind}
-use Rattle.reader_form.specs.Automaton.{placed, formAt, digitTest, literalOf, leaveOf, digitOf, actAt, itemOf, stepOf}
-use Rattle.reader_work.specs.Work.{grownOf, valueOf, beginOf, workOf, workHeads, workStarts, workBodies}
-use Rattle.reader_work.specs.Reading.{State, ended, readFrom}
+use Rattle.reader_form.specs.Automaton.{placed, formAt, digitTest, literalOf, leaveOf, digitOf, actAt, itemOf, formStep}
+use Rattle.reader_work.specs.Work.{grownOf, valueAfter, beginAfter, workOf, workHeads, workStarts, workBodies}
+use Rattle.reader_work.specs.Fold.{State, ended, readFrom}
 use Rattle.reader_laws.specs.Judge.{Work, acts, cap, numberRead, moreRead, listRead, positiveSpot, negativeSpot, ruleEnd, ruleRead, rulesRead, judged}
 
 abbrev pub stateOf : ℕ → ℕ → ℕ → ℕ → Work → State
@@ -24,27 +24,27 @@ stateOf k m v g W =
     record { k = k; mode = m; value = v; begin = g; counts = W .counts; heads = W .heads; starts = W .starts; bodies = W .bodies }
 
 -- one byte
-pub byte : (k m b k′ m′ act v g i : ℕ) (W : Work) (t : List ℕ) → stepOf k m b ≡ placed k′ m′ act → eqb m′ 4 ≡ false
-    → readFrom (stateOf k m v g W) i (b ∷ t) ≡ readFrom (stateOf k′ m′ (valueOf act v b) (beginOf act g i) (acts act k v g i W)) (i + 1) t
+pub byte : (k m b k′ m′ act v g i : ℕ) (W : Work) (t : List ℕ) → formStep k m b ≡ placed k′ m′ act → eqb m′ 4 ≡ false
+    → readFrom (stateOf k m v g W) i (b ∷ t) ≡ readFrom (stateOf k′ m′ (valueAfter act v b) (beginAfter act g i) (acts act k v g i W)) (i + 1) t
 unfolding readFrom acts
 byte k m b k′ m′ act v g i W t e d = rw (e, d)
 
 -- a fixed byte that does nothing else
-idle : (k b k′ i : ℕ) (W : Work) (t : List ℕ) → stepOf k 0 b ≡ placed k′ 0 0 → readFrom (stateOf k 0 0 0 W) i (b ∷ t) ≡ readFrom (stateOf k′ 0 0 0 W) (i + 1) t
-unfolding valueOf beginOf acts workOf workHeads workStarts workBodies
+idle : (k b k′ i : ℕ) (W : Work) (t : List ℕ) → formStep k 0 b ≡ placed k′ 0 0 → readFrom (stateOf k 0 0 0 W) i (b ∷ t) ≡ readFrom (stateOf k′ 0 0 0 W) (i + 1) t
+unfolding valueAfter beginAfter acts workOf workHeads workStarts workBodies
 idle k b k′ i W t e = byte k 0 b k′ 0 0 0 0 i W t e refl
 
 atoms-word : (i : ℕ) (W : Work) (t : List ℕ) → readFrom (stateOf 0 0 0 0 W) i (40 ∷ 97 ∷ 116 ∷ 111 ∷ 109 ∷ 115 ∷ 32 ∷ t) ≡ readFrom (stateOf 7 0 0 0 W) (i + 7) t
-unfolding stepOf formAt literalOf actAt
+unfolding formStep formAt literalOf actAt
 atoms-word i W t =
     idle 0 40 1 i W _ refl ∙ idle 1 97 2 (i + 1) W _ refl ∙ idle 2 116 3 (i + 1 + 1) W _ refl ∙ idle 3 111 4 (i + 1 + 1 + 1) W _ refl
     ∙ idle 4 109 5 (i + 1 + 1 + 1 + 1) W _ refl ∙ idle 5 115 6 (i + 1 + 1 + 1 + 1 + 1) W _ refl ∙ idle 6 32 7 (i + 1 + 1 + 1 + 1 + 1 + 1) W _ refl
     ∙ ap (λ (j : ℕ). readFrom (stateOf 7 0 0 0 W) j t) (omega arith)
 
 -- a fixed byte with an action
-does : (k b k′ act i : ℕ) (W : Work) (t : List ℕ) → stepOf k 0 b ≡ placed k′ 0 act → eqb act 1 ≡ false → eqb act 2 ≡ false
+does : (k b k′ act i : ℕ) (W : Work) (t : List ℕ) → formStep k 0 b ≡ placed k′ 0 act → eqb act 1 ≡ false → eqb act 2 ≡ false
     → readFrom (stateOf k 0 0 0 W) i (b ∷ t) ≡ readFrom (stateOf k′ 0 0 0 (acts act k 0 0 i W)) (i + 1) t
-unfolding valueOf beginOf
+unfolding valueAfter beginAfter
 does k b k′ act i W t e p q = byte k 0 b k′ 0 act 0 0 i W t e refl ∙ rw (p, q)
 
 -- ---- numbers
@@ -60,20 +60,20 @@ pub data Item : ℕ → Type 0 where
   positive : Item 19
   negative : Item 23
 
-pub digit-step : (k m d : ℕ) → Item k → d < 10 → stepOf k m (48 + d) ≡ digitOf k m (48 + d)
-unfolding stepOf formAt itemOf digitTest
+pub digit-step : (k m d : ℕ) → Item k → d < 10 → formStep k m (48 + d) ≡ digitOf k m (48 + d)
+unfolding formStep formAt itemOf digitTest
 digit-step k m d atoms h = rw (le-ltb (48 + d) 48 (omega arith), lt-ltb (48 + d) 58 (omega arith))
 digit-step k m d head h = rw (le-ltb (48 + d) 48 (omega arith), lt-ltb (48 + d) 58 (omega arith))
 digit-step k m d positive h = rw (le-ltb (48 + d) 48 (omega arith), lt-ltb (48 + d) 58 (omega arith))
 digit-step k m d negative h = rw (le-ltb (48 + d) 48 (omega arith), lt-ltb (48 + d) 58 (omega arith))
 
--- no number is at hand: at the place itself, or after a list's space
+-- no number is begun: at the place itself, or after a list's space
 pub data Fresh : ℕ → Type 0 where
   now : Fresh 0
   after : Fresh 3
 
 -- the first digit of a number, and a further one
-pub first-digit : (k m d : ℕ) → Item k → Fresh m → d < 10 → stepOf k m (48 + d) ≡ placed k (inNumber d) 1
+pub first-digit : (k m d : ℕ) → Item k → Fresh m → d < 10 → formStep k m (48 + d) ≡ placed k (inNumber d) 1
 unfolding digitOf
 first-digit k m d it f h = digit-step k m d it h ∙ modes m f ∙ zeros d
   where
@@ -85,7 +85,7 @@ first-digit k m d it f h = digit-step k m d it h ∙ modes m f ∙ zeros d
     zeros zero = refl
     zeros (suc d) = rw (ne-eqb (48 + suc d) 48 (λ e. omega arith), ne-eqb (suc d) 0 (λ e. omega arith))
 
-pub further-digit : (k d : ℕ) → Item k → d < 10 → stepOf k 2 (48 + d) ≡ placed k 2 2
+pub further-digit : (k d : ℕ) → Item k → d < 10 → formStep k 2 (48 + d) ≡ placed k 2 2
 unfolding digitOf
 further-digit k d it h = digit-step k 2 d it h
 
@@ -127,17 +127,17 @@ in-number-pos n h = rw (ne-eqb n 0 (λ e. omega arith))
 
 begins : (k m d i : ℕ) (W : Work) (t : List ℕ) → Item k → Fresh m → d < 10
     → readFrom (stateOf k m 0 0 W) i ((48 + d) ∷ t) ≡ readFrom (stateOf k (inNumber d) (cap d) i W) (i + 1) t
-unfolding valueOf beginOf acts workOf workHeads workStarts workBodies
+unfolding valueAfter beginAfter acts workOf workHeads workStarts workBodies
 begins k m d i W t it f h =
     byte k m (48 + d) k (inNumber d) 1 0 0 i W t (first-digit k m d it f h) (in-number-live d)
     ∙ ap (λ (v : ℕ). readFrom (stateOf k (inNumber d) v i W) (i + 1) t) (grown-of 0 (48 + d) d (omega arith) (omega arith) (omega arith))
 
 goes-on : (k v g d i : ℕ) (W : Work) (t : List ℕ) → Item k → d < 10
     → readFrom (stateOf k 2 v g W) i ((48 + d) ∷ t) ≡ readFrom (stateOf k 2 (grownOf v (48 + d)) g W) (i + 1) t
-unfolding valueOf beginOf acts workOf workHeads workStarts workBodies
+unfolding valueAfter beginAfter acts workOf workHeads workStarts workBodies
 goes-on k v g d i W t it h = byte k 2 (48 + d) k 2 2 v g i W t (further-digit k d it h) refl
 
--- the digits of n, from place k with no number at hand
+-- the digits of n, from place k with no number begun
 pub number : (n k m i : ℕ) (W : Work) (t : List ℕ) → Item k → Fresh m
     → readFrom (stateOf k m 0 0 W) i (decimal n ++ t) ≡ readFrom (stateOf k (inNumber n) (cap n) i W) (i + length (decimal n)) t
 number n k m i W t it f = digits-ind Reads small large n t
@@ -162,22 +162,22 @@ number n k m i W t it f = digits-ind Reads small large n t
 
 -- ---- the ends of numbers and lists
 
--- a number at hand is left by a byte that does the same from 0 and from another number
-leaves : (n k b k′ m′ i g : ℕ) (W : Work) (t : List ℕ) → stepOf k 1 b ≡ placed k′ m′ 3 → stepOf k 2 b ≡ placed k′ m′ 3 → eqb m′ 4 ≡ false
+-- a number that is begun is left by a byte that does the same from 0 and from another number
+leaves : (n k b k′ m′ i g : ℕ) (W : Work) (t : List ℕ) → formStep k 1 b ≡ placed k′ m′ 3 → formStep k 2 b ≡ placed k′ m′ 3 → eqb m′ 4 ≡ false
     → readFrom (stateOf k (inNumber n) (cap n) g W) i (b ∷ t) ≡ readFrom (stateOf k′ m′ 0 0 (acts 3 k (cap n) g i W)) (i + 1) t
-unfolding valueOf beginOf
+unfolding valueAfter beginAfter
 leaves n k b k′ m′ i g W t e f d = byte k (inNumber n) b k′ m′ 3 (cap n) g i W t (go (eqb n 0)) d
   where
-    go : (z : Bool) → stepOf k (cond z 1 2) b ≡ placed k′ m′ 3
+    go : (z : Bool) → formStep k (cond z 1 2) b ≡ placed k′ m′ 3
     go true = e
     go false = f
 
 -- a number and the byte that leaves it
-number-then : (n k m b k′ m′ i : ℕ) (W : Work) (t : List ℕ) → Item k → Fresh m → stepOf k 1 b ≡ placed k′ m′ 3 → stepOf k 2 b ≡ placed k′ m′ 3 → eqb m′ 4 ≡ false
+number-then : (n k m b k′ m′ i : ℕ) (W : Work) (t : List ℕ) → Item k → Fresh m → formStep k 1 b ≡ placed k′ m′ 3 → formStep k 2 b ≡ placed k′ m′ 3 → eqb m′ 4 ≡ false
     → readFrom (stateOf k m 0 0 W) i (decimal n ++ (b ∷ t)) ≡ readFrom (stateOf k′ m′ 0 0 (numberRead k n i W)) (i + length (decimal n) + 1) t
 number-then n k m b k′ m′ i W t it f e g d = number n k m i W (b ∷ t) it f ∙ leaves n k b k′ m′ (i + length (decimal n)) i W t e g d
 
--- a list's place: its bracket, and the place behind it
+-- a list's place: its bracket, and the place after it
 pub data ListAt : ℕ → Type 0 where
   positive : ListAt 19
   negative : ListAt 23
@@ -186,17 +186,17 @@ pub item-of : {k : ℕ} → ListAt k → Item k
 item-of positive = Item.positive
 item-of negative = Item.negative
 
-list-space : (k : ℕ) → ListAt k → (stepOf k 1 32 ≡ placed k 3 3) × (stepOf k 2 32 ≡ placed k 3 3)
-unfolding stepOf formAt itemOf digitTest leaveOf
+list-space : (k : ℕ) → ListAt k → (formStep k 1 32 ≡ placed k 3 3) × (formStep k 2 32 ≡ placed k 3 3)
+unfolding formStep formAt itemOf digitTest leaveOf
 list-space k positive = (refl, refl)
 list-space k negative = (refl, refl)
 
-list-end : (k : ℕ) → ListAt k → (stepOf k 1 41 ≡ placed (k + 2) 0 3) × (stepOf k 2 41 ≡ placed (k + 2) 0 3) × (stepOf k 0 41 ≡ placed (k + 2) 0 0)
-unfolding stepOf formAt itemOf digitTest leaveOf literalOf
+list-end : (k : ℕ) → ListAt k → (formStep k 1 41 ≡ placed (k + 2) 0 3) × (formStep k 2 41 ≡ placed (k + 2) 0 3) × (formStep k 0 41 ≡ placed (k + 2) 0 0)
+unfolding formStep formAt itemOf digitTest leaveOf literalOf
 list-end k positive = (refl, refl, refl)
 list-end k negative = (refl, refl, refl)
 
--- the numbers behind a first one, up to the bracket
+-- the numbers after a first one, up to the bracket
 more : (xs : List ℕ) (x k m i : ℕ) (W : Work) (t : List ℕ) → ListAt k → Fresh m
     → readFrom (stateOf k m 0 0 W) i (decimal x ++ (moreText xs ++ (41 ∷ t)))
     ≡ readFrom (stateOf (k + 2) 0 0 0 (moreRead k xs (i + length (decimal x)) (numberRead k x i W))) (i + length (decimal x ++ moreText xs) + 1) t
@@ -220,7 +220,7 @@ list (x ∷ xs) k i W t l = ap (readFrom (stateOf k 0 0 0 W) i) (append-assoc (d
 
 rule-word : (i : ℕ) (W : Work) (t : List ℕ)
     → readFrom (stateOf 10 0 0 0 W) i (40 ∷ 114 ∷ 117 ∷ 108 ∷ 101 ∷ 32 ∷ t) ≡ readFrom (stateOf 16 0 0 0 (acts 4 10 0 0 i W)) (i + 6) t
-unfolding stepOf formAt literalOf actAt
+unfolding formStep formAt literalOf actAt
 rule-word i W t =
     let U = acts 4 10 0 0 i W in
     does 10 40 11 4 i W _ refl refl refl ∙ idle 11 114 12 (i + 1) U _ refl ∙ idle 12 117 13 (i + 1 + 1) U _ refl ∙ idle 13 108 14 (i + 1 + 1 + 1) U _ refl
@@ -228,17 +228,17 @@ rule-word i W t =
 
 head-then : (n i : ℕ) (W : Work) (t : List ℕ)
     → readFrom (stateOf 16 0 0 0 W) i (decimal n ++ (32 ∷ 40 ∷ t)) ≡ readFrom (stateOf 19 0 0 0 (numberRead 16 n i W)) (i + length (decimal n) + 2) t
-unfolding stepOf formAt itemOf digitTest leaveOf literalOf actAt
+unfolding formStep formAt itemOf digitTest leaveOf literalOf actAt
 head-then n i W t =
     number-then n 16 0 32 18 0 i W (40 ∷ t) head now refl refl refl ∙ idle 18 40 19 (i + length (decimal n) + 1) (numberRead 16 n i W) t refl
     ∙ ap (λ (j : ℕ). readFrom (stateOf 19 0 0 0 (numberRead 16 n i W)) j t) (omega arith)
 
 between : (i : ℕ) (W : Work) (t : List ℕ) → readFrom (stateOf 21 0 0 0 W) i (32 ∷ 40 ∷ t) ≡ readFrom (stateOf 23 0 0 0 (acts 5 21 0 0 i W)) (i + 2) t
-unfolding stepOf formAt literalOf actAt
+unfolding formStep formAt literalOf actAt
 between i W t = does 21 32 22 5 i W _ refl refl refl ∙ idle 22 40 23 (i + 1) (acts 5 21 0 0 i W) t refl ∙ ap (λ (j : ℕ). readFrom (stateOf 23 0 0 0 (acts 5 21 0 0 i W)) j t) (omega arith)
 
 line-end : (i : ℕ) (W : Work) (t : List ℕ) → readFrom (stateOf 25 0 0 0 W) i (41 ∷ 10 ∷ t) ≡ readFrom (stateOf 10 0 0 0 (acts 6 26 0 0 (i + 1) W)) (i + 2) t
-unfolding stepOf formAt literalOf actAt
+unfolding formStep formAt literalOf actAt
 line-end i W t = idle 25 41 26 i W _ refl ∙ does 26 10 10 6 (i + 1) W t refl refl refl ∙ ap (λ (j : ℕ). readFrom (stateOf 10 0 0 0 (acts 6 26 0 0 (i + 1) W)) j t) (omega arith)
 
 -- a rule's text and what follows it, bracketed to the right
@@ -271,7 +271,7 @@ rules (r ∷ rs) i W = rule r i W (rulesText rs) ∙ rules rs (ruleEnd r i) (rul
 
 -- the text of a program comes to its work, at the place where a text may end
 pub read-text : (P : Program) (W : Work) → readFrom (stateOf 0 0 0 0 W) 0 (textOf P) ≡ stateOf 10 0 0 0 (judged P W)
-unfolding textOf judged stepOf formAt itemOf digitTest leaveOf literalOf actAt
+unfolding textOf judged formStep formAt itemOf digitTest leaveOf literalOf actAt
 read-text P W =
     atoms-word 0 W _
     ∙ number-then (P .atoms) 7 0 41 9 0 7 W (10 ∷ rulesText (P .rules)) atoms now refl refl refl

@@ -64,7 +64,7 @@ module _ (N : ℕ) where
     rises : So (ascends xs)
     room : j + length xs ≤ 500
 
-  -- x, behind its neighbour if it has one, and the numbers xs behind x
+  -- x, after its neighbour if it has one, and the numbers xs after x
   chain-in : (xs : List ℕ) (x s : ℕ) (ys : List ℕ) (j : ℕ) → j ≤ 500
       → hitsOf N (bodyRead x s ys j) ++ hitsIn N (moreEvents xs x (s + length (decimal x)) (j + 1)) ≡ [] → Fit j (x ∷ xs) × (notAbove x ys ≡ false)
   chain-in [] x s ys j h e =

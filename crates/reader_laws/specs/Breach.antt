@@ -35,7 +35,7 @@ spotOf (bodyRead x spot neighbour index) = spot
 
 -- ---- the events of a text
 
--- the further numbers of a list behind y, from the space at g on, with j body atoms before them
+-- the further numbers of a list after y, from the space at g on, with j body atoms before them
 abbrev pub moreEvents : List ℕ → ℕ → ℕ → ℕ → List Event
 moreEvents [] y g j = []
 moreEvents (x ∷ xs) y g j = bodyRead x (g + 1) (y ∷ []) j ∷ moreEvents xs x (g + 1 + length (decimal x)) (j + 1)

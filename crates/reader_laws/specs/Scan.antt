@@ -1,22 +1,22 @@
 -- The automaton alone, without what it reads.
---   accepts k m t   from place k in mode m the bytes t end where a text may end
---   leaves k m t    how many bytes of t are read before no ending gives the form; all of them where t stops short
---   live k m        a place and mode from which some ending is accepted
---   endOf k m       such an ending
+--   textAccepts k m t   from place k in mode m the bytes t end where a text may end
+--   textLeaves k m t    how many bytes of t are read before no ending gives the form; all of them where t stops short
+--   live k m            a place and mode from which some ending is accepted
+--   textEnd k m         such an ending
 -- Assumes nothing.
 use Prim.Native.Nat.{ℕ, zero, suc, _+_}
 use mathlib.Core.Bool.{Bool, true, false, _&&_, _||_, cond}
 use mathlib.Core.List.{List, [], _∷_}
 use lib.Dec.{ltb, eqb}
-use Rattle.reader_form.specs.Automaton.{formAt, stepOf}
+use Rattle.reader_form.specs.Automaton.{formAt, formStep}
 
-unfoldable pub accepts : ℕ → ℕ → List ℕ → Bool
-accepts k m [] = eqb k 10 && eqb m 0
-accepts k m (b ∷ t) = cond (eqb (stepOf k m b .mode) 4) false (accepts (stepOf k m b .k) (stepOf k m b .mode) t)
+unfoldable pub textAccepts : ℕ → ℕ → List ℕ → Bool
+textAccepts k m [] = eqb k 10 && eqb m 0
+textAccepts k m (b ∷ t) = cond (eqb (formStep k m b .mode) 4) false (textAccepts (formStep k m b .k) (formStep k m b .mode) t)
 
-unfoldable pub leaves : ℕ → ℕ → List ℕ → ℕ
-leaves k m [] = 0
-leaves k m (b ∷ t) = cond (eqb (stepOf k m b .mode) 4) 0 (suc (leaves (stepOf k m b .k) (stepOf k m b .mode) t))
+unfoldable pub textLeaves : ℕ → ℕ → List ℕ → ℕ
+textLeaves k m [] = 0
+textLeaves k m (b ∷ t) = cond (eqb (formStep k m b .mode) 4) 0 (suc (textLeaves (formStep k m b .k) (formStep k m b .mode) t))
 
 -- a byte of the form that stands for numbers
 abbrev pub takesNumbers : ℕ → Bool
@@ -34,5 +34,5 @@ abbrev pub lineFrom : ℕ → ℕ → List ℕ
 lineFrom zero k = []
 lineFrom (suc f) k = elim (eqb (formAt k) 10) [ true ↦ 10 ∷ [] | false ↦ shown (formAt k) (lineFrom f (k + 1)) ]
 
-unfoldable pub endOf : ℕ → ℕ → List ℕ
-endOf k m = cond (eqb m 0) (lineFrom 27 k) (cond (eqb m 3) (48 ∷ lineFrom 27 (k + 1)) (lineFrom 27 (k + 1)))
+unfoldable pub textEnd : ℕ → ℕ → List ℕ
+textEnd k m = cond (eqb m 0) (lineFrom 27 k) (cond (eqb m 3) (48 ∷ lineFrom 27 (k + 1)) (lineFrom 27 (k + 1)))

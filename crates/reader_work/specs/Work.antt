@@ -1,6 +1,6 @@
 -- What the reader keeps while it reads, and how each end of a number, list or line changes it (document 01, rows 3 to 7).
 --   refusedOf c number spot   the refusal is kept
---   grownOf value b           the number at hand with one digit more, 1000 for 1000 and above
+--   grownOf value b           the number being read with one digit more, 1000 for 1000 and above
 --   workOf, workHeads, workStarts, workBodies   counts and arrays after one byte's action
 -- Assumes nothing.
 use Prim.Native.Nat.{ℕ, _+_, _-_, _*_}
@@ -22,11 +22,11 @@ unfoldable pub grownOf : ℕ → ℕ → ℕ
 grownOf value b =
     cond (ltb 999 value) 1000 (cond (ltb b 48) 0 (cond (ltb 1000 (value * 10 + (b - 48))) 1000 (value * 10 + (b - 48))))
 
-unfoldable pub valueOf : ℕ → ℕ → ℕ → ℕ
-valueOf act value b = cond (eqb act 1) (grownOf 0 b) (cond (eqb act 2) (grownOf value b) 0)
+unfoldable pub valueAfter : ℕ → ℕ → ℕ → ℕ
+valueAfter act value b = cond (eqb act 1) (grownOf 0 b) (cond (eqb act 2) (grownOf value b) 0)
 
-unfoldable pub beginOf : ℕ → ℕ → ℕ → ℕ
-beginOf act begin i = cond (eqb act 1) i (cond (eqb act 2) begin 0)
+unfoldable pub beginAfter : ℕ → ℕ → ℕ → ℕ
+beginAfter act begin i = cond (eqb act 1) i (cond (eqb act 2) begin 0)
 
 -- row 3: N above 126
 unfoldable pub atomsEnded : ℕ → ℕ → Counts → Counts

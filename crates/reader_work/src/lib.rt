@@ -18,7 +18,7 @@ use reader_form::FORM_HEAD;
 ghost use Prim.Native.Nat.{_-_, _≤_, _<_};
 ghost use mathlib.Core.Path.{_≡_};
 ghost use lib.ListN.{set};
-ghost use Rattle.reader_work.specs.Work.{refusedOf, withPrev, grownOf, valueOf, beginOf, atomsEnded, headEnded, headStored, bodyEnded, bodyStored};
+ghost use Rattle.reader_work.specs.Work.{refusedOf, withPrev, grownOf, valueAfter, beginAfter, atomsEnded, headEnded, headStored, bodyEnded, bodyStored};
 ghost use Rattle.reader_work.specs.Work.{openedOf, startStored, ruleShut, endedOf, endedHeads, endedBodies, bracketOf, bracketStarts};
 ghost use Rattle.reader_work.specs.Work.{workOf, workHeads, workStarts, workBodies};
 
@@ -66,7 +66,7 @@ pub fn refused(c: Counts, number: u8, spot: usize) -> Counts
     }
 }
 
-// The number at hand with one digit more, kept at 1000 once it is that large.
+// The number being read with one digit more, kept at 1000 once it is that large.
 fn grown(value: u16, b: u8) -> u16
     ensures { λ r. ⌜ r ≡ grownOf value b ⌝ }
 {
@@ -84,9 +84,9 @@ fn grown(value: u16, b: u8) -> u16
     v
 }
 
-// The number at hand after byte b with action `act`, which begins it or goes on; there is none otherwise.
+// The number being read after byte b with action `act`, which begins it or goes on; there is none otherwise.
 pub fn value_after(act: u8, value: u16, b: u8) -> u16
-    ensures { λ r. ⌜ r ≡ valueOf act value b ⌝ }
+    ensures { λ r. ⌜ r ≡ valueAfter act value b ⌝ }
 {
     if act == ACT_BEGIN {
         return grown(0, b);
@@ -97,9 +97,9 @@ pub fn value_after(act: u8, value: u16, b: u8) -> u16
     0
 }
 
-// Where the number at hand begins, 0 where there is none.
+// Where the number being read begins, 0 where there is none.
 pub fn begin_after(act: u8, begin: usize, i: usize) -> usize
-    ensures { λ r. ⌜ r ≡ beginOf act begin i ⌝ }
+    ensures { λ r. ⌜ r ≡ beginAfter act begin i ⌝ }
 {
     if act == ACT_BEGIN {
         return i;
@@ -110,8 +110,8 @@ pub fn begin_after(act: u8, begin: usize, i: usize) -> usize
     0
 }
 
-// The number of atoms is read.
-fn atoms_ended(value: u16, begin: usize, c: Counts) -> Counts
+// The counts once the number of atoms is read.
+fn end_atoms(value: u16, begin: usize, c: Counts) -> Counts
     ensures { λ r. ⌜ r ≡ atomsEnded value begin c ⌝ }
 {
     if MAX_ATOMS < value {
@@ -127,8 +127,8 @@ fn atoms_ended(value: u16, begin: usize, c: Counts) -> Counts
     }
 }
 
-// A list begins: none of its numbers is read.
-fn list_begun(c: Counts) -> Counts
+// The counts where a list begins: none of its numbers is read.
+fn begin_list(c: Counts) -> Counts
     ensures { λ r. ⌜ r ≡ withPrev c 0 ⌝ }
 {
     Counts {
@@ -141,8 +141,8 @@ fn list_begun(c: Counts) -> Counts
     }
 }
 
-// A head is read.
-fn head_ended(value: u16, begin: usize, c: Counts, heads: &mut [u16; HEADS]) -> Counts
+// The counts and heads once a head is read.
+fn end_head(value: u16, begin: usize, c: Counts, heads: &mut [u16; HEADS]) -> Counts
     ensures { λ r. ⌜ (r ≡ headEnded value begin c) × (now (heads .exit) ≡ headStored value c (now (heads .entry))) ⌝ }
 {
     if value == 0 {
@@ -153,13 +153,13 @@ fn head_ended(value: u16, begin: usize, c: Counts, heads: &mut [u16; HEADS]) -> 
     }
     if c.rules < MAX_RULES {
         put_head(&mut *heads, Rule(c.rules + 1), Atom(value));
-        return list_begun(c);
+        return begin_list(c);
     }
-    list_begun(c)
+    begin_list(c)
 }
 
-// A body atom is read.
-fn body_ended(value: u16, begin: usize, c: Counts, bodies: &mut [u16; BODIES]) -> Counts
+// The counts and body atoms once a body atom is read.
+fn end_body(value: u16, begin: usize, c: Counts, bodies: &mut [u16; BODIES]) -> Counts
     ensures { λ r. ⌜ (r ≡ bodyEnded value begin c) × (now (bodies .exit) ≡ bodyStored value c (now (bodies .entry))) ⌝ }
 {
     if value == 0 {
@@ -185,8 +185,8 @@ fn body_ended(value: u16, begin: usize, c: Counts, bodies: &mut [u16; BODIES]) -
     refused(c, 7, begin)
 }
 
-// A rule line begins at i.
-fn opened(i: usize, c: Counts) -> Counts
+// The counts once a rule line begins at i.
+fn open_rule(i: usize, c: Counts) -> Counts
     ensures { λ r. ⌜ r ≡ openedOf i c ⌝ }
 {
     if c.rules < MAX_RULES {
@@ -195,8 +195,8 @@ fn opened(i: usize, c: Counts) -> Counts
     refused(c, 6, i)
 }
 
-// Stores the end of list j of the rule at hand, 1 for the positive one and 2 for the negative.
-fn list_shut(j: usize, c: Counts, starts: &mut [u16; STARTS])
+// Stores the end of list j of the rule being read, 1 for the positive one and 2 for the negative.
+fn close_list(j: usize, c: Counts, starts: &mut [u16; STARTS])
     ensures { λ r. ⌜ now (starts .exit) ≡ startStored j c (now (starts .entry)) ⌝ }
 {
     if LAST_RULE < c.rules {
@@ -208,8 +208,8 @@ fn list_shut(j: usize, c: Counts, starts: &mut [u16; STARTS])
     }
 }
 
-// A rule line ends.
-fn rule_shut(c: Counts) -> Counts
+// The counts once a rule line ends.
+fn close_rule(c: Counts) -> Counts
     ensures { λ r. ⌜ r ≡ ruleShut c ⌝ }
 {
     if c.rules < MAX_RULES {
@@ -226,7 +226,7 @@ fn rule_shut(c: Counts) -> Counts
 }
 
 // The number at place k is read.
-fn number_ended(
+fn end_number(
     k: usize,
     value: u16,
     begin: usize,
@@ -237,12 +237,12 @@ fn number_ended(
     ensures { λ r. ⌜ (r ≡ endedOf k value begin c) × ((now (heads .exit) ≡ endedHeads k value c (now (heads .entry))) × (now (bodies .exit) ≡ endedBodies k value c (now (bodies .entry)))) ⌝ }
 {
     if k == FORM_ATOMS {
-        return atoms_ended(value, begin, c);
+        return end_atoms(value, begin, c);
     }
     if k == FORM_HEAD {
-        return head_ended(value, begin, c, &mut *heads);
+        return end_head(value, begin, c, &mut *heads);
     }
-    body_ended(value, begin, c, &mut *bodies)
+    end_body(value, begin, c, &mut *bodies)
 }
 
 // A list or a line begins or ends at byte i.
@@ -250,14 +250,14 @@ fn bracket(act: u8, i: usize, c: Counts, starts: &mut [u16; STARTS]) -> Counts
     ensures { λ r. ⌜ (r ≡ bracketOf act i c) × (now (starts .exit) ≡ bracketStarts act c (now (starts .entry))) ⌝ }
 {
     if act == ACT_RULE {
-        return opened(i, c);
+        return open_rule(i, c);
     }
     if act == ACT_LIST {
-        list_shut(1, c, &mut *starts);
-        return list_begun(c);
+        close_list(1, c, &mut *starts);
+        return begin_list(c);
     }
-    list_shut(2, c, &mut *starts);
-    rule_shut(c)
+    close_list(2, c, &mut *starts);
+    close_rule(c)
 }
 
 // What byte i does with action `act` from place k.
@@ -281,7 +281,7 @@ pub fn work(
         return c;
     }
     if act == ACT_END {
-        return number_ended(k, value, begin, c, &mut *heads, &mut *bodies);
+        return end_number(k, value, begin, c, &mut *heads, &mut *bodies);
     }
     bracket(act, i, c, &mut *starts)
 }

@@ -2,7 +2,7 @@
 --   behind, next, element, inside   where a list from place s on is known: what is left further on, and the element at s
 --   stands                          where the text from s on begins with u, u stands at s
 --   FreshAt t s v                   the text from s on is v, and the byte before it parts numbers
---   fresh                           behind a byte that parts numbers
+--   fresh                           after a byte that parts numbers
 --   whole                           what then comes up to the next such byte stands whole
 --   Each Q xs                       Q holds of each element of xs
 --   each-append, each-at            of two lists, one after the other; by place

@@ -2,7 +2,7 @@
 --   areBytes t       each number of t is a byte: below 256
 --   StandsAt t s u   from byte s on t has the bytes u
 --   separates b      b parts numbers: a space, a bracket or a line end
---   WholeAt t s u    u stands at s, and the bytes before and behind it part numbers; so s is the first byte of a number u
+--   WholeAt t s u    u stands at s, and the bytes before and after it part numbers; so s is the first byte of a number u
 -- Assumes nothing.
 use Prim.Native.Nat.{ℕ, zero, pred, _+_, _<_}
 use mathlib.Core.Path.{_≡_}

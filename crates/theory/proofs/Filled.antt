@@ -58,7 +58,7 @@ module _ (S : Sizes) (rule : ℕ → Rule) (inner : ℕ → List ℕ) (ps : List
       (ap length (append-nil (each (length ps) (chainBits S ps ℓ))) ∙ chains-length)))))
       ∙ omega arith
 
-  -- the value at a place behind the first parts
+  -- the value at a place after the first parts
   place : (v x : ℕ) → pred v ≡ x → valueOf F v ≡ getD F x false
   unfolding valueOf
   place v x e = ap (λ (k : ℕ). getD F k false) e

@@ -223,7 +223,7 @@ module _ (P : Program) (w : ℕ) (A : Assignment) where
 -- ---- the pairs
 
 module _ (P : Program) where
-  -- pair j of rule r is its body atom j with its head, behind the pairs of the rules before it
+  -- pair j of rule r is its body atom j with its head, after the pairs of the rules before it
   pub pairs-are : (r : ℕ) → zero < r → r ≤ length (P .rules) → (j : ℕ) → j < length (ruleAt (P .rules) r .positive)
       → pairAt (pairs P) (pairsBefore P r + suc j) ≡ record { body = getD (ruleAt (P .rules) r .positive) j 0; head = ruleAt (P .rules) r .head }
   pairs-are =

@@ -1,4 +1,4 @@
--- The pairs of a code: pair j of rule r stands behind the pairs of the rules before it, and each pair is one of these.
+-- The pairs of a code: pair j of rule r stands after the pairs of the rules before it, and each pair is one of these.
 -- Assumes nothing.
 use Prim.Native.Nat.{ℕ, suc, pred, _+_, _<_}
 use native.Mathlib.Nat.{add-suc}

@@ -1,2 +1,2 @@
 pub mod Values
-pub mod Rows
+pub mod Blocks

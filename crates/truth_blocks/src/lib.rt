@@ -1,5 +1,5 @@
-// Truth of single literals, and of whole rows of clauses, under an assignment (document 01, "Check and filling out").
-use clause_layout::chain_at;
+// Truth of single literals, and of whole blocks of clauses, under an assignment (document 01, "Check and filling out").
+use clause_layout::chain_of_block;
 use clause_layout::entry;
 use clause_literals::Sizes;
 use clause_literals::below_var;
@@ -27,13 +27,13 @@ ghost use lib.ListN.{length, getD};
 ghost use Rattle.encoding.specs.Literal.{literalTrue};
 ghost use Rattle.encoding.specs.Variables.{levelVar, nextVar, varCount};
 ghost use Rattle.clause_literals.specs.Sizes.{sizesOf, Bounded};
-ghost use Rattle.clause_walk.specs.Walk.{signed, RowAt};
+ghost use Rattle.clause_walk.specs.Walk.{signed, BlockAt};
 ghost use Rattle.clause_tables.specs.Tables.{programIn, Ready};
 ghost use Rattle.truth_blocks.specs.Values.{valueIn, numberTrue};
-ghost use Rattle.truth_blocks.specs.Rows.{Has, twoTrue, threeTrue, BitIn, bitTrue, nextTrue, zeroTrue, foundsTrue, factTrue, boundTrue, ruleTrue, rowPasses};
+ghost use Rattle.truth_blocks.specs.Blocks.{Has, twoTrue, threeTrue, BitIn, bitTrue, nextTrue, zeroTrue, foundsTrue, factTrue, boundTrue, ruleTrue, blockPasses};
 
 // Whether variable v has 1.
-pub fn value_of(assignment: &[u8], v: usize) -> bool
+pub fn is_true(assignment: &[u8], v: usize) -> bool
     requires { ⌜ (0 < v) × (v ≤ length (now assignment)) ⌝ }
     ensures { λ r. ⌜ r ≡ valueIn (now (assignment .entry)) v ⌝ }
 {
@@ -45,7 +45,7 @@ pub fn holds(x: i32, assignment: &[u8]) -> bool
     requires { ⌜ (natAbs x < 2 ^ 31) × (0 < natAbs x) × (natAbs x ≤ length (now assignment)) ⌝ }
     ensures { λ r. ⌜ r ≡ numberTrue (now (assignment .entry)) x ⌝ }
 {
-    let v = value_of(assignment, magnitude(x) as usize);
+    let v = is_true(assignment, magnitude(x) as usize);
     if is_negative(x) {
         return !v;
     }
@@ -63,7 +63,7 @@ fn signed_holds(p: bool, v: Var, assignment: &[u8]) -> bool
     holds(negated(v), assignment)
 }
 
-// Whether a clause of two such literals is true, and of three.
+// Whether a clause of two literals, by sign and variable, is true, and of three.
 fn two_hold(p: bool, x: Var, q: bool, y: Var, assignment: &[u8]) -> bool
     requires { ⌜ (Has (now assignment) (x .0)) × (Has (now assignment) (y .0)) ⌝ }
     ensures { λ r. ⌜ r ≡ twoTrue (valueIn (now (assignment .entry))) p (x .0) q (y .0) ⌝ }
@@ -136,8 +136,8 @@ fn long_hold(low: bool, u: Var, v: Var, assignment: &[u8]) -> bool
         & (low | two_hold(true, u, true, v, assignment))
 }
 
-// Group 4, atom a: whether every clause of row i is true.
-fn next_row_holds(s: Sizes, a: Atom, i: u16, assignment: &[u8]) -> bool
+// Group 4, atom a: whether every clause of block i is true.
+fn next_block_holds(s: Sizes, a: Atom, i: u16, assignment: &[u8]) -> bool
     requires { ⌜ (Bounded s) × (0 < a .0) × (a .0 ≤ 126) × (0 < i) × (i ≤ 7) × (levelVar (sizesOf s) (a .0) i ≤ length (now assignment)) × (nextVar (sizesOf s) (a .0) i ≤ length (now assignment)) ⌝ }
     ensures { λ r. ⌜ r ≡ nextTrue (valueIn (now (assignment .entry))) (sizesOf s) (a .0) i ⌝ }
 {
@@ -156,8 +156,8 @@ fn next_row_holds(s: Sizes, a: Atom, i: u16, assignment: &[u8]) -> bool
     long_hold(low, u, v, assignment)
 }
 
-// Group 3, atom a: whether every clause of its row is true.
-fn zero_row_holds(s: Sizes, a: Atom, assignment: &[u8]) -> bool
+// Group 3, atom a: whether every clause of its block is true.
+fn zero_block_holds(s: Sizes, a: Atom, assignment: &[u8]) -> bool
     requires { ⌜ (Bounded s) × (0 < a .0) × (a .0 ≤ 126) × (a .0 ≤ length (now assignment)) × (levelVar (sizesOf s) (a .0) (s .w) ≤ length (now assignment)) ⌝ }
     ensures { λ r. ⌜ r ≡ zeroTrue (valueIn (now (assignment .entry))) (sizesOf s) (a .0) ⌝ }
 {
@@ -172,7 +172,7 @@ fn zero_row_holds(s: Sizes, a: Atom, assignment: &[u8]) -> bool
     true
 }
 
-// Group 6, rule r, whose b pairs stand behind k others: whether s(r) says that its body is true with every pair's level below.
+// Group 6, rule r, whose b pairs stand after k others: whether s(r) says that its body is true with every pair's level below.
 fn founds_hold(s: Sizes, r: Rule, k: u16, b: u16, assignment: &[u8]) -> bool
     requires { ⌜ (Bounded s) × (0 < r .0) × (r .0 ≤ s .m) × (k + b ≤ 500) × (varCount (sizesOf s) (k + b) ≤ length (now assignment)) ⌝ }
     ensures { λ x. ⌜ x ≡ foundsTrue (valueIn (now (assignment .entry))) (sizesOf s) (r .0) k b ⌝ }
@@ -228,8 +228,8 @@ fn bound_holds(s: Sizes, r: Rule, k: u16, b: u16, assignment: &[u8]) -> bool
     low
 }
 
-// Group 6, rule r with head h and b pairs behind k others: whether every clause is true.
-fn rule_row_holds(s: Sizes, r: Rule, h: Atom, k: u16, b: u16, assignment: &[u8]) -> bool
+// Group 6, rule r with head h and b pairs after k others: whether every clause is true.
+fn rule_block_holds(s: Sizes, r: Rule, h: Atom, k: u16, b: u16, assignment: &[u8]) -> bool
     requires { ⌜ (Bounded s) × (0 < r .0) × (r .0 ≤ s .m) × (0 < h .0) × (h .0 ≤ s .n) × (k + b ≤ 500) × (varCount (sizesOf s) (k + b) ≤ length (now assignment)) ⌝ }
     ensures { λ x. ⌜ x ≡ ruleTrue (valueIn (now (assignment .entry))) (sizesOf s) (r .0) (h .0) k b ⌝ }
 {
@@ -251,8 +251,8 @@ fn pair_count(starts: &[u16], r: u16) -> u16
     starts[j + 1] - starts[j]
 }
 
-// Whether row i of item a of group g is taken whole, as those of groups 3 to 6 are, and all its clauses are true.
-pub fn row_passes<'a>(
+// Whether block i of item a of group g is taken whole, as those of groups 3 to 6 are, and all its clauses are true.
+pub fn block_passes<'a>(
     t: Totals,
     heads: &'a [u16],
     starts: &'a [u16],
@@ -265,23 +265,23 @@ pub fn row_passes<'a>(
     i: u16,
     assignment: &'a [u8],
 ) -> bool
-    requires { ⌜ (Ready t (now heads) (now starts) (now bodies) (now before) (now partners) (now owners)) × (RowAt (programIn (t .sizes) (now heads) (now starts) (now bodies)) (t .sizes .w) g a i) × (t .vars ≤ length (now assignment)) ⌝ }
-    ensures { λ r. ⌜ r ≡ rowPasses (programIn (t .sizes) (now (heads .entry)) (now (starts .entry)) (now (bodies .entry))) (t .sizes .w) (valueIn (now (assignment .entry))) g a i ⌝ }
+    requires { ⌜ (Ready t (now heads) (now starts) (now bodies) (now before) (now partners) (now owners)) × (BlockAt (programIn (t .sizes) (now heads) (now starts) (now bodies)) (t .sizes .w) g a i) × (t .vars ≤ length (now assignment)) ⌝ }
+    ensures { λ r. ⌜ r ≡ blockPasses (programIn (t .sizes) (now (heads .entry)) (now (starts .entry)) (now (bodies .entry))) (t .sizes .w) (valueIn (now (assignment .entry))) g a i ⌝ }
 {
     if g == 5 {
-        let c = chain_at(t, heads, starts, bodies, before, partners, owners, g, a, i);
+        let c = chain_of_block(t, heads, starts, bodies, before, partners, owners, g, a, i);
         return bit_holds(c, chain_bit(t.sizes.w, i), assignment);
     }
     if g == 4 {
-        return next_row_holds(t.sizes, Atom(a), i, assignment);
+        return next_block_holds(t.sizes, Atom(a), i, assignment);
     }
     if g == 3 {
-        return zero_row_holds(t.sizes, Atom(a), assignment);
+        return zero_block_holds(t.sizes, Atom(a), assignment);
     }
     if g == 6 {
         let b = pair_count(starts, a);
         let h = Atom(entry(heads, a));
-        return rule_row_holds(t.sizes, Rule(a), h, entry(before, a), b, assignment);
+        return rule_block_holds(t.sizes, Rule(a), h, entry(before, a), b, assignment);
     }
     false
 }

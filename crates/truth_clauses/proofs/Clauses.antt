@@ -22,7 +22,7 @@ use Rattle.theory.proofs.Widths.{width-enough}
 use Rattle.theory.proofs.Counts.{count-whole}
 use Rattle.clause_walk.specs.Walk.{size, slots, slot, clauseAt, At}
 use Rattle.clause_slots.specs.declared.Signed.{Signed}
-use Rattle.clause_slots.specs.Signed.{literalIn, held}
+use Rattle.clause_slots.specs.Signed.{literalIn, slotLiteral}
 use Rattle.clause_tables.specs.declared.Totals.{Totals}
 use Rattle.clause_tables.specs.Tables.{Tabled}
 use Rattle.clause_table_laws.proofs.Elements.{width-are, vars-are, clauses-are}
@@ -32,22 +32,22 @@ use Rattle.clause_layout.proofs.Passed.{passed, passed-each}
 use Rattle.clause_text.specs.Lines.{literalsIn}
 use Rattle.clause_text.proofs.Held.{held-is}
 use Rattle.clause_text.proofs.Clause.{slotted, slot-asks}
-use Rattle.clause_places.specs.declared.Spot.{Spot}
+use Rattle.clause_places.specs.declared.Coordinates.{Coordinates}
 use Rattle.clause_places.specs.declared.Place.{Place}
 use Rattle.clause_places.specs.Places.{placeAt}
 use Rattle.clause_places.proofs.Numbers.{number-is, own-number, placed-at, placed-clause}
-use Rattle.clause_places.proofs.RowPlaces.{along, row-size}
+use Rattle.clause_places.proofs.BlockPlaces.{along, block-size}
 use Rattle.truth_clauses.specs.Truth.{valueIn, falseAt, firstFalse}
-use Rattle.truth_blocks.specs.Rows.{rowTrue, isWhole, rowPasses}
+use Rattle.truth_blocks.specs.Blocks.{blockTrue, isWhole, blockPasses}
 use Rattle.truth_clauses.specs.Standing.{TrueTo, Standing}
-use Rattle.clause_places.specs.Places.{furtherRow}
+use Rattle.clause_places.specs.Places.{furtherBlock}
 use Rattle.truth_clauses.proofs.Values.{variable-in}
 use Rattle.clause_places.proofs.Behind.{behind-is, place-listed}
 
 or-false : (a b : Bool) → a ≡ false → b ≡ false → (a || b) ≡ false
 or-false a b p q = ap₂ _||_ p q
 
-held-in : (n : ℕ) (ls : List Literal) → So (all (λ z. isAtom n (variable z)) ls) → variable (held ls) ≤ n
+held-in : (n : ℕ) (ls : List Literal) → So (all (λ z. isAtom n (variable z)) ls) → variable (slotLiteral ls) ≤ n
 held-in n [] u = omega arith
 held-in n (z ∷ ls) u = atom-le n (variable z) (and-left (isAtom n (variable z)) (all (λ z. isAtom n (variable z)) ls) u)
 
@@ -60,10 +60,10 @@ module _ {P : Program} {t : Totals} {hs ss bs ks xs ys : List ℕ} (T : Tabled P
     abbrev trueIn : ℕ → Bool
     trueIn l = any (literalTrue (valueIn vs)) (each l (slot P w g a i y))
 
-    module _ (x : Signed) {k l : ℕ} (e : k ≡ slots P w g a i y) (h : l < k) (q : literalIn x ≡ held (slot P w g a i y (l + 1))) where
+    module _ (x : Signed) {k l : ℕ} (e : k ≡ slots P w g a i y) (h : l < k) (q : literalIn x ≡ slotLiteral (slot P w g a i y (l + 1))) where
       slot-is : literalsIn x ≡ slot P w g a i y (suc l)
       slot-is =
-          held-is x (slot P w g a i y (suc l)) (slotted T A (suc l) (omega arith) (subst (λ (n : ℕ). suc l ≤ n) e h)) (q ∙ ap (λ (n : ℕ). held (slot P w g a i y n)) (add-one l))
+          held-is x (slot P w g a i y (suc l)) (slotted T A (suc l) (omega arith) (subst (λ (n : ℕ). suc l ≤ n) e h)) (q ∙ ap (λ (n : ℕ). slotLiteral (slot P w g a i y n)) (add-one l))
 
       one-more : {d : Bool} → d ≡ any (literalTrue (valueIn vs)) (literalsIn x) → trueIn (suc l) ≡ (trueIn l || d)
       one-more u =
@@ -88,7 +88,7 @@ module _ {P : Program} {t : Totals} {hs ss bs ks xs ys : List ℕ} (T : Tabled P
       variable-fits v =
           le-trans
           (subst (λ (k : ℕ). k ≤ t .vars) (ap variable (sym q) ∙ variable-in x)
-          (subst (λ (k : ℕ). variable (held (slot P w g a i y (l + 1))) ≤ k) (sym (vars-are P t hs ss bs ks xs ys T))
+          (subst (λ (k : ℕ). variable (slotLiteral (slot P w g a i y (l + 1))) ≤ k) (sym (vars-are P t hs ss bs ks xs ys T))
           (held-in (variables P (width (P .atoms))) (slot P w g a i y (l + 1)) in-slot)))
           v
         where
@@ -111,7 +111,7 @@ module _ {P : Program} {t : Totals} {hs ss bs ks xs ys : List ℕ} (T : Tabled P
     none-before = record { each-true = λ j h. absurd (not-suc-le-zero h) }
 
     module _ {c : Place} (e : c ≡ placeAt P w (c .number)) (p : 0 < c .number) (h : c .number ≤ t .clauses) where
-      module _ {d : Bool} (u : d ≡ clauseTrue (valueIn vs) (clauseAt P w (c .spot .group) (c .spot .item) (c .spot .row) (c .spot .clause))) where
+      module _ {d : Bool} (u : d ≡ clauseTrue (valueIn vs) (clauseAt P w (c .coordinates .group) (c .coordinates .item) (c .coordinates .block) (c .coordinates .clause))) where
         false-is : falseAt P vs (c .number) ≡ not d
         false-is = ap not (ap (clauseTrue (valueIn vs)) (sym (placed-clause T e p h)) ∙ sym u)
 
@@ -166,70 +166,70 @@ module _ {P : Program} {t : Totals} {hs ss bs ks xs ys : List ℕ} (T : Tabled P
           go zero p = absurd (not-suc-le-zero p)
           go (suc n) p = refl
 
-      pub clause-asks : At P w (c .spot .group) (c .spot .item) (c .spot .row) (c .spot .clause)
+      pub clause-asks : At P w (c .coordinates .group) (c .coordinates .item) (c .coordinates .block) (c .coordinates .clause)
       clause-asks = placed-at T (S .own) (S .some) h
 
-      module _ {r : Bool} (u : r ≡ clauseTrue (valueIn vs) (clauseAt P w (c .spot .group) (c .spot .item) (c .spot .row) (c .spot .clause))) where
+      module _ {r : Bool} (u : r ≡ clauseTrue (valueIn vs) (clauseAt P w (c .coordinates .group) (c .coordinates .item) (c .coordinates .block) (c .coordinates .clause))) where
         pub clause-passed : r ≡ true → {d : Place} → d ≡ placeAt P w (suc (c .number)) → Standing P t vs d
         clause-passed z e = stands-by e h (true-to (S .own) (S .some) h u (pred (c .number)) one-before z (S .true-before))
 
         pub clause-false : r ≡ false → c .number ≡ firstFalse P vs
         clause-false z = first-found (S .own) (S .some) h u (pred (c .number)) one-before z (S .true-before)
 
-      -- the row that begins at c
-      module _ (z : c .spot .clause ≡ 1) {r : Bool} (u : r ≡ rowPasses P w (valueIn vs) (c .spot .group) (c .spot .item) (c .spot .row)) (v : r ≡ true) where
-        row-clause : (y : ℕ) → y ≤ c .spot .clauses → So (clauseTrue (valueIn vs) (clauseAt P w (c .spot .group) (c .spot .item) (c .spot .row) (suc y)))
-        unfolding rowTrue
-        row-clause y q =
-            allTo-at (size P w (c .spot .group) (c .spot .item) (c .spot .row)) (λ y. clauseTrue (valueIn vs) (clauseAt P w (c .spot .group) (c .spot .item) (c .spot .row) y))
-            (whole (isWhole (c .spot .group)) (rowTrue P w (valueIn vs) (c .spot .group) (c .spot .item) (c .spot .row)) (sym u ∙ v)) y
-            (subst (λ (n : ℕ). y < n) (row-size T (S .own) h (S .some)) (omega (arith, q, z)))
+      -- the block that begins at c
+      module _ (z : c .coordinates .clause ≡ 1) {r : Bool} (u : r ≡ blockPasses P w (valueIn vs) (c .coordinates .group) (c .coordinates .item) (c .coordinates .block)) (v : r ≡ true) where
+        block-clause : (y : ℕ) → y ≤ c .coordinates .clauses → So (clauseTrue (valueIn vs) (clauseAt P w (c .coordinates .group) (c .coordinates .item) (c .coordinates .block) (suc y)))
+        unfolding blockTrue
+        block-clause y q =
+            allTo-at (size P w (c .coordinates .group) (c .coordinates .item) (c .coordinates .block)) (λ y. clauseTrue (valueIn vs) (clauseAt P w (c .coordinates .group) (c .coordinates .item) (c .coordinates .block) y))
+            (whole (isWhole (c .coordinates .group)) (blockTrue P w (valueIn vs) (c .coordinates .group) (c .coordinates .item) (c .coordinates .block)) (sym u ∙ v)) y
+            (subst (λ (n : ℕ). y < n) (block-size T (S .own) h (S .some)) (omega (arith, q, z)))
           where
             whole : (d e : Bool) → cond d e false ≡ true → e ≡ true
             whole true e p = p
             whole false e p = absurd (false≢true p)
 
-        row-false : (y : ℕ) → y ≤ c .spot .clauses → falseAt P vs (suc (pred (c .number) + y)) ≡ false
-        row-false y q =
+        block-false : (y : ℕ) → y ≤ c .coordinates .clauses → falseAt P vs (suc (pred (c .number) + y)) ≡ false
+        block-false y q =
             ap (falseAt P vs) (number-at (c .number) y one-before)
             ∙ ap not
             (ap (clauseTrue (valueIn vs))
             (sym (placed-clause T {c = placeAt P w (c .number + y)} refl (omega (arith, S .some)) (along T (S .own) h y q .listed))
-            ∙ ap (λ (d : Spot). clauseAt P w (d .group) (d .item) (d .row) (d .clause)) (along T (S .own) h y q .stands)
-            ∙ ap (λ (n : ℕ). clauseAt P w (c .spot .group) (c .spot .item) (c .spot .row) (n + y)) z)
-            ∙ row-clause-at y q)
+            ∙ ap (λ (d : Coordinates). clauseAt P w (d .group) (d .item) (d .block) (d .clause)) (along T (S .own) h y q .stands)
+            ∙ ap (λ (n : ℕ). clauseAt P w (c .coordinates .group) (c .coordinates .item) (c .coordinates .block) (n + y)) z)
+            ∙ block-clause-at y q)
           where
             number-at : (n y : ℕ) → n ≡ suc (pred n) → suc (pred n + y) ≡ n + y
             number-at n y q = sym (ap (λ (m : ℕ). m + y) q ∙ suc-add (pred n) y)
 
-            row-clause-at : (y : ℕ) → y ≤ c .spot .clauses → clauseTrue (valueIn vs) (clauseAt P w (c .spot .group) (c .spot .item) (c .spot .row) (1 + y)) ≡ true
-            row-clause-at y q = ap (λ (n : ℕ). clauseTrue (valueIn vs) (clauseAt P w (c .spot .group) (c .spot .item) (c .spot .row) n)) (one-add y) ∙ row-clause y q
+            block-clause-at : (y : ℕ) → y ≤ c .coordinates .clauses → clauseTrue (valueIn vs) (clauseAt P w (c .coordinates .group) (c .coordinates .item) (c .coordinates .block) (1 + y)) ≡ true
+            block-clause-at y q = ap (λ (n : ℕ). clauseTrue (valueIn vs) (clauseAt P w (c .coordinates .group) (c .coordinates .item) (c .coordinates .block) n)) (one-add y) ∙ block-clause y q
 
-        row-to : (k : ℕ) → k ≤ suc (c .spot .clauses) → (j : ℕ) → j < pred (c .number) + k → falseAt P vs (suc j) ≡ false
-        row-to zero q j l = S .true-before .each-true j (omega (arith, l))
-        row-to (suc k) q j l =
-            up-to (λ j. falseAt P vs (suc j) ≡ false) (pred (c .number) + k) (row-to k (omega (arith, q))) (row-false k (omega (arith, q))) j (omega (arith, l))
+        block-to : (k : ℕ) → k ≤ suc (c .coordinates .clauses) → (j : ℕ) → j < pred (c .number) + k → falseAt P vs (suc j) ≡ false
+        block-to zero q j l = S .true-before .each-true j (omega (arith, l))
+        block-to (suc k) q j l =
+            up-to (λ j. falseAt P vs (suc j) ≡ false) (pred (c .number) + k) (block-to k (omega (arith, q))) (block-false k (omega (arith, q))) j (omega (arith, l))
 
-        pub row-passed : {d : Place} → (d ≡ placeAt P w (suc (c .number + c .spot .clauses))) × (c .number + c .spot .clauses ≤ t .clauses) → Standing P t vs d
-        row-passed e =
-            stands-by (e .0) (e .1) (record { each-true = λ j l. row-to (suc (c .spot .clauses)) (omega arith) j (omega (arith, l, one-before)) })
+        pub block-passed : {d : Place} → (d ≡ placeAt P w (suc (c .number + c .coordinates .clauses))) × (c .number + c .coordinates .clauses ≤ t .clauses) → Standing P t vs d
+        block-passed e =
+            stands-by (e .0) (e .1) (record { each-true = λ j l. block-to (suc (c .coordinates .clauses)) (omega arith) j (omega (arith, l, one-before)) })
 
-    -- the next row of the item, behind one that is taken whole and true
-    pub furthered : {c : Place} (S : Standing P t vs c) (h : c .number ≤ t .clauses) → c .spot .clause ≡ 1 → 0 < c .spot .rows → {r : Bool}
-        → r ≡ rowPasses P w (valueIn vs) (c .spot .group) (c .spot .item) (c .spot .row) → r ≡ true → {k : ℕ}
-        → k ≡ size P w (c .spot .group) (c .spot .item) (c .spot .row + 1) → 0 < k → {d : Place} → d ≡ furtherRow c k
+    -- the next block of the item, after one that is taken whole and true
+    pub furthered : {c : Place} (S : Standing P t vs c) (h : c .number ≤ t .clauses) → c .coordinates .clause ≡ 1 → 0 < c .coordinates .blocks → {r : Bool}
+        → r ≡ blockPasses P w (valueIn vs) (c .coordinates .group) (c .coordinates .item) (c .coordinates .block) → r ≡ true → {k : ℕ}
+        → k ≡ size P w (c .coordinates .group) (c .coordinates .item) (c .coordinates .block + 1) → 0 < k → {d : Place} → d ≡ furtherBlock c k
         → (Standing P t vs d) × (c .number < d .number) × (d .number ≤ t .clauses)
     furthered {c} S h z p u v {k} q l {d} e =
         (D, omega (arith, ap (λ (x : Place). x .number) e), within-list)
       where
-        at : d ≡ placeAt P w (suc (c .number + c .spot .clauses))
+        at : d ≡ placeAt P w (suc (c .number + c .coordinates .clauses))
         at = e ∙ behind-is T (S .own) h p q l .0
 
         D : Standing P t vs d
-        D = row-passed S h z u v (at, behind-is T (S .own) h p q l .1)
+        D = block-passed S h z u v (at, behind-is T (S .own) h p q l .1)
 
         within-list : d .number ≤ t .clauses
-        within-list = place-listed T (D .own) (omega (arith, ap (λ (x : Place). x .spot .clause) e))
+        within-list = place-listed T (D .own) (omega (arith, ap (λ (x : Place). x .coordinates .clause) e))
 
     pub ended : {c : Place} → Standing P t vs c → t .clauses < c .number → 0 ≡ firstFalse P vs
     ended {c} S h = none-false (pred (c .number)) (below (c .number) h) (S .true-before)

@@ -1,6 +1,6 @@
 -- Places on the way to the first false clause.
 --   TrueTo P vs n        the first n clauses are true
---   Standing P t vs c    c is a place, or the one behind the last, with all clauses before it true
+--   Standing P t vs c    c is a place, or the one after the last, with all clauses before it true
 -- Assumes nothing.
 use Prim.Native.Nat.{ℕ, suc, pred, _≤_, _<_}
 use mathlib.Core.Path.{_≡_}

@@ -1,5 +1,5 @@
 -- Truth of clauses under an assignment of bytes (document 01, "Check and filling out").
---   valueIn bs v, numberTrue bs x    those of crate row_truth
+--   valueIn bs v, numberTrue bs x    those of crate truth_blocks
 --   firstFalse P bs   the first clause that is false, 0 if none is
 -- Assumes nothing.
 use Prim.Native.Nat.{ℕ, pred}

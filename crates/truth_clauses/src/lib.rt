@@ -1,19 +1,19 @@
 // Truth of clauses under an assignment (document 01, "Check and filling out").
-use clause_layout::chain_at;
+use clause_layout::chain_of_block;
 use clause_layout::literal_in;
 use clause_layout::past_empty;
 use clause_layout::size;
 use clause_layout::slots;
 use clause_places::Place;
-use clause_places::further_row;
+use clause_places::further_block;
 use clause_places::next;
-use clause_places::past_row;
+use clause_places::past_block;
 use clause_places::start;
 use clause_slots::Signed;
 use clause_tables::Totals;
-use clause_text::number_of;
+use clause_text::literal_number;
 use truth_blocks::holds;
-use truth_blocks::row_passes;
+use truth_blocks::block_passes;
 ghost use Prim.Native.Nat.{_+_, _≤_, _<_};
 ghost use mathlib.Core.Path.{_≡_};
 ghost use lib.ListN.{length};
@@ -33,10 +33,10 @@ fn slot_holds(x: Signed, assignment: &[u8]) -> bool
     if x.var.0 == 0 {
         return false;
     }
-    holds(number_of(x), assignment)
+    holds(literal_number(x), assignment)
 }
 
-// Whether clause y of row i of item a of group g is true.
+// Whether clause y of block i of item a of group g is true.
 pub fn clause_holds<'a>(
     t: Totals,
     heads: &'a [u16],
@@ -67,7 +67,7 @@ pub fn clause_holds<'a>(
         i,
         y,
     );
-    let c = chain_at(t, heads, starts, bodies, before, partners, owners, g, a, i);
+    let c = chain_of_block(t, heads, starts, bodies, before, partners, owners, g, a, i);
     let mut l: u16 = 0;
     while l < k {
         let x = literal_in(
@@ -93,8 +93,8 @@ pub fn clause_holds<'a>(
     false
 }
 
-// From a place with all clauses before it true to such a place further on in the item: past rows that are taken whole and are true.
-fn through_rows<'a>(
+// From a place with all clauses before it true to such a place further on in the item: past blocks that are taken whole and are true.
+fn through_blocks<'a>(
     t: Totals,
     heads: &'a [u16],
     starts: &'a [u16],
@@ -109,12 +109,12 @@ fn through_rows<'a>(
     ensures { λ r. ⌜ (Standing (programIn (t .sizes) (now (heads .entry)) (now (starts .entry)) (now (bodies .entry))) t (now (assignment .entry)) r) × (c .number ≤ r .number) × (r .number ≤ t .clauses) ⌝ }
 {
     let mut at = c;
-    while 0 < at.spot.rows {
-        let s = at.spot;
+    while 0 < at.coordinates.blocks {
+        let s = at.coordinates;
         if s.clause != 1 {
             return at;
         }
-        if !row_passes(
+        if !block_passes(
             t,
             heads,
             starts,
@@ -124,7 +124,7 @@ fn through_rows<'a>(
             owners,
             s.group,
             s.item,
-            s.row,
+            s.block,
             assignment,
         ) {
             return at;
@@ -139,12 +139,12 @@ fn through_rows<'a>(
             owners,
             s.group,
             s.item,
-            s.row + 1,
+            s.block + 1,
         );
         if k == 0 {
             return at;
         }
-        at = further_row(at, k);
+        at = further_block(at, k);
     }
     at
 }
@@ -174,7 +174,7 @@ pub fn first_false<'a>(
         start(t, heads, starts, bodies, before, partners, owners),
     );
     while at.number <= t.clauses {
-        let c = through_rows(
+        let c = through_blocks(
             t,
             heads,
             starts,
@@ -185,9 +185,9 @@ pub fn first_false<'a>(
             at,
             assignment,
         );
-        let s = c.spot;
+        let s = c.coordinates;
         if s.clause == 1 {
-            if row_passes(
+            if block_passes(
                 t,
                 heads,
                 starts,
@@ -197,10 +197,10 @@ pub fn first_false<'a>(
                 owners,
                 s.group,
                 s.item,
-                s.row,
+                s.block,
                 assignment,
             ) {
-                at = past_row(t, heads, starts, bodies, before, partners, owners, c);
+                at = past_block(t, heads, starts, bodies, before, partners, owners, c);
                 continue;
             }
         }
@@ -214,7 +214,7 @@ pub fn first_false<'a>(
             owners,
             s.group,
             s.item,
-            s.row,
+            s.block,
             s.clause,
             assignment,
         ) {

@@ -12,7 +12,7 @@ use Rattle.meaning.specs.Program.{Program}
 use Rattle.text.specs.Limits.{Admitted}
 use Rattle.program.specs.Arrays.{decoded}
 use Rattle.program.proofs.Decode.{decoded-kept}
-use Rattle.reader.specs.declared.Reading.{Reading}
+use Rattle.reader.specs.declared.ReadResult.{ReadResult}
 use Rattle.reader.specs.declared.ReadVerdict.{ReadVerdict}
 use Rattle.reader.specs.declared.ReadVerdict.the-variants.{Accepted, Refused}
 use Rattle.reader.specs.Verdict.{readOf}
@@ -21,28 +21,28 @@ use Rattle.reader.proofs.Counted.{counted-whole}
 use Rattle.reader_laws.specs.Row.{Answers}
 use Rattle.reader_laws.proofs.Contents.{admitted-answer}
 use Rattle.clause_text.specs.Lines.{refusedText}
-use Rattle.writer_output.specs.Output.{clauseFile, refusedLine, verdictText, outputOf, outputText, writerText}
+use Rattle.writer_output.specs.Output.{clauseFile, writerRefusalLine, writerVerdictText, writerOutputOf, writerOutput, writerText}
 
-module _ (f : List ℕ) (k : ℕ) {r : Reading} (e : r ≡ countedOf f k) where
-  by-verdict : {v : ReadVerdict} → r .verdict ≡ v → verdictText v (clauseFile (decoded (r .program))) ≡ outputText f k
-  unfolding outputText outputOf
-  by-verdict h = ap (λ (v : ReadVerdict). verdictText v (clauseFile (decoded (r .program)))) (sym h) ∙ ap outputOf e
+module _ (f : List ℕ) (k : ℕ) {r : ReadResult} (e : r ≡ countedOf f k) where
+  by-verdict : {v : ReadVerdict} → r .verdict ≡ v → writerVerdictText v (clauseFile (decoded (r .program))) ≡ writerOutput f k
+  unfolding writerOutput writerOutputOf
+  by-verdict h = ap (λ (v : ReadVerdict). writerVerdictText v (clauseFile (decoded (r .program)))) (sym h) ∙ ap writerOutputOf e
 
-  pub accepted-output : r .verdict ≡ Accepted → clauseFile (decoded (r .program)) ≡ outputText f k
+  pub accepted-output : r .verdict ≡ Accepted → clauseFile (decoded (r .program)) ≡ writerOutput f k
   accepted-output h = by-verdict h
 
-  pub refused-output : {x : TextRefusal} → r .verdict ≡ Refused x → refusedLine (r .verdict) ≡ outputText f k
-  refused-output h = ap refusedLine h ∙ by-verdict h
+  pub refused-output : {x : TextRefusal} → r .verdict ≡ Refused x → writerRefusalLine (r .verdict) ≡ writerOutput f k
+  refused-output h = ap writerRefusalLine h ∙ by-verdict h
 
-pub front-output : (t : List ℕ) → outputText (take 65537 t) (length t) ≡ writerText t
-unfolding outputText writerText
-front-output t = ap outputOf (counted-whole t)
+pub front-output : (t : List ℕ) → writerOutput (take 65537 t) (length t) ≡ writerText t
+unfolding writerOutput writerText
+front-output t = ap writerOutputOf (counted-whole t)
 
 pub writer-lists : (t : List ℕ) (P : Program) → Admitted t P → writerText t ≡ clauseFile P
-unfolding writerText outputOf
-writer-lists t P a = ap outputOf (admitted-answer t P a) ∙ ap clauseFile (decoded-kept P)
+unfolding writerText writerOutputOf
+writer-lists t P a = ap writerOutputOf (admitted-answer t P a) ∙ ap clauseFile (decoded-kept P)
 
 pub writer-refuses : (t : List ℕ) (r s : ℕ) → Answers t r s → writerText t ≡ refusedText r s
-unfolding writerText outputOf
+unfolding writerText writerOutputOf
 writer-refuses t r s a =
-    ap (λ (v : ReadVerdict). verdictText v (clauseFile (decoded (readOf t .program)))) (a .verdict-is) ∙ ap₂ refusedText (a .row-is) (a .spot-is)
+    ap (λ (v : ReadVerdict). writerVerdictText v (clauseFile (decoded (readOf t .program)))) (a .verdict-is) ∙ ap₂ refusedText (a .row-is) (a .spot-is)

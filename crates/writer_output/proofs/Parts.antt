@@ -16,7 +16,7 @@ use Rattle.clause_tables.specs.declared.Totals.{Totals}
 use Rattle.clause_tables.specs.Tables.{Stored, Tabled, pairTable, totalsOf, programIn}
 use Rattle.clause_places.specs.declared.Place.{Place}
 use Rattle.clause_places.specs.Places.{placeAt}
-use Rattle.clause_runs.specs.declared.Part.{Part}
+use Rattle.clause_runs.specs.declared.RunPart.{RunPart}
 use Rattle.clause_runs.specs.Lines.{linesOf, fitting, partIn, runIn, runBytesIn}
 use Rattle.call_laws.proofs.Tabled.{program-is, tabled}
 use Rattle.clause_runs.proofs.Runs.{joined-append, part-bytes, part-place, part-within, part-onward}
@@ -33,7 +33,7 @@ module _ {A : Arrays} {k : Pairs} {t : Totals} (pre : Stored A × (k ≡ pairTab
   pub placed-in : (n : ℕ) {r : Place} → r ≡ placeAt (decoded A) (t .sizes .w) n → r ≡ placeAt (programIn (t .sizes) (A .heads) (A .starts) (A .bodies)) (t .sizes .w) n
   placed-in n e = e ∙ ap (λ (P : Program). placeAt P (t .sizes .w) n) (sym (program-is A (pre .2)))
 
-  module _ (c : Place) (h : c .number ≤ t .clauses) (b : List ℕ) (f : 3008 ≤ length b) {q : Part} {l : List ℕ}
+  module _ (c : Place) (h : c .number ≤ t .clauses) (b : List ℕ) (f : 3008 ≤ length b) {q : RunPart} {l : List ℕ}
       (u : (q ≡ partIn (programIn (t .sizes) (A .heads) (A .starts) (A .bodies)) (t .sizes .w) (c .number) (length b)) × (l ≡ runBytesIn (programIn (t .sizes) (A .heads) (A .starts) (A .bodies)) (c .number) b)) where
     v : (q ≡ partIn (decoded A) (t .sizes .w) (c .number) (length b)) × (l ≡ runBytesIn (decoded A) (c .number) b)
     v = subst (λ (P : Program). (q ≡ partIn P (t .sizes .w) (c .number) (length b)) × (l ≡ runBytesIn P (c .number) b)) (program-is A (pre .2)) u
@@ -44,7 +44,7 @@ module _ {A : Arrays} {k : Pairs} {t : Totals} (pre : Stored A × (k ≡ pairTab
     same-length : length l ≡ length b
     same-length =
         ap length (v .1) ∙ length-append (joined (runIn (decoded A) (c .number) (length b))) (drop (length (joined (runIn (decoded A) (c .number) (length b)))) b)
-        ∙ whole (length (joined (runIn (decoded A) (c .number) (length b)))) (ap (λ (x : Part). x .bytes) (v .0))
+        ∙ whole (length (joined (runIn (decoded A) (c .number) (length b)))) (ap (λ (x : RunPart). x .bytes) (v .0))
       where
         whole : (x : ℕ) → q .bytes ≡ x → x + length (drop x b) ≡ length b
         whole x e = omega (arith, e, bytes-in, length-drop x b)
@@ -53,7 +53,7 @@ module _ {A : Arrays} {k : Pairs} {t : Totals} (pre : Stored A × (k ≡ pairTab
     within = subst (λ (x : ℕ). q .bytes ≤ x) (sym same-length) bytes-in
 
     number-then : q .place .number ≡ c .number + fitting (length b) (drop (c .number) (linesOf (decoded A)))
-    number-then = ap (λ (x : Part). x .place .number) (v .0)
+    number-then = ap (λ (x : RunPart). x .place .number) (v .0)
 
     -- the lines before the next place are those before c and those of the part
     before-then : fileBefore (decoded A) (q .place .number) ≡ fileBefore (decoded A) (c .number) ++ joined (runIn (decoded A) (c .number) (length b))
@@ -65,7 +65,7 @@ module _ {A : Arrays} {k : Pairs} {t : Totals} (pre : Stored A × (k ≡ pairTab
     module _ (n : ℕ) (s : Stands (decoded A) t c n) (g : length b ≤ 65536) where
       handed-then : n + q .bytes ≡ length (fileBefore (decoded A) (q .place .number))
       handed-then =
-          ap₂ (λ (x y : ℕ). x + y) (s .handed) (ap (λ (x : Part). x .bytes) (v .0))
+          ap₂ (λ (x y : ℕ). x + y) (s .handed) (ap (λ (x : RunPart). x .bytes) (v .0))
           ∙ sym (length-append (fileBefore (decoded A) (c .number)) (joined (runIn (decoded A) (c .number) (length b)))) ∙ sym (ap length before-then)
 
       pub part-put : PartPut (decoded A) t c n b q l
@@ -98,7 +98,7 @@ module _ {A : Arrays} {k : Pairs} {t : Totals} (pre : Stored A × (k ≡ pairTab
       number : c .number ≡ 0
       number = ap (λ (d : Place). d .number) e
 
-  -- at the place behind the last line all of the clause file has been handed over
+  -- at the place after the last line all of the clause file has been handed over
   pub stands-end : {c : Place} {n : ℕ} → Stands (decoded A) t c n → t .clauses < c .number → n ≡ length (clauseFile (decoded A))
   stands-end {c} {n} s h =
       s .handed ∙ ap (λ (x : List (List ℕ)). length (joined x)) (take-all (c .number) (linesOf (decoded A)) (omega (arith, lines-count T, h)))

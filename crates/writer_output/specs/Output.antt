@@ -1,11 +1,11 @@
 -- The writer's output (document 01, "Programs").
---   clauseFile P        all lines of the clause file of P, joined
---   fileBefore P j      those before line j
---   refusedLine v       the line of a refusal, nothing for an accepted text
---   outputOf r          the output for what the reader gave, r
---   outputText t k      the output for the program text of k bytes, of which t is all or the front
---   writerText t        the output for the program text t
---   Stands P t c n      the output stands at place c, before a line or at the end, and n bytes of the clause file have been handed over
+--   clauseFile P          all lines of the clause file of P, joined
+--   fileBefore P j        those before line j
+--   writerRefusalLine v   the line of a refusal, nothing for an accepted text
+--   writerOutputOf r      the output for what the reader gave, r
+--   writerOutput t k      the output for the program text of k bytes, of which t is all or the front
+--   writerText t          the output for the program text t
+--   Stands P t c n        the output stands at place c, before a line or at the end, and n bytes of the clause file have been handed over
 --   PartPut P t c n b q l   where the output stands at c with n bytes, the part q put into the buffer b, which leaves l, brings it to the place after q
 -- Assumes nothing.
 use Prim.Native.Nat.{ℕ, suc, _+_, _*_, _≤_, _<_}
@@ -16,7 +16,7 @@ use Rattle.lists.specs.Lists.{joined}
 use Rattle.meaning.specs.Program.{Program}
 use Rattle.program.specs.Arrays.{decoded}
 use Rattle.refusals.specs.Numbers.{textNumber, textSpot}
-use Rattle.reader.specs.declared.Reading.{Reading}
+use Rattle.reader.specs.declared.ReadResult.{ReadResult}
 use Rattle.reader.specs.declared.ReadVerdict.{ReadVerdict}
 use Rattle.reader.specs.declared.ReadVerdict.the-variants.{Accepted, Refused}
 use Rattle.reader.specs.Verdict.{readOf}
@@ -26,7 +26,7 @@ use Rattle.clause_tables.specs.declared.Totals.{Totals}
 use Rattle.clause_places.specs.declared.Place.{Place}
 use Rattle.clause_places.specs.Places.{placeAt}
 use Rattle.io.specs.Counts.{Counts}
-use Rattle.clause_runs.specs.declared.Part.{Part}
+use Rattle.clause_runs.specs.declared.RunPart.{RunPart}
 use Rattle.clause_runs.specs.Lines.{linesOf, partIn, runBytesIn}
 
 abbrev pub clauseFile : Program → List ℕ
@@ -35,22 +35,22 @@ clauseFile P = joined (linesOf P)
 abbrev pub fileBefore : Program → ℕ → List ℕ
 fileBefore P j = joined (take j (linesOf P))
 
-abbrev pub refusedLine : ReadVerdict → List ℕ
-refusedLine Accepted = []
-refusedLine (Refused r) = refusedText (textNumber r) (textSpot r)
+abbrev pub writerRefusalLine : ReadVerdict → List ℕ
+writerRefusalLine Accepted = []
+writerRefusalLine (Refused r) = refusedText (textNumber r) (textSpot r)
 
-abbrev pub verdictText : ReadVerdict → List ℕ → List ℕ
-verdictText Accepted file = file
-verdictText (Refused r) file = refusedLine (Refused r)
+abbrev pub writerVerdictText : ReadVerdict → List ℕ → List ℕ
+writerVerdictText Accepted file = file
+writerVerdictText (Refused r) file = writerRefusalLine (Refused r)
 
-unfoldable pub outputOf : Reading → List ℕ
-outputOf r = verdictText (r .verdict) (clauseFile (decoded (r .program)))
+unfoldable pub writerOutputOf : ReadResult → List ℕ
+writerOutputOf r = writerVerdictText (r .verdict) (clauseFile (decoded (r .program)))
 
-unfoldable pub outputText : List ℕ → ℕ → List ℕ
-outputText t k = outputOf (countedOf t k)
+unfoldable pub writerOutput : List ℕ → ℕ → List ℕ
+writerOutput t k = writerOutputOf (countedOf t k)
 
 unfoldable pub writerText : List ℕ → List ℕ
-writerText t = outputOf (readOf t)
+writerText t = writerOutputOf (readOf t)
 
 pub record Stands (P : Program) (t : Totals) (c : Place) (n : ℕ) : Type 0 where
   pub placed : c ≡ placeAt P (t .sizes .w) (c .number)
@@ -59,7 +59,7 @@ pub record Stands (P : Program) (t : Totals) (c : Place) (n : ℕ) : Type 0 wher
   -- a part has at most 65,536 bytes and at least one line
   pub bounded : n ≤ 65536 * c .number
 
-pub record PartPut (P : Program) (t : Totals) (c : Place) (n : ℕ) (b : List ℕ) (q : Part) (l : List ℕ) : Type 0 where
+pub record PartPut (P : Program) (t : Totals) (c : Place) (n : ℕ) (b : List ℕ) (q : RunPart) (l : List ℕ) : Type 0 where
   -- the lines from place c on that fit the buffer, at its front
   pub part-is : q ≡ partIn P (t .sizes .w) (c .number) (length b)
   pub bytes-are : l ≡ runBytesIn P (c .number) b

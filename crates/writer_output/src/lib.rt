@@ -2,7 +2,7 @@
 // output in parts; each function that hands over returns how many bytes it handed.
 use clause_places::Place;
 use clause_places::start;
-use clause_runs::Part;
+use clause_runs::RunPart;
 use clause_runs::put_lines;
 use clause_tables::Pairs;
 use clause_tables::Totals;
@@ -23,7 +23,7 @@ ghost use Rattle.program.specs.Arrays.{decoded};
 ghost use Rattle.refusals.specs.Numbers.{textNumber, textSpot};
 ghost use Rattle.clause_tables.specs.Tables.{Stored, pairTable, totalsOf};
 ghost use Rattle.clause_text.specs.Lines.{refusedText};
-ghost use Rattle.writer_output.specs.Output.{clauseFile, refusedLine, outputText, Stands, PartPut};
+ghost use Rattle.writer_output.specs.Output.{clauseFile, writerRefusalLine, writerOutput, Stands, PartPut};
 
 // Hands over the line of a refusal.
 fn say_refusal(x: TextRefusal) -> usize
@@ -37,7 +37,7 @@ fn say_refusal(x: TextRefusal) -> usize
 
 // Hands over the line of a refusal, and nothing for an accepted text.
 fn say_refused(v: ReadVerdict) -> usize
-    ensures { λ r. ⌜ r ≡ length (refusedLine v) ⌝ }
+    ensures { λ r. ⌜ r ≡ length (writerRefusalLine v) ⌝ }
 {
     match v {
         ReadVerdict::Accepted => 0,
@@ -62,7 +62,7 @@ fn first_place(p: Program, k: Pairs, t: Totals) -> Place
 }
 
 // Puts the lines from place c on at the front of the buffer, as many as fit. `said` bytes of the clause file stand before them.
-fn next_part(p: Program, k: Pairs, t: Totals, c: Place, said: usize, out: &mut [u8]) -> Part
+fn next_part(p: Program, k: Pairs, t: Totals, c: Place, said: usize, out: &mut [u8]) -> RunPart
     requires { ⌜ (Stored p) × (k ≡ pairTable (decoded p)) × (t ≡ totalsOf (decoded p)) ⌝ }
     requires { ⌜ (Stands (decoded p) t c said) × (c .number ≤ t .clauses) × (3008 ≤ length (now out)) × (length (now out) ≤ 65536) ⌝ }
     ensures { λ r. ⌜ PartPut (decoded p) t c said (now (out .entry)) r (now (out .exit)) ⌝ }
@@ -101,7 +101,7 @@ fn say_lines(p: Program) -> usize
 
 // Hands over the output for the program text that begins with `front` and has `total` bytes; of a text that is not overlong, `front` is all.
 pub fn say_output(front: &[u8], total: usize) -> usize
-    ensures { λ r. ⌜ r ≡ length (outputText (now (front .entry)) total) ⌝ }
+    ensures { λ r. ⌜ r ≡ length (writerOutput (now (front .entry)) total) ⌝ }
 {
     let r = read_counted(front, total);
     let v = r.verdict;

@@ -1,5 +1,5 @@
 use Rattle.answer_reader.proofs.Turns.{close-goes, close-dies, close-fine, close-short}
-use Rattle.answer_form.specs.Reading.{closeFrom, closeOf}
+use Rattle.answer_form.specs.Pieces.{closeFrom, closeOf}
 use borrow.Author.Needs.{needs}
 use lib.ListN.{length, drop}
 use mathlib.Core.Path.{_≡_, refl}

@@ -1,5 +1,5 @@
 use Rattle.answer_reader.proofs.Turns.{common-goes, common-other, common-over, common-all}
-use Rattle.answer_form.specs.Reading.{common}
+use Rattle.answer_form.specs.Pieces.{common}
 use borrow.Author.Needs.{needs}
 use lib.ListN.{length, drop}
 use mathlib.Core.Path.{_≡_}

@@ -1,5 +1,5 @@
 use Rattle.answer_reader.proofs.Turns.{first-goes, first-here, first-none}
-use Rattle.answer_form.specs.Reading.{firstLine}
+use Rattle.answer_form.specs.Pieces.{firstLine}
 use borrow.Author.Needs.{needs}
 use lib.ListN.{length, drop}
 use mathlib.Core.Path.{_≡_, refl}

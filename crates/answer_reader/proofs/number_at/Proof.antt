@@ -3,7 +3,7 @@ use mathlib.Core.Path.{_≡_, refl}
 use lib.ListN.{length, drop}
 use denote.Ref.{now}
 use borrow.Author.Needs.{needs}
-use Rattle.answer_form.specs.Reading.{cappedValue, behindDigits}
+use Rattle.answer_form.specs.Pieces.{cappedValue, behindDigits}
 use Rattle.answer_reader.specs.Results.{mostNumber}
 use Rattle.answer_reader.proofs.Numbers.{digit-from, number-goes, number-ends, number-stops}
 use Rattle.answer_reader.proofs.number_at.Statement.{statement}

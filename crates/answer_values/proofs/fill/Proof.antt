@@ -1,5 +1,5 @@
 use Rattle.answer_values.proofs.Turns.{fill-none, fill-goes, fill-all}
-use Rattle.answer_values.specs.Assign.{filledWith}
+use Rattle.answer_values.specs.Assign.{overwritten}
 use borrow.Author.Needs.{needs}
 use native.Mathlib.Omega.{arith}
 use lib.ListN.{length, length-set}
@@ -9,7 +9,7 @@ use Rattle.answer_values.proofs.fill.Statement.{statement}
 use Rattle.answer_values.proofs.fill.Tie as tie
 
 abbrev Inv-loop : tie.InvT-loop
-Inv-loop buf₀ n value i₀ buf i = (i ≤ n) × (length buf ≡ length buf₀) × (buf ≡ filledWith i value buf₀)
+Inv-loop buf₀ n value i₀ buf i = (i ≤ n) × (length buf ≡ length buf₀) × (buf ≡ overwritten i value buf₀)
 
 abbrev μ-loop : tie.MeasureT-loop
 μ-loop buf₀ n value i₀ buf i = n - i

@@ -27,8 +27,8 @@ slice-read-if2 c = omega (arith, c .before .before .magnitude .ensures ∙ ap na
 returns-2 : tie.Need-returns-2
 returns-2 c = put-repeated _ _ _ (numberValue (c .before .before .before .before .before .args .x)) _ _ (c .before .before .before .magnitude .ensures ∙ ap natAbs (toZ-ofZ (c .before .before .before .before .before .fits .x))) (c .before .before .if1 .left) (c .if2 .taken)
 
-value-of-requires : tie.Need-value-of-requires
-value-of-requires c κs = search needs
+literal-value-requires : tie.Need-literal-value-requires
+literal-value-requires c κs = search needs
 
 sub-assignment : tie.Need-sub-assignment
 sub-assignment c = omega (arith, c .before .before .before .before .magnitude .ensures ∙ ap natAbs (toZ-ofZ (c .before .before .before .before .before .before .fits .x)), c .before .before .before .before .before .before .pre .0)
@@ -40,7 +40,7 @@ same-length : tie.Need-same-length
 same-length c = search needs
 
 returns-3 : tie.Need-returns-3
-returns-3 c = put-done _ _ _ (numberValue (c .before .before .before .before .before .before .args .x)) _ _ (c .before .before .before .before .magnitude .ensures ∙ ap natAbs (toZ-ofZ (c .before .before .before .before .before .before .fits .x))) (c .before .before .before .if1 .left) (c .before .if2 .left) _ (c .value-of .ensures ∙ ap numberValue (toZ-ofZ (c .before .before .before .before .before .before .fits .x)))
+returns-3 c = put-done _ _ _ (numberValue (c .before .before .before .before .before .before .args .x)) _ _ (c .before .before .before .before .magnitude .ensures ∙ ap natAbs (toZ-ofZ (c .before .before .before .before .before .before .fits .x))) (c .before .before .before .if1 .left) (c .before .if2 .left) _ (c .literal-value .ensures ∙ ap numberValue (toZ-ofZ (c .before .before .before .before .before .before .fits .x)))
 
 pub put-value-spec : {M : Type 1} → statement M
 put-value-spec =
@@ -52,7 +52,7 @@ put-value-spec =
     sub-if2
     slice-read-if2
     returns-2
-    value-of-requires
+    literal-value-requires
     sub-assignment
     slice-write-assignment
     same-length

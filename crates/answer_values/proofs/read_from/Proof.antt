@@ -29,8 +29,8 @@ next-from-requires c κs = search needs
 enum-known-n : tie.Need-enum-known-n Inv-loop μ-loop
 enum-known-n c = search needs
 
-put-next-requires : tie.Need-put-next-requires Inv-loop μ-loop
-put-next-requires c κs = let w = given-took (now (c .before .before .before .before .before .before .before .before .args .answer)) _ _ (c .before .before .before .before .next-from .ensures) _ _ _ (c .before .before .n .given .1) in (took-positive (now (c .before .before .before .before .before .before .before .before .args .answer)) _ _ _ _ w, took-small (now (c .before .before .before .before .before .before .before .before .args .answer)) _ _ _ _ w, omega (arith, c .before .before .before .before .before .loop .inv .0, c .before .before .before .before .before .before .before .before .pre .1))
+put-next-value-requires : tie.Need-put-next-value-requires Inv-loop μ-loop
+put-next-value-requires c κs = let w = given-took (now (c .before .before .before .before .before .before .before .before .args .answer)) _ _ (c .before .before .before .before .next-from .ensures) _ _ _ (c .before .before .n .given .1) in (took-positive (now (c .before .before .before .before .before .before .before .before .args .answer)) _ _ _ _ w, took-small (now (c .before .before .before .before .before .before .before .before .args .answer)) _ _ _ _ w, omega (arith, c .before .before .before .before .before .loop .inv .0, c .before .before .before .before .before .before .before .before .pre .1))
 
 loop-less : tie.Need-loop-less Inv-loop μ-loop
 loop-less c = let w = given-took (now (c .before .before .before .before .before .before .before .before .before .before .before .args .answer)) _ _ (c .before .before .before .before .before .before .before .next-from .ensures) _ _ _ (c .before .before .before .before .before .n .given .1) in omega (arith, w .place .further, w .place .within)
@@ -38,8 +38,8 @@ loop-less c = let w = given-took (now (c .before .before .before .before .before
 loop-again : tie.Need-loop-again Inv-loop μ-loop
 loop-again c = let w = given-took (now (c .before .before .before .before .before .before .before .before .before .before .before .args .answer)) _ _ (c .before .before .before .before .before .before .before .next-from .ensures) _ _ _ (c .before .before .before .before .before .n .given .1) in
     let m = model-goes (now (c .before .before .before .before .before .before .before .before .before .before .before .args .answer)) (c .before .before .before .before .before .before .before .before .before .before .before .args .from) _ (c .before .before .before .before .before .before .before .before .loop .inv .1) _ (c .before .before .before .before .before .before .before .next-from .ensures) _ _ _ (c .before .before .before .before .before .n .given .1) in
-    let g = pass-goes (now (c .before .before .before .before .before .before .before .before .before .before .before .args .answer)) _ _ _ _ w (c .before .before .before .before .before .before .before .before .before .before .before .args .v) (c .before .before .before .before .before .before .before .before .before .before .before .pre .2) (c .before .before .before .before .before .before .before .before .loop .assignment) _ _ (c .before .before .before .before .before .before .before .before .loop .o) (c .before .before .put-next .ensures) in
-    (c .before .before .put-next .kept .1 .1 .1 .1 .0 ∙ c .before .before .before .before .before .before .before .before .loop .inv .0, m .1, m .2 ∙ c .before .before .before .before .before .before .before .before .loop .inv .2, g .0 ∙ c .before .before .before .before .before .before .before .before .loop .inv .3, g .1 ∙ c .before .before .before .before .before .before .before .before .loop .inv .4)
+    let g = pass-goes (now (c .before .before .before .before .before .before .before .before .before .before .before .args .answer)) _ _ _ _ w (c .before .before .before .before .before .before .before .before .before .before .before .args .v) (c .before .before .before .before .before .before .before .before .before .before .before .pre .2) (c .before .before .before .before .before .before .before .before .loop .assignment) _ _ (c .before .before .before .before .before .before .before .before .loop .o) (c .before .before .put-next-value .ensures) in
+    (c .before .before .put-next-value .kept .1 .1 .1 .1 .0 ∙ c .before .before .before .before .before .before .before .before .loop .inv .0, m .1, m .2 ∙ c .before .before .before .before .before .before .before .before .loop .inv .2, g .0 ∙ c .before .before .before .before .before .before .before .before .loop .inv .3, g .1 ∙ c .before .before .before .before .before .before .before .before .loop .inv .4)
 
 enum-known-n-2 : tie.Need-enum-known-n-2 Inv-loop μ-loop
 enum-known-n-2 c = search needs
@@ -79,7 +79,7 @@ read-from-spec =
     loop-holds
     next-from-requires
     enum-known-n
-    put-next-requires
+    put-next-value-requires
     loop-less
     loop-again
     enum-known-n-2

@@ -16,14 +16,14 @@ judge-requires c κs = search needs
 enum-known-o : tie.Need-enum-known-o
 enum-known-o c = search needs
 
-zeroed-requires : tie.Need-zeroed-requires
-zeroed-requires c κs = search needs
+refuse-zeroed-requires : tie.Need-refuse-zeroed-requires
+refuse-zeroed-requires c κs = search needs
 
 enum-known-o-2 : tie.Need-enum-known-o-2
 enum-known-o-2 c = search needs
 
-zeroed-requires-2 : tie.Need-zeroed-requires-2
-zeroed-requires-2 c κs = search needs
+refuse-zeroed-requires-2 : tie.Need-refuse-zeroed-requires-2
+refuse-zeroed-requires-2 c κs = search needs
 
 same-length : tie.Need-same-length
 same-length c = search needs
@@ -38,13 +38,13 @@ same-length-3 : tie.Need-same-length-3
 same-length-3 c = search needs
 
 returns-2 : tie.Need-returns-2
-returns-2 c = assigned-stray (c .before .before .before .before .before .before .before .before .before .before .before .before .before .before .before .before .pre .0) (c .before .before .before .before .before .before .before .before .before .before .before .before .before .before .before .before .args .x .assumed) (now (c .before .before .before .before .before .before .before .before .before .before .before .before .before .before .before .before .args .values)) (now (c .before .before .before .before .before .before .before .before .before .before .before .before .before .before .before .before .args .assignment)) (now (c .before .before .before .before .before .before .before .before .before .before .before .before .before .before .before .before .args .levels)) (c .before .before .before .before .before .o .given .1) (c .before .before .zeroed .ensures)
+returns-2 c = assigned-stray (c .before .before .before .before .before .before .before .before .before .before .before .before .before .before .before .before .pre .0) (c .before .before .before .before .before .before .before .before .before .before .before .before .before .before .before .before .args .x .assumed) (now (c .before .before .before .before .before .before .before .before .before .before .before .before .before .before .before .before .args .values)) (now (c .before .before .before .before .before .before .before .before .before .before .before .before .before .before .before .before .args .assignment)) (now (c .before .before .before .before .before .before .before .before .before .before .before .before .before .before .before .before .args .levels)) (c .before .before .before .before .before .o .given .1) (c .before .before .refuse-zeroed .ensures)
 
 same-length-4 : tie.Need-same-length-4
 same-length-4 c = search needs
 
 returns-3 : tie.Need-returns-3
-returns-3 c = assigned-repeated (c .before .before .before .before .before .before .before .before .before .before .before .before .before .before .before .before .pre .0) (c .before .before .before .before .before .before .before .before .before .before .before .before .before .before .before .before .args .x .assumed) (now (c .before .before .before .before .before .before .before .before .before .before .before .before .before .before .before .before .args .values)) (now (c .before .before .before .before .before .before .before .before .before .before .before .before .before .before .before .before .args .assignment)) (now (c .before .before .before .before .before .before .before .before .before .before .before .before .before .before .before .before .args .levels)) (c .before .before .before .before .before .o2 .given .1) (c .before .before .zeroed2 .ensures)
+returns-3 c = assigned-repeated (c .before .before .before .before .before .before .before .before .before .before .before .before .before .before .before .before .pre .0) (c .before .before .before .before .before .before .before .before .before .before .before .before .before .before .before .before .args .x .assumed) (now (c .before .before .before .before .before .before .before .before .before .before .before .before .before .before .before .before .args .values)) (now (c .before .before .before .before .before .before .before .before .before .before .before .before .before .before .before .before .args .assignment)) (now (c .before .before .before .before .before .before .before .before .before .before .before .before .before .before .before .before .args .levels)) (c .before .before .before .before .before .o2 .given .1) (c .before .before .refuse-zeroed2 .ensures)
 
 pub assigned-spec : {M : Type 1} → statement M
 assigned-spec =
@@ -54,9 +54,9 @@ assigned-spec =
     copy-completed-requires
     judge-requires
     enum-known-o
-    zeroed-requires
+    refuse-zeroed-requires
     enum-known-o-2
-    zeroed-requires-2
+    refuse-zeroed-requires-2
     same-length
     same-length-2
     returns

@@ -7,14 +7,14 @@ use Rattle.call_check.proofs.judge.Tie as tie
 first-false-requires : tie.Need-first-false-requires
 first-false-requires c κs = search needs
 
-zeroed-requires : tie.Need-zeroed-requires
-zeroed-requires c κs = search needs
+refuse-zeroed-requires : tie.Need-refuse-zeroed-requires
+refuse-zeroed-requires c κs = search needs
 
 same-length : tie.Need-same-length
 same-length c = search needs
 
 returns : tie.Need-returns
-returns c = judged-false (c .before .before .before .before .before .before .before .before .before .before .before .before .before .before .before .pre .0) (now (c .before .before .before .before .before .before .before .before .before .before .before .before .before .before .before .args .assignment)) (now (c .before .before .before .before .before .before .before .before .before .before .before .before .before .before .before .args .levels)) (c .before .before .before .before .before .before .before .before .before .before .before .before .before .before .before .args .assumed) (c .before .before .before .before .before .first-false .ensures) (c .before .before .before .before .if1 .taken) (c .before .before .zeroed .ensures)
+returns c = judged-false (c .before .before .before .before .before .before .before .before .before .before .before .before .before .before .before .pre .0) (now (c .before .before .before .before .before .before .before .before .before .before .before .before .before .before .before .args .assignment)) (now (c .before .before .before .before .before .before .before .before .before .before .before .before .before .before .before .args .levels)) (c .before .before .before .before .before .before .before .before .before .before .before .before .before .before .before .args .assumed) (c .before .before .before .before .before .first-false .ensures) (c .before .before .before .before .if1 .taken) (c .before .before .refuse-zeroed .ensures)
 
 put-counters-requires : tie.Need-put-counters-requires
 put-counters-requires c κs = counters-asks (c .before .before .before .before .before .before .before .before .before .before .before .before .before .pre .0) (c .before .before .before .before .before .before .before .before .before .before .before .before .before .pre .1) (c .before .before .before .before .before .before .before .before .before .before .before .before .before .pre .2)
@@ -39,7 +39,7 @@ judge-spec =
     tie.close
     (tie.spec
     first-false-requires
-    zeroed-requires
+    refuse-zeroed-requires
     same-length
     returns
     put-counters-requires

@@ -27,14 +27,14 @@ add-level-var c = search needs
 level-var-requires : tie.Need-level-var-requires Inv-loop μ-loop
 level-var-requires c κs = (c .before .before .before .before .pre .0, c .before .before .before .before .pre .1, omega (arith, c .before .before .before .before .pre .2, c .before .before .before .before .pre .0 .atoms), omega (arith, c .if1 .taken, c .before .before .before .before .pre .0 .bits))
 
-cast-part : tie.Need-cast-part Inv-loop μ-loop
-cast-part c = search needs
+cast-bit-weight : tie.Need-cast-bit-weight Inv-loop μ-loop
+cast-bit-weight c = search needs
 
-part-requires : tie.Need-part-requires Inv-loop μ-loop
-part-requires c κs = (subst (λ (k : ℕ). 0 < k) (sym (c .before .level-var .ensures)) (level-some (sizesOf (c .before .before .before .before .before .before .args .s)) (c .before .before .before .before .before .before .args .a .0) (c .before .before .before .before .loop .i)), subst (λ (k : ℕ). k ≤ length (now (c .before .before .before .before .before .before .args .assignment))) (sym (c .before .level-var .ensures)) (level-within (sizesOf (c .before .before .before .before .before .before .args .s)) (c .before .before .before .before .before .before .args .a .0) (c .before .before .before .before .loop .i) _ (c .before .before .before .before .before .before .pre .1) (c .before .before .before .before .before .before .pre .2) (c .before .before .if1 .taken) (c .before .before .before .before .before .before .pre .3)))
+bit-weight-requires : tie.Need-bit-weight-requires Inv-loop μ-loop
+bit-weight-requires c κs = (subst (λ (k : ℕ). 0 < k) (sym (c .before .level-var .ensures)) (level-some (sizesOf (c .before .before .before .before .before .before .args .s)) (c .before .before .before .before .before .before .args .a .0) (c .before .before .before .before .loop .i)), subst (λ (k : ℕ). k ≤ length (now (c .before .before .before .before .before .before .args .assignment))) (sym (c .before .level-var .ensures)) (level-within (sizesOf (c .before .before .before .before .before .before .args .s)) (c .before .before .before .before .before .before .args .a .0) (c .before .before .before .before .loop .i) _ (c .before .before .before .before .before .before .pre .1) (c .before .before .before .before .before .before .pre .2) (c .before .before .if1 .taken) (c .before .before .before .before .before .before .pre .3)))
 
 add-x : tie.Need-add-x Inv-loop μ-loop
-add-x c = omega (arith, counted-fits (c .before .before .before .before .before .loop .inv .1) (omega (arith, c .before .before .before .if1 .taken, c .before .before .before .before .before .before .before .pre .0 .bits)) (c .part .ensures ∙ ap (λ (k : ℕ). cond (valueIn (now (c .before .before .before .before .before .before .before .args .assignment)) k) (c .before .before .before .before .before .loop .power) 0) (c .before .before .level-var .ensures)))
+add-x c = omega (arith, counted-fits (c .before .before .before .before .before .loop .inv .1) (omega (arith, c .before .before .before .if1 .taken, c .before .before .before .before .before .before .before .pre .0 .bits)) (c .bit-weight .ensures ∙ ap (λ (k : ℕ). cond (valueIn (now (c .before .before .before .before .before .before .before .args .assignment)) k) (c .before .before .before .before .before .loop .power) 0) (c .before .before .level-var .ensures)))
 
 mul-power : tie.Need-mul-power Inv-loop μ-loop
 mul-power c = omega (arith, power-small (c .before .before .before .before .before .loop .inv .1) (omega (arith, c .before .before .before .if1 .taken, c .before .before .before .before .before .before .before .pre .0 .bits)))
@@ -46,7 +46,7 @@ loop-less : tie.Need-loop-less Inv-loop μ-loop
 loop-less c = search needs
 
 loop-again : tie.Need-loop-again Inv-loop μ-loop
-loop-again c = (omega (arith, c .before .before .before .if1 .taken), counted-more (c .before .before .before .before .before .loop .inv .1) (c .part .ensures ∙ ap (λ (k : ℕ). cond (valueIn (now (c .before .before .before .before .before .before .before .args .assignment)) k) (c .before .before .before .before .before .loop .power) 0) (c .before .before .level-var .ensures)))
+loop-again c = (omega (arith, c .before .before .before .if1 .taken), counted-more (c .before .before .before .before .before .loop .inv .1) (c .bit-weight .ensures ∙ ap (λ (k : ℕ). cond (valueIn (now (c .before .before .before .before .before .before .before .args .assignment)) k) (c .before .before .before .before .before .loop .power) 0) (c .before .before .level-var .ensures)))
 
 returns : tie.Need-returns Inv-loop μ-loop
 returns c = counted-all (c .before .before .loop .inv .1) (c .before .before .before .before .args .s .w) (c .before .before .loop .inv .0) (c .if1 .left)
@@ -60,8 +60,8 @@ counter-of-spec =
     loop-holds
     add-level-var
     level-var-requires
-    cast-part
-    part-requires
+    cast-bit-weight
+    bit-weight-requires
     add-x
     mul-power
     add-i

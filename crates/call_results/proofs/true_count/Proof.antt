@@ -18,20 +18,20 @@ abbrev μ-loop : tie.MeasureT-loop
 loop-holds : tie.Need-loop-holds Inv-loop μ-loop
 loop-holds c = (omega arith, omega arith, true-none _)
 
-cast-part : tie.Need-cast-part Inv-loop μ-loop
-cast-part c = search needs
+cast-bit-weight : tie.Need-cast-bit-weight Inv-loop μ-loop
+cast-bit-weight c = search needs
 
-add-part : tie.Need-add-part Inv-loop μ-loop
-add-part c = search needs
+add-bit-weight : tie.Need-add-bit-weight Inv-loop μ-loop
+add-bit-weight c = search needs
 
-part-requires : tie.Need-part-requires Inv-loop μ-loop
-part-requires c κs = search needs
+bit-weight-requires : tie.Need-bit-weight-requires Inv-loop μ-loop
+bit-weight-requires c κs = search needs
 
 cast-k : tie.Need-cast-k Inv-loop μ-loop
 cast-k c = search needs
 
 add-k : tie.Need-add-k Inv-loop μ-loop
-add-k c = omega (arith, c .before .before .loop .inv .0, c .before .before .loop .inv .1, c .before .before .before .before .fits .n, one-at-most (valueIn (now (c .before .before .before .before .args .assignment)) (c .before .before .loop .a + 1)) (c .part .ensures))
+add-k c = omega (arith, c .before .before .loop .inv .0, c .before .before .loop .inv .1, c .before .before .before .before .fits .n, one-at-most (valueIn (now (c .before .before .before .before .args .assignment)) (c .before .before .loop .a + 1)) (c .bit-weight .ensures))
 
 add-a : tie.Need-add-a Inv-loop μ-loop
 add-a c = search needs
@@ -40,7 +40,7 @@ loop-less : tie.Need-loop-less Inv-loop μ-loop
 loop-less c = search needs
 
 loop-again : tie.Need-loop-again Inv-loop μ-loop
-loop-again c = (omega (arith, c .before .loop-test .taken), omega (arith, c .before .before .loop .inv .1, one-at-most (valueIn (now (c .before .before .before .before .args .assignment)) (c .before .before .loop .a + 1)) (c .part .ensures)), true-more (now (c .before .before .before .before .args .assignment)) (c .before .before .loop .a) (c .before .before .loop .inv .2) (c .part .ensures))
+loop-again c = (omega (arith, c .before .loop-test .taken), omega (arith, c .before .before .loop .inv .1, one-at-most (valueIn (now (c .before .before .before .before .args .assignment)) (c .before .before .loop .a + 1)) (c .bit-weight .ensures)), true-more (now (c .before .before .before .before .args .assignment)) (c .before .before .loop .a) (c .before .before .loop .inv .2) (c .bit-weight .ensures))
 
 returns : tie.Need-returns Inv-loop μ-loop
 returns c = true-all (now (c .before .before .before .args .assignment)) (c .before .loop .a) (c .before .before .before .args .n) (c .before .loop .inv .2) (c .before .loop .inv .0) (c .loop-test .left)
@@ -52,9 +52,9 @@ true-count-spec =
     Inv-loop
     μ-loop
     loop-holds
-    cast-part
-    add-part
-    part-requires
+    cast-bit-weight
+    add-bit-weight
+    bit-weight-requires
     cast-k
     add-k
     add-a

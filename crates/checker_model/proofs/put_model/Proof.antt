@@ -1,7 +1,7 @@
 use Rattle.checker_model.proofs.Parts.{model-whole, model-levels, model-middle, model-atoms, model-word}
-use Rattle.checker_model.specs.Model.{trueAtoms, numbersText, modelText}
+use Rattle.checker_model.specs.Model.{trueAtomList, numbersText, modelText}
 use Rattle.digits.proofs.Begins.{begins-word, begins-more, begins-room, begins-tail, begins-sum, begins-whole}
-use Rattle.call_results.specs.Results.{levelIn}
+use Rattle.call_results.specs.Results.{levelByte}
 use Rattle.lists.specs.Ascii.{ascii}
 use denote.Ref.{now}
 use mathlib.Core.List.{map}
@@ -17,32 +17,32 @@ put-word-requires : tie.Need-put-word-requires
 unfolding ascii
 put-word-requires c κs = (model-word (c .before .before .before .before .before .args .n) (now (c .before .before .before .before .before .args .assignment)) (now (c .before .before .before .before .before .args .levels)) (c .before .before .before .before .before .pre .0) (λ i. c .before .before .before .shared-slice-known2 .given i .fits) (c .before .before .before .before .before .pre .3))
 
-sub-put-atoms : tie.Need-sub-put-atoms
+sub-put-atoms-text : tie.Need-sub-put-atoms-text
 unfolding ascii
-sub-put-atoms c =
+sub-put-atoms-text c =
     let p1 = begins-word (ascii "(model (") (c .before .before .put-word .kept .1 .0) (c .before .before .put-word .ensures) in
-    begins-room p1 (numbersText (trueAtoms (c .before .before .before .before .before .before .before .before .args .n) (now (c .before .before .before .before .before .before .before .before .args .assignment)))) (model-atoms (c .before .before .before .before .before .before .before .before .args .n) (now (c .before .before .before .before .before .before .before .before .args .assignment)) (now (c .before .before .before .before .before .before .before .before .args .levels)) (c .before .before .before .before .before .before .before .before .pre .0) (λ i. c .before .before .before .before .before .before .shared-slice-known2 .given i .fits) (c .before .before .before .before .before .before .before .before .pre .3))
+    begins-room p1 (numbersText (trueAtomList (c .before .before .before .before .before .before .before .before .args .n) (now (c .before .before .before .before .before .before .before .before .args .assignment)))) (model-atoms (c .before .before .before .before .before .before .before .before .args .n) (now (c .before .before .before .before .before .before .before .before .args .assignment)) (now (c .before .before .before .before .before .before .before .before .args .levels)) (c .before .before .before .before .before .before .before .before .pre .0) (λ i. c .before .before .before .before .before .before .shared-slice-known2 .given i .fits) (c .before .before .before .before .before .before .before .before .pre .3))
 
-part-put-atoms-start : tie.Need-part-put-atoms-start
+part-put-atoms-text-start : tie.Need-part-put-atoms-text-start
 unfolding ascii
-part-put-atoms-start c =
+part-put-atoms-text-start c =
     let p1 = begins-word (ascii "(model (") (c .before .before .put-word .kept .1 .0) (c .before .before .put-word .ensures) in
-    begins-room p1 (numbersText (trueAtoms (c .before .before .before .before .before .before .before .before .args .n) (now (c .before .before .before .before .before .before .before .before .args .assignment)))) (model-atoms (c .before .before .before .before .before .before .before .before .args .n) (now (c .before .before .before .before .before .before .before .before .args .assignment)) (now (c .before .before .before .before .before .before .before .before .args .levels)) (c .before .before .before .before .before .before .before .before .pre .0) (λ i. c .before .before .before .before .before .before .shared-slice-known2 .given i .fits) (c .before .before .before .before .before .before .before .before .pre .3))
+    begins-room p1 (numbersText (trueAtomList (c .before .before .before .before .before .before .before .before .args .n) (now (c .before .before .before .before .before .before .before .before .args .assignment)))) (model-atoms (c .before .before .before .before .before .before .before .before .args .n) (now (c .before .before .before .before .before .before .before .before .args .assignment)) (now (c .before .before .before .before .before .before .before .before .args .levels)) (c .before .before .before .before .before .before .before .before .pre .0) (λ i. c .before .before .before .before .before .before .shared-slice-known2 .given i .fits) (c .before .before .before .before .before .before .before .before .pre .3))
 
-part-put-atoms-end : tie.Need-part-put-atoms-end
-part-put-atoms-end c = search needs
+part-put-atoms-text-end : tie.Need-part-put-atoms-text-end
+part-put-atoms-text-end c = search needs
 
-put-atoms-requires : tie.Need-put-atoms-requires
+put-atoms-text-requires : tie.Need-put-atoms-text-requires
 unfolding ascii
-put-atoms-requires c κs =
+put-atoms-text-requires c κs =
     let p1 = begins-word (ascii "(model (") (c .before .before .before .put-word .kept .1 .0) (c .before .before .before .put-word .ensures) in
-    (c .before .before .before .before .before .before .before .before .before .pre .1, begins-tail p1 (numbersText (trueAtoms (c .before .before .before .before .before .before .before .before .before .args .n) (now (c .before .before .before .before .before .before .before .before .before .args .assignment)))) (model-atoms (c .before .before .before .before .before .before .before .before .before .args .n) (now (c .before .before .before .before .before .before .before .before .before .args .assignment)) (now (c .before .before .before .before .before .before .before .before .before .args .levels)) (c .before .before .before .before .before .before .before .before .before .pre .0) (λ i. c .before .before .before .before .before .before .before .shared-slice-known2 .given i .fits) (c .before .before .before .before .before .before .before .before .before .pre .3)))
+    (c .before .before .before .before .before .before .before .before .before .pre .1, begins-tail p1 (numbersText (trueAtomList (c .before .before .before .before .before .before .before .before .before .args .n) (now (c .before .before .before .before .before .before .before .before .before .args .assignment)))) (model-atoms (c .before .before .before .before .before .before .before .before .before .args .n) (now (c .before .before .before .before .before .before .before .before .before .args .assignment)) (now (c .before .before .before .before .before .before .before .before .before .args .levels)) (c .before .before .before .before .before .before .before .before .before .pre .0) (λ i. c .before .before .before .before .before .before .before .shared-slice-known2 .given i .fits) (c .before .before .before .before .before .before .before .before .before .pre .3)))
 
 add-to : tie.Need-add-to
 unfolding ascii
 add-to c =
     let p1 = begins-word (ascii "(model (") (c .before .before .before .before .before .before .put-word .kept .1 .0) (c .before .before .before .before .before .before .put-word .ensures) in
-    omega (arith, begins-sum p1 (numbersText (trueAtoms (c .before .before .before .before .before .before .before .before .before .before .before .before .args .n) (now (c .before .before .before .before .before .before .before .before .before .before .before .before .args .assignment)))) (c .before .before .put-atoms .ensures .0) (model-atoms (c .before .before .before .before .before .before .before .before .before .before .before .before .args .n) (now (c .before .before .before .before .before .before .before .before .before .before .before .before .args .assignment)) (now (c .before .before .before .before .before .before .before .before .before .before .before .before .args .levels)) (c .before .before .before .before .before .before .before .before .before .before .before .before .pre .0) (λ i. c .before .before .before .before .before .before .before .before .before .before .shared-slice-known2 .given i .fits) {m = 1100} (omega arith)))
+    omega (arith, begins-sum p1 (numbersText (trueAtomList (c .before .before .before .before .before .before .before .before .before .before .before .before .args .n) (now (c .before .before .before .before .before .before .before .before .before .before .before .before .args .assignment)))) (c .before .before .put-atoms-text .ensures .0) (model-atoms (c .before .before .before .before .before .before .before .before .before .before .before .before .args .n) (now (c .before .before .before .before .before .before .before .before .before .before .before .before .args .assignment)) (now (c .before .before .before .before .before .before .before .before .before .before .before .before .args .levels)) (c .before .before .before .before .before .before .before .before .before .before .before .before .pre .0) (λ i. c .before .before .before .before .before .before .before .before .before .before .shared-slice-known2 .given i .fits) {m = 1100} (omega arith)))
 
 slice-aggregate-put-word-2 : tie.Need-slice-aggregate-put-word-2
 slice-aggregate-put-word-2 c = search needs
@@ -51,14 +51,14 @@ sub-put-word : tie.Need-sub-put-word
 unfolding ascii
 sub-put-word c =
     let p1 = begins-word (ascii "(model (") (c .before .before .before .before .before .before .before .put-word .kept .1 .0) (c .before .before .before .before .before .before .before .put-word .ensures) in
-    let p2 = begins-more p1 (numbersText (trueAtoms (c .before .before .before .before .before .before .before .before .before .before .before .before .before .args .n) (now (c .before .before .before .before .before .before .before .before .before .before .before .before .before .args .assignment)))) (c .before .before .before .put-atoms .kept .1 .1 .0) (c .before .before .before .put-atoms .ensures) in
+    let p2 = begins-more p1 (numbersText (trueAtomList (c .before .before .before .before .before .before .before .before .before .before .before .before .before .args .n) (now (c .before .before .before .before .before .before .before .before .before .before .before .before .before .args .assignment)))) (c .before .before .before .put-atoms-text .kept .1 .1 .0) (c .before .before .before .put-atoms-text .ensures) in
     begins-room p2 (ascii ") (") (model-middle (c .before .before .before .before .before .before .before .before .before .before .before .before .before .args .n) (now (c .before .before .before .before .before .before .before .before .before .before .before .before .before .args .assignment)) (now (c .before .before .before .before .before .before .before .before .before .before .before .before .before .args .levels)) (c .before .before .before .before .before .before .before .before .before .before .before .before .before .pre .0) (λ i. c .before .before .before .before .before .before .before .before .before .before .before .shared-slice-known2 .given i .fits) (c .before .before .before .before .before .before .before .before .before .before .before .before .before .pre .3))
 
 part-put-word-start : tie.Need-part-put-word-start
 unfolding ascii
 part-put-word-start c =
     let p1 = begins-word (ascii "(model (") (c .before .before .before .before .before .before .before .put-word .kept .1 .0) (c .before .before .before .before .before .before .before .put-word .ensures) in
-    let p2 = begins-more p1 (numbersText (trueAtoms (c .before .before .before .before .before .before .before .before .before .before .before .before .before .args .n) (now (c .before .before .before .before .before .before .before .before .before .before .before .before .before .args .assignment)))) (c .before .before .before .put-atoms .kept .1 .1 .0) (c .before .before .before .put-atoms .ensures) in
+    let p2 = begins-more p1 (numbersText (trueAtomList (c .before .before .before .before .before .before .before .before .before .before .before .before .before .args .n) (now (c .before .before .before .before .before .before .before .before .before .before .before .before .before .args .assignment)))) (c .before .before .before .put-atoms-text .kept .1 .1 .0) (c .before .before .before .put-atoms-text .ensures) in
     begins-room p2 (ascii ") (") (model-middle (c .before .before .before .before .before .before .before .before .before .before .before .before .before .args .n) (now (c .before .before .before .before .before .before .before .before .before .before .before .before .before .args .assignment)) (now (c .before .before .before .before .before .before .before .before .before .before .before .before .before .args .levels)) (c .before .before .before .before .before .before .before .before .before .before .before .before .before .pre .0) (λ i. c .before .before .before .before .before .before .before .before .before .before .before .shared-slice-known2 .given i .fits) (c .before .before .before .before .before .before .before .before .before .before .before .before .before .pre .3))
 
 part-put-word-end : tie.Need-part-put-word-end
@@ -68,50 +68,50 @@ put-word-requires-2 : tie.Need-put-word-requires-2
 unfolding ascii
 put-word-requires-2 c κs =
     let p1 = begins-word (ascii "(model (") (c .before .before .before .before .before .before .before .before .put-word .kept .1 .0) (c .before .before .before .before .before .before .before .before .put-word .ensures) in
-    let p2 = begins-more p1 (numbersText (trueAtoms (c .before .before .before .before .before .before .before .before .before .before .before .before .before .before .args .n) (now (c .before .before .before .before .before .before .before .before .before .before .before .before .before .before .args .assignment)))) (c .before .before .before .before .put-atoms .kept .1 .1 .0) (c .before .before .before .before .put-atoms .ensures) in
+    let p2 = begins-more p1 (numbersText (trueAtomList (c .before .before .before .before .before .before .before .before .before .before .before .before .before .before .args .n) (now (c .before .before .before .before .before .before .before .before .before .before .before .before .before .before .args .assignment)))) (c .before .before .before .before .put-atoms-text .kept .1 .1 .0) (c .before .before .before .before .put-atoms-text .ensures) in
     begins-tail p2 (ascii ") (") (model-middle (c .before .before .before .before .before .before .before .before .before .before .before .before .before .before .args .n) (now (c .before .before .before .before .before .before .before .before .before .before .before .before .before .before .args .assignment)) (now (c .before .before .before .before .before .before .before .before .before .before .before .before .before .before .args .levels)) (c .before .before .before .before .before .before .before .before .before .before .before .before .before .before .pre .0) (λ i. c .before .before .before .before .before .before .before .before .before .before .before .before .shared-slice-known2 .given i .fits) (c .before .before .before .before .before .before .before .before .before .before .before .before .before .before .pre .3))
 
 add-to-2 : tie.Need-add-to-2
 unfolding ascii
 add-to-2 c =
     let p1 = begins-word (ascii "(model (") (c .before .before .before .before .before .before .before .before .before .before .before .put-word .kept .1 .0) (c .before .before .before .before .before .before .before .before .before .before .before .put-word .ensures) in
-    let p2 = begins-more p1 (numbersText (trueAtoms (c .before .before .before .before .before .before .before .before .before .before .before .before .before .before .before .before .before .args .n) (now (c .before .before .before .before .before .before .before .before .before .before .before .before .before .before .before .before .before .args .assignment)))) (c .before .before .before .before .before .before .before .put-atoms .kept .1 .1 .0) (c .before .before .before .before .before .before .before .put-atoms .ensures) in
+    let p2 = begins-more p1 (numbersText (trueAtomList (c .before .before .before .before .before .before .before .before .before .before .before .before .before .before .before .before .before .args .n) (now (c .before .before .before .before .before .before .before .before .before .before .before .before .before .before .before .before .before .args .assignment)))) (c .before .before .before .before .before .before .before .put-atoms-text .kept .1 .1 .0) (c .before .before .before .before .before .before .before .put-atoms-text .ensures) in
     omega (arith, begins-sum p2 (ascii ") (") (c .before .before .put-word2 .ensures .0) (model-middle (c .before .before .before .before .before .before .before .before .before .before .before .before .before .before .before .before .before .args .n) (now (c .before .before .before .before .before .before .before .before .before .before .before .before .before .before .before .before .before .args .assignment)) (now (c .before .before .before .before .before .before .before .before .before .before .before .before .before .before .before .before .before .args .levels)) (c .before .before .before .before .before .before .before .before .before .before .before .before .before .before .before .before .before .pre .0) (λ i. c .before .before .before .before .before .before .before .before .before .before .before .before .before .before .before .shared-slice-known2 .given i .fits) {m = 1100} (omega arith)))
 
-sub-put-levels : tie.Need-sub-put-levels
+sub-put-levels-text : tie.Need-sub-put-levels-text
 unfolding ascii
-sub-put-levels c =
+sub-put-levels-text c =
     let p1 = begins-word (ascii "(model (") (c .before .before .before .before .before .before .before .before .before .before .before .put-word .kept .1 .0) (c .before .before .before .before .before .before .before .before .before .before .before .put-word .ensures) in
-    let p2 = begins-more p1 (numbersText (trueAtoms (c .before .before .before .before .before .before .before .before .before .before .before .before .before .before .before .before .before .args .n) (now (c .before .before .before .before .before .before .before .before .before .before .before .before .before .before .before .before .before .args .assignment)))) (c .before .before .before .before .before .before .before .put-atoms .kept .1 .1 .0) (c .before .before .before .before .before .before .before .put-atoms .ensures) in
+    let p2 = begins-more p1 (numbersText (trueAtomList (c .before .before .before .before .before .before .before .before .before .before .before .before .before .before .before .before .before .args .n) (now (c .before .before .before .before .before .before .before .before .before .before .before .before .before .before .before .before .before .args .assignment)))) (c .before .before .before .before .before .before .before .put-atoms-text .kept .1 .1 .0) (c .before .before .before .before .before .before .before .put-atoms-text .ensures) in
     let p3 = begins-more p2 (ascii ") (") (c .before .before .put-word2 .kept .1 .0) (c .before .before .put-word2 .ensures) in
-    begins-room p3 (numbersText (map (levelIn (now (c .before .before .before .before .before .before .before .before .before .before .before .before .before .before .before .before .before .args .levels))) (trueAtoms (c .before .before .before .before .before .before .before .before .before .before .before .before .before .before .before .before .before .args .n) (now (c .before .before .before .before .before .before .before .before .before .before .before .before .before .before .before .before .before .args .assignment))))) (model-levels (c .before .before .before .before .before .before .before .before .before .before .before .before .before .before .before .before .before .args .n) (now (c .before .before .before .before .before .before .before .before .before .before .before .before .before .before .before .before .before .args .assignment)) (now (c .before .before .before .before .before .before .before .before .before .before .before .before .before .before .before .before .before .args .levels)) (c .before .before .before .before .before .before .before .before .before .before .before .before .before .before .before .before .before .pre .0) (λ i. c .before .before .before .before .before .before .before .before .before .before .before .before .before .before .before .shared-slice-known2 .given i .fits) (c .before .before .before .before .before .before .before .before .before .before .before .before .before .before .before .before .before .pre .3))
+    begins-room p3 (numbersText (map (levelByte (now (c .before .before .before .before .before .before .before .before .before .before .before .before .before .before .before .before .before .args .levels))) (trueAtomList (c .before .before .before .before .before .before .before .before .before .before .before .before .before .before .before .before .before .args .n) (now (c .before .before .before .before .before .before .before .before .before .before .before .before .before .before .before .before .before .args .assignment))))) (model-levels (c .before .before .before .before .before .before .before .before .before .before .before .before .before .before .before .before .before .args .n) (now (c .before .before .before .before .before .before .before .before .before .before .before .before .before .before .before .before .before .args .assignment)) (now (c .before .before .before .before .before .before .before .before .before .before .before .before .before .before .before .before .before .args .levels)) (c .before .before .before .before .before .before .before .before .before .before .before .before .before .before .before .before .before .pre .0) (λ i. c .before .before .before .before .before .before .before .before .before .before .before .before .before .before .before .shared-slice-known2 .given i .fits) (c .before .before .before .before .before .before .before .before .before .before .before .before .before .before .before .before .before .pre .3))
 
-part-put-levels-start : tie.Need-part-put-levels-start
+part-put-levels-text-start : tie.Need-part-put-levels-text-start
 unfolding ascii
-part-put-levels-start c =
+part-put-levels-text-start c =
     let p1 = begins-word (ascii "(model (") (c .before .before .before .before .before .before .before .before .before .before .before .put-word .kept .1 .0) (c .before .before .before .before .before .before .before .before .before .before .before .put-word .ensures) in
-    let p2 = begins-more p1 (numbersText (trueAtoms (c .before .before .before .before .before .before .before .before .before .before .before .before .before .before .before .before .before .args .n) (now (c .before .before .before .before .before .before .before .before .before .before .before .before .before .before .before .before .before .args .assignment)))) (c .before .before .before .before .before .before .before .put-atoms .kept .1 .1 .0) (c .before .before .before .before .before .before .before .put-atoms .ensures) in
+    let p2 = begins-more p1 (numbersText (trueAtomList (c .before .before .before .before .before .before .before .before .before .before .before .before .before .before .before .before .before .args .n) (now (c .before .before .before .before .before .before .before .before .before .before .before .before .before .before .before .before .before .args .assignment)))) (c .before .before .before .before .before .before .before .put-atoms-text .kept .1 .1 .0) (c .before .before .before .before .before .before .before .put-atoms-text .ensures) in
     let p3 = begins-more p2 (ascii ") (") (c .before .before .put-word2 .kept .1 .0) (c .before .before .put-word2 .ensures) in
-    begins-room p3 (numbersText (map (levelIn (now (c .before .before .before .before .before .before .before .before .before .before .before .before .before .before .before .before .before .args .levels))) (trueAtoms (c .before .before .before .before .before .before .before .before .before .before .before .before .before .before .before .before .before .args .n) (now (c .before .before .before .before .before .before .before .before .before .before .before .before .before .before .before .before .before .args .assignment))))) (model-levels (c .before .before .before .before .before .before .before .before .before .before .before .before .before .before .before .before .before .args .n) (now (c .before .before .before .before .before .before .before .before .before .before .before .before .before .before .before .before .before .args .assignment)) (now (c .before .before .before .before .before .before .before .before .before .before .before .before .before .before .before .before .before .args .levels)) (c .before .before .before .before .before .before .before .before .before .before .before .before .before .before .before .before .before .pre .0) (λ i. c .before .before .before .before .before .before .before .before .before .before .before .before .before .before .before .shared-slice-known2 .given i .fits) (c .before .before .before .before .before .before .before .before .before .before .before .before .before .before .before .before .before .pre .3))
+    begins-room p3 (numbersText (map (levelByte (now (c .before .before .before .before .before .before .before .before .before .before .before .before .before .before .before .before .before .args .levels))) (trueAtomList (c .before .before .before .before .before .before .before .before .before .before .before .before .before .before .before .before .before .args .n) (now (c .before .before .before .before .before .before .before .before .before .before .before .before .before .before .before .before .before .args .assignment))))) (model-levels (c .before .before .before .before .before .before .before .before .before .before .before .before .before .before .before .before .before .args .n) (now (c .before .before .before .before .before .before .before .before .before .before .before .before .before .before .before .before .before .args .assignment)) (now (c .before .before .before .before .before .before .before .before .before .before .before .before .before .before .before .before .before .args .levels)) (c .before .before .before .before .before .before .before .before .before .before .before .before .before .before .before .before .before .pre .0) (λ i. c .before .before .before .before .before .before .before .before .before .before .before .before .before .before .before .shared-slice-known2 .given i .fits) (c .before .before .before .before .before .before .before .before .before .before .before .before .before .before .before .before .before .pre .3))
 
-part-put-levels-end : tie.Need-part-put-levels-end
-part-put-levels-end c = search needs
+part-put-levels-text-end : tie.Need-part-put-levels-text-end
+part-put-levels-text-end c = search needs
 
-put-levels-requires : tie.Need-put-levels-requires
+put-levels-text-requires : tie.Need-put-levels-text-requires
 unfolding ascii
-put-levels-requires c κs =
+put-levels-text-requires c κs =
     let p1 = begins-word (ascii "(model (") (c .before .before .before .before .before .before .before .before .before .before .before .before .put-word .kept .1 .0) (c .before .before .before .before .before .before .before .before .before .before .before .before .put-word .ensures) in
-    let p2 = begins-more p1 (numbersText (trueAtoms (c .before .before .before .before .before .before .before .before .before .before .before .before .before .before .before .before .before .before .args .n) (now (c .before .before .before .before .before .before .before .before .before .before .before .before .before .before .before .before .before .before .args .assignment)))) (c .before .before .before .before .before .before .before .before .put-atoms .kept .1 .1 .0) (c .before .before .before .before .before .before .before .before .put-atoms .ensures) in
+    let p2 = begins-more p1 (numbersText (trueAtomList (c .before .before .before .before .before .before .before .before .before .before .before .before .before .before .before .before .before .before .args .n) (now (c .before .before .before .before .before .before .before .before .before .before .before .before .before .before .before .before .before .before .args .assignment)))) (c .before .before .before .before .before .before .before .before .put-atoms-text .kept .1 .1 .0) (c .before .before .before .before .before .before .before .before .put-atoms-text .ensures) in
     let p3 = begins-more p2 (ascii ") (") (c .before .before .before .put-word2 .kept .1 .0) (c .before .before .before .put-word2 .ensures) in
-    (c .before .before .before .before .before .before .before .before .before .before .before .before .before .before .before .before .before .before .pre .1, c .before .before .before .before .before .before .before .before .before .before .before .before .before .before .before .before .before .before .pre .2, begins-tail p3 (numbersText (map (levelIn (now (c .before .before .before .before .before .before .before .before .before .before .before .before .before .before .before .before .before .before .args .levels))) (trueAtoms (c .before .before .before .before .before .before .before .before .before .before .before .before .before .before .before .before .before .before .args .n) (now (c .before .before .before .before .before .before .before .before .before .before .before .before .before .before .before .before .before .before .args .assignment))))) (model-levels (c .before .before .before .before .before .before .before .before .before .before .before .before .before .before .before .before .before .before .args .n) (now (c .before .before .before .before .before .before .before .before .before .before .before .before .before .before .before .before .before .before .args .assignment)) (now (c .before .before .before .before .before .before .before .before .before .before .before .before .before .before .before .before .before .before .args .levels)) (c .before .before .before .before .before .before .before .before .before .before .before .before .before .before .before .before .before .before .pre .0) (λ i. c .before .before .before .before .before .before .before .before .before .before .before .before .before .before .before .before .shared-slice-known2 .given i .fits) (c .before .before .before .before .before .before .before .before .before .before .before .before .before .before .before .before .before .before .pre .3)))
+    (c .before .before .before .before .before .before .before .before .before .before .before .before .before .before .before .before .before .before .pre .1, c .before .before .before .before .before .before .before .before .before .before .before .before .before .before .before .before .before .before .pre .2, begins-tail p3 (numbersText (map (levelByte (now (c .before .before .before .before .before .before .before .before .before .before .before .before .before .before .before .before .before .before .args .levels))) (trueAtomList (c .before .before .before .before .before .before .before .before .before .before .before .before .before .before .before .before .before .before .args .n) (now (c .before .before .before .before .before .before .before .before .before .before .before .before .before .before .before .before .before .before .args .assignment))))) (model-levels (c .before .before .before .before .before .before .before .before .before .before .before .before .before .before .before .before .before .before .args .n) (now (c .before .before .before .before .before .before .before .before .before .before .before .before .before .before .before .before .before .before .args .assignment)) (now (c .before .before .before .before .before .before .before .before .before .before .before .before .before .before .before .before .before .before .args .levels)) (c .before .before .before .before .before .before .before .before .before .before .before .before .before .before .before .before .before .before .pre .0) (λ i. c .before .before .before .before .before .before .before .before .before .before .before .before .before .before .before .before .shared-slice-known2 .given i .fits) (c .before .before .before .before .before .before .before .before .before .before .before .before .before .before .before .before .before .before .pre .3)))
 
 add-to-3 : tie.Need-add-to-3
 unfolding ascii
 add-to-3 c =
     let p1 = begins-word (ascii "(model (") (c .before .before .before .before .before .before .before .before .before .before .before .before .before .before .before .put-word .kept .1 .0) (c .before .before .before .before .before .before .before .before .before .before .before .before .before .before .before .put-word .ensures) in
-    let p2 = begins-more p1 (numbersText (trueAtoms (c .before .before .before .before .before .before .before .before .before .before .before .before .before .before .before .before .before .before .before .before .before .args .n) (now (c .before .before .before .before .before .before .before .before .before .before .before .before .before .before .before .before .before .before .before .before .before .args .assignment)))) (c .before .before .before .before .before .before .before .before .before .before .before .put-atoms .kept .1 .1 .0) (c .before .before .before .before .before .before .before .before .before .before .before .put-atoms .ensures) in
+    let p2 = begins-more p1 (numbersText (trueAtomList (c .before .before .before .before .before .before .before .before .before .before .before .before .before .before .before .before .before .before .before .before .before .args .n) (now (c .before .before .before .before .before .before .before .before .before .before .before .before .before .before .before .before .before .before .before .before .before .args .assignment)))) (c .before .before .before .before .before .before .before .before .before .before .before .put-atoms-text .kept .1 .1 .0) (c .before .before .before .before .before .before .before .before .before .before .before .put-atoms-text .ensures) in
     let p3 = begins-more p2 (ascii ") (") (c .before .before .before .before .before .before .put-word2 .kept .1 .0) (c .before .before .before .before .before .before .put-word2 .ensures) in
-    omega (arith, begins-sum p3 (numbersText (map (levelIn (now (c .before .before .before .before .before .before .before .before .before .before .before .before .before .before .before .before .before .before .before .before .before .args .levels))) (trueAtoms (c .before .before .before .before .before .before .before .before .before .before .before .before .before .before .before .before .before .before .before .before .before .args .n) (now (c .before .before .before .before .before .before .before .before .before .before .before .before .before .before .before .before .before .before .before .before .before .args .assignment))))) (c .before .before .put-levels .ensures .0) (model-levels (c .before .before .before .before .before .before .before .before .before .before .before .before .before .before .before .before .before .before .before .before .before .args .n) (now (c .before .before .before .before .before .before .before .before .before .before .before .before .before .before .before .before .before .before .before .before .before .args .assignment)) (now (c .before .before .before .before .before .before .before .before .before .before .before .before .before .before .before .before .before .before .before .before .before .args .levels)) (c .before .before .before .before .before .before .before .before .before .before .before .before .before .before .before .before .before .before .before .before .before .pre .0) (λ i. c .before .before .before .before .before .before .before .before .before .before .before .before .before .before .before .before .before .before .before .shared-slice-known2 .given i .fits) {m = 1100} (omega arith)))
+    omega (arith, begins-sum p3 (numbersText (map (levelByte (now (c .before .before .before .before .before .before .before .before .before .before .before .before .before .before .before .before .before .before .before .before .before .args .levels))) (trueAtomList (c .before .before .before .before .before .before .before .before .before .before .before .before .before .before .before .before .before .before .before .before .before .args .n) (now (c .before .before .before .before .before .before .before .before .before .before .before .before .before .before .before .before .before .before .before .before .before .args .assignment))))) (c .before .before .put-levels-text .ensures .0) (model-levels (c .before .before .before .before .before .before .before .before .before .before .before .before .before .before .before .before .before .before .before .before .before .args .n) (now (c .before .before .before .before .before .before .before .before .before .before .before .before .before .before .before .before .before .before .before .before .before .args .assignment)) (now (c .before .before .before .before .before .before .before .before .before .before .before .before .before .before .before .before .before .before .before .before .before .args .levels)) (c .before .before .before .before .before .before .before .before .before .before .before .before .before .before .before .before .before .before .before .before .before .pre .0) (λ i. c .before .before .before .before .before .before .before .before .before .before .before .before .before .before .before .before .before .before .before .shared-slice-known2 .given i .fits) {m = 1100} (omega arith)))
 
 slice-aggregate-put-word-3 : tie.Need-slice-aggregate-put-word-3
 slice-aggregate-put-word-3 c = search needs
@@ -120,18 +120,18 @@ sub-put-word-2 : tie.Need-sub-put-word-2
 unfolding ascii
 sub-put-word-2 c =
     let p1 = begins-word (ascii "(model (") (c .before .before .before .before .before .before .before .before .before .before .before .before .before .before .before .before .put-word .kept .1 .0) (c .before .before .before .before .before .before .before .before .before .before .before .before .before .before .before .before .put-word .ensures) in
-    let p2 = begins-more p1 (numbersText (trueAtoms (c .before .before .before .before .before .before .before .before .before .before .before .before .before .before .before .before .before .before .before .before .before .before .args .n) (now (c .before .before .before .before .before .before .before .before .before .before .before .before .before .before .before .before .before .before .before .before .before .before .args .assignment)))) (c .before .before .before .before .before .before .before .before .before .before .before .before .put-atoms .kept .1 .1 .0) (c .before .before .before .before .before .before .before .before .before .before .before .before .put-atoms .ensures) in
+    let p2 = begins-more p1 (numbersText (trueAtomList (c .before .before .before .before .before .before .before .before .before .before .before .before .before .before .before .before .before .before .before .before .before .before .args .n) (now (c .before .before .before .before .before .before .before .before .before .before .before .before .before .before .before .before .before .before .before .before .before .before .args .assignment)))) (c .before .before .before .before .before .before .before .before .before .before .before .before .put-atoms-text .kept .1 .1 .0) (c .before .before .before .before .before .before .before .before .before .before .before .before .put-atoms-text .ensures) in
     let p3 = begins-more p2 (ascii ") (") (c .before .before .before .before .before .before .before .put-word2 .kept .1 .0) (c .before .before .before .before .before .before .before .put-word2 .ensures) in
-    let p4 = begins-more p3 (numbersText (map (levelIn (now (c .before .before .before .before .before .before .before .before .before .before .before .before .before .before .before .before .before .before .before .before .before .before .args .levels))) (trueAtoms (c .before .before .before .before .before .before .before .before .before .before .before .before .before .before .before .before .before .before .before .before .before .before .args .n) (now (c .before .before .before .before .before .before .before .before .before .before .before .before .before .before .before .before .before .before .before .before .before .before .args .assignment))))) (c .before .before .before .put-levels .kept .1 .1 .1 .0) (c .before .before .before .put-levels .ensures) in
+    let p4 = begins-more p3 (numbersText (map (levelByte (now (c .before .before .before .before .before .before .before .before .before .before .before .before .before .before .before .before .before .before .before .before .before .before .args .levels))) (trueAtomList (c .before .before .before .before .before .before .before .before .before .before .before .before .before .before .before .before .before .before .before .before .before .before .args .n) (now (c .before .before .before .before .before .before .before .before .before .before .before .before .before .before .before .before .before .before .before .before .before .before .args .assignment))))) (c .before .before .before .put-levels-text .kept .1 .1 .1 .0) (c .before .before .before .put-levels-text .ensures) in
     begins-room p4 (ascii "))\n") (model-whole (c .before .before .before .before .before .before .before .before .before .before .before .before .before .before .before .before .before .before .before .before .before .before .args .n) (now (c .before .before .before .before .before .before .before .before .before .before .before .before .before .before .before .before .before .before .before .before .before .before .args .assignment)) (now (c .before .before .before .before .before .before .before .before .before .before .before .before .before .before .before .before .before .before .before .before .before .before .args .levels)) (c .before .before .before .before .before .before .before .before .before .before .before .before .before .before .before .before .before .before .before .before .before .before .pre .0) (λ i. c .before .before .before .before .before .before .before .before .before .before .before .before .before .before .before .before .before .before .before .before .shared-slice-known2 .given i .fits) (c .before .before .before .before .before .before .before .before .before .before .before .before .before .before .before .before .before .before .before .before .before .before .pre .3))
 
 part-put-word-start-2 : tie.Need-part-put-word-start-2
 unfolding ascii
 part-put-word-start-2 c =
     let p1 = begins-word (ascii "(model (") (c .before .before .before .before .before .before .before .before .before .before .before .before .before .before .before .before .put-word .kept .1 .0) (c .before .before .before .before .before .before .before .before .before .before .before .before .before .before .before .before .put-word .ensures) in
-    let p2 = begins-more p1 (numbersText (trueAtoms (c .before .before .before .before .before .before .before .before .before .before .before .before .before .before .before .before .before .before .before .before .before .before .args .n) (now (c .before .before .before .before .before .before .before .before .before .before .before .before .before .before .before .before .before .before .before .before .before .before .args .assignment)))) (c .before .before .before .before .before .before .before .before .before .before .before .before .put-atoms .kept .1 .1 .0) (c .before .before .before .before .before .before .before .before .before .before .before .before .put-atoms .ensures) in
+    let p2 = begins-more p1 (numbersText (trueAtomList (c .before .before .before .before .before .before .before .before .before .before .before .before .before .before .before .before .before .before .before .before .before .before .args .n) (now (c .before .before .before .before .before .before .before .before .before .before .before .before .before .before .before .before .before .before .before .before .before .before .args .assignment)))) (c .before .before .before .before .before .before .before .before .before .before .before .before .put-atoms-text .kept .1 .1 .0) (c .before .before .before .before .before .before .before .before .before .before .before .before .put-atoms-text .ensures) in
     let p3 = begins-more p2 (ascii ") (") (c .before .before .before .before .before .before .before .put-word2 .kept .1 .0) (c .before .before .before .before .before .before .before .put-word2 .ensures) in
-    let p4 = begins-more p3 (numbersText (map (levelIn (now (c .before .before .before .before .before .before .before .before .before .before .before .before .before .before .before .before .before .before .before .before .before .before .args .levels))) (trueAtoms (c .before .before .before .before .before .before .before .before .before .before .before .before .before .before .before .before .before .before .before .before .before .before .args .n) (now (c .before .before .before .before .before .before .before .before .before .before .before .before .before .before .before .before .before .before .before .before .before .before .args .assignment))))) (c .before .before .before .put-levels .kept .1 .1 .1 .0) (c .before .before .before .put-levels .ensures) in
+    let p4 = begins-more p3 (numbersText (map (levelByte (now (c .before .before .before .before .before .before .before .before .before .before .before .before .before .before .before .before .before .before .before .before .before .before .args .levels))) (trueAtomList (c .before .before .before .before .before .before .before .before .before .before .before .before .before .before .before .before .before .before .before .before .before .before .args .n) (now (c .before .before .before .before .before .before .before .before .before .before .before .before .before .before .before .before .before .before .before .before .before .before .args .assignment))))) (c .before .before .before .put-levels-text .kept .1 .1 .1 .0) (c .before .before .before .put-levels-text .ensures) in
     begins-room p4 (ascii "))\n") (model-whole (c .before .before .before .before .before .before .before .before .before .before .before .before .before .before .before .before .before .before .before .before .before .before .args .n) (now (c .before .before .before .before .before .before .before .before .before .before .before .before .before .before .before .before .before .before .before .before .before .before .args .assignment)) (now (c .before .before .before .before .before .before .before .before .before .before .before .before .before .before .before .before .before .before .before .before .before .before .args .levels)) (c .before .before .before .before .before .before .before .before .before .before .before .before .before .before .before .before .before .before .before .before .before .before .pre .0) (λ i. c .before .before .before .before .before .before .before .before .before .before .before .before .before .before .before .before .before .before .before .before .shared-slice-known2 .given i .fits) (c .before .before .before .before .before .before .before .before .before .before .before .before .before .before .before .before .before .before .before .before .before .before .pre .3))
 
 part-put-word-end-2 : tie.Need-part-put-word-end-2
@@ -141,27 +141,27 @@ put-word-requires-3 : tie.Need-put-word-requires-3
 unfolding ascii
 put-word-requires-3 c κs =
     let p1 = begins-word (ascii "(model (") (c .before .before .before .before .before .before .before .before .before .before .before .before .before .before .before .before .before .put-word .kept .1 .0) (c .before .before .before .before .before .before .before .before .before .before .before .before .before .before .before .before .before .put-word .ensures) in
-    let p2 = begins-more p1 (numbersText (trueAtoms (c .before .before .before .before .before .before .before .before .before .before .before .before .before .before .before .before .before .before .before .before .before .before .before .args .n) (now (c .before .before .before .before .before .before .before .before .before .before .before .before .before .before .before .before .before .before .before .before .before .before .before .args .assignment)))) (c .before .before .before .before .before .before .before .before .before .before .before .before .before .put-atoms .kept .1 .1 .0) (c .before .before .before .before .before .before .before .before .before .before .before .before .before .put-atoms .ensures) in
+    let p2 = begins-more p1 (numbersText (trueAtomList (c .before .before .before .before .before .before .before .before .before .before .before .before .before .before .before .before .before .before .before .before .before .before .before .args .n) (now (c .before .before .before .before .before .before .before .before .before .before .before .before .before .before .before .before .before .before .before .before .before .before .before .args .assignment)))) (c .before .before .before .before .before .before .before .before .before .before .before .before .before .put-atoms-text .kept .1 .1 .0) (c .before .before .before .before .before .before .before .before .before .before .before .before .before .put-atoms-text .ensures) in
     let p3 = begins-more p2 (ascii ") (") (c .before .before .before .before .before .before .before .before .put-word2 .kept .1 .0) (c .before .before .before .before .before .before .before .before .put-word2 .ensures) in
-    let p4 = begins-more p3 (numbersText (map (levelIn (now (c .before .before .before .before .before .before .before .before .before .before .before .before .before .before .before .before .before .before .before .before .before .before .before .args .levels))) (trueAtoms (c .before .before .before .before .before .before .before .before .before .before .before .before .before .before .before .before .before .before .before .before .before .before .before .args .n) (now (c .before .before .before .before .before .before .before .before .before .before .before .before .before .before .before .before .before .before .before .before .before .before .before .args .assignment))))) (c .before .before .before .before .put-levels .kept .1 .1 .1 .0) (c .before .before .before .before .put-levels .ensures) in
+    let p4 = begins-more p3 (numbersText (map (levelByte (now (c .before .before .before .before .before .before .before .before .before .before .before .before .before .before .before .before .before .before .before .before .before .before .before .args .levels))) (trueAtomList (c .before .before .before .before .before .before .before .before .before .before .before .before .before .before .before .before .before .before .before .before .before .before .before .args .n) (now (c .before .before .before .before .before .before .before .before .before .before .before .before .before .before .before .before .before .before .before .before .before .before .before .args .assignment))))) (c .before .before .before .before .put-levels-text .kept .1 .1 .1 .0) (c .before .before .before .before .put-levels-text .ensures) in
     begins-tail p4 (ascii "))\n") (model-whole (c .before .before .before .before .before .before .before .before .before .before .before .before .before .before .before .before .before .before .before .before .before .before .before .args .n) (now (c .before .before .before .before .before .before .before .before .before .before .before .before .before .before .before .before .before .before .before .before .before .before .before .args .assignment)) (now (c .before .before .before .before .before .before .before .before .before .before .before .before .before .before .before .before .before .before .before .before .before .before .before .args .levels)) (c .before .before .before .before .before .before .before .before .before .before .before .before .before .before .before .before .before .before .before .before .before .before .before .pre .0) (λ i. c .before .before .before .before .before .before .before .before .before .before .before .before .before .before .before .before .before .before .before .before .before .shared-slice-known2 .given i .fits) (c .before .before .before .before .before .before .before .before .before .before .before .before .before .before .before .before .before .before .before .before .before .before .before .pre .3))
 
 add-to-4 : tie.Need-add-to-4
 unfolding ascii
 add-to-4 c =
     let p1 = begins-word (ascii "(model (") (c .before .before .before .before .before .before .before .before .before .before .before .before .before .before .before .before .before .before .before .before .put-word .kept .1 .0) (c .before .before .before .before .before .before .before .before .before .before .before .before .before .before .before .before .before .before .before .before .put-word .ensures) in
-    let p2 = begins-more p1 (numbersText (trueAtoms (c .before .before .before .before .before .before .before .before .before .before .before .before .before .before .before .before .before .before .before .before .before .before .before .before .before .before .args .n) (now (c .before .before .before .before .before .before .before .before .before .before .before .before .before .before .before .before .before .before .before .before .before .before .before .before .before .before .args .assignment)))) (c .before .before .before .before .before .before .before .before .before .before .before .before .before .before .before .before .put-atoms .kept .1 .1 .0) (c .before .before .before .before .before .before .before .before .before .before .before .before .before .before .before .before .put-atoms .ensures) in
+    let p2 = begins-more p1 (numbersText (trueAtomList (c .before .before .before .before .before .before .before .before .before .before .before .before .before .before .before .before .before .before .before .before .before .before .before .before .before .before .args .n) (now (c .before .before .before .before .before .before .before .before .before .before .before .before .before .before .before .before .before .before .before .before .before .before .before .before .before .before .args .assignment)))) (c .before .before .before .before .before .before .before .before .before .before .before .before .before .before .before .before .put-atoms-text .kept .1 .1 .0) (c .before .before .before .before .before .before .before .before .before .before .before .before .before .before .before .before .put-atoms-text .ensures) in
     let p3 = begins-more p2 (ascii ") (") (c .before .before .before .before .before .before .before .before .before .before .before .put-word2 .kept .1 .0) (c .before .before .before .before .before .before .before .before .before .before .before .put-word2 .ensures) in
-    let p4 = begins-more p3 (numbersText (map (levelIn (now (c .before .before .before .before .before .before .before .before .before .before .before .before .before .before .before .before .before .before .before .before .before .before .before .before .before .before .args .levels))) (trueAtoms (c .before .before .before .before .before .before .before .before .before .before .before .before .before .before .before .before .before .before .before .before .before .before .before .before .before .before .args .n) (now (c .before .before .before .before .before .before .before .before .before .before .before .before .before .before .before .before .before .before .before .before .before .before .before .before .before .before .args .assignment))))) (c .before .before .before .before .before .before .before .put-levels .kept .1 .1 .1 .0) (c .before .before .before .before .before .before .before .put-levels .ensures) in
+    let p4 = begins-more p3 (numbersText (map (levelByte (now (c .before .before .before .before .before .before .before .before .before .before .before .before .before .before .before .before .before .before .before .before .before .before .before .before .before .before .args .levels))) (trueAtomList (c .before .before .before .before .before .before .before .before .before .before .before .before .before .before .before .before .before .before .before .before .before .before .before .before .before .before .args .n) (now (c .before .before .before .before .before .before .before .before .before .before .before .before .before .before .before .before .before .before .before .before .before .before .before .before .before .before .args .assignment))))) (c .before .before .before .before .before .before .before .put-levels-text .kept .1 .1 .1 .0) (c .before .before .before .before .before .before .before .put-levels-text .ensures) in
     omega (arith, begins-sum p4 (ascii "))\n") (c .before .before .put-word3 .ensures .0) (model-whole (c .before .before .before .before .before .before .before .before .before .before .before .before .before .before .before .before .before .before .before .before .before .before .before .before .before .before .args .n) (now (c .before .before .before .before .before .before .before .before .before .before .before .before .before .before .before .before .before .before .before .before .before .before .before .before .before .before .args .assignment)) (now (c .before .before .before .before .before .before .before .before .before .before .before .before .before .before .before .before .before .before .before .before .before .before .before .before .before .before .args .levels)) (c .before .before .before .before .before .before .before .before .before .before .before .before .before .before .before .before .before .before .before .before .before .before .before .before .before .before .pre .0) (λ i. c .before .before .before .before .before .before .before .before .before .before .before .before .before .before .before .before .before .before .before .before .before .before .before .before .shared-slice-known2 .given i .fits) {m = 1100} (omega arith)))
 
 same-length : tie.Need-same-length
 unfolding ascii
 same-length c =
     let p1 = begins-word (ascii "(model (") (c .before .before .before .before .before .before .before .before .before .before .before .before .before .before .before .before .before .before .before .before .put-word .kept .1 .0) (c .before .before .before .before .before .before .before .before .before .before .before .before .before .before .before .before .before .before .before .before .put-word .ensures) in
-    let p2 = begins-more p1 (numbersText (trueAtoms (c .before .before .before .before .before .before .before .before .before .before .before .before .before .before .before .before .before .before .before .before .before .before .before .before .before .before .args .n) (now (c .before .before .before .before .before .before .before .before .before .before .before .before .before .before .before .before .before .before .before .before .before .before .before .before .before .before .args .assignment)))) (c .before .before .before .before .before .before .before .before .before .before .before .before .before .before .before .before .put-atoms .kept .1 .1 .0) (c .before .before .before .before .before .before .before .before .before .before .before .before .before .before .before .before .put-atoms .ensures) in
+    let p2 = begins-more p1 (numbersText (trueAtomList (c .before .before .before .before .before .before .before .before .before .before .before .before .before .before .before .before .before .before .before .before .before .before .before .before .before .before .args .n) (now (c .before .before .before .before .before .before .before .before .before .before .before .before .before .before .before .before .before .before .before .before .before .before .before .before .before .before .args .assignment)))) (c .before .before .before .before .before .before .before .before .before .before .before .before .before .before .before .before .put-atoms-text .kept .1 .1 .0) (c .before .before .before .before .before .before .before .before .before .before .before .before .before .before .before .before .put-atoms-text .ensures) in
     let p3 = begins-more p2 (ascii ") (") (c .before .before .before .before .before .before .before .before .before .before .before .put-word2 .kept .1 .0) (c .before .before .before .before .before .before .before .before .before .before .before .put-word2 .ensures) in
-    let p4 = begins-more p3 (numbersText (map (levelIn (now (c .before .before .before .before .before .before .before .before .before .before .before .before .before .before .before .before .before .before .before .before .before .before .before .before .before .before .args .levels))) (trueAtoms (c .before .before .before .before .before .before .before .before .before .before .before .before .before .before .before .before .before .before .before .before .before .before .before .before .before .before .args .n) (now (c .before .before .before .before .before .before .before .before .before .before .before .before .before .before .before .before .before .before .before .before .before .before .before .before .before .before .args .assignment))))) (c .before .before .before .before .before .before .before .put-levels .kept .1 .1 .1 .0) (c .before .before .before .before .before .before .before .put-levels .ensures) in
+    let p4 = begins-more p3 (numbersText (map (levelByte (now (c .before .before .before .before .before .before .before .before .before .before .before .before .before .before .before .before .before .before .before .before .before .before .before .before .before .before .args .levels))) (trueAtomList (c .before .before .before .before .before .before .before .before .before .before .before .before .before .before .before .before .before .before .before .before .before .before .before .before .before .before .args .n) (now (c .before .before .before .before .before .before .before .before .before .before .before .before .before .before .before .before .before .before .before .before .before .before .before .before .before .before .args .assignment))))) (c .before .before .before .before .before .before .before .put-levels-text .kept .1 .1 .1 .0) (c .before .before .before .before .before .before .before .put-levels-text .ensures) in
     let p5 = begins-more p4 (ascii "))\n") (c .before .before .put-word3 .kept .1 .0) (c .before .before .put-word3 .ensures) in
     p5 .same
 
@@ -169,9 +169,9 @@ returns : tie.Need-returns
 unfolding modelText ascii
 returns c =
     let p1 = begins-word (ascii "(model (") (c .before .before .before .before .before .before .before .before .before .before .before .before .before .before .before .before .before .before .before .before .put-word .kept .1 .0) (c .before .before .before .before .before .before .before .before .before .before .before .before .before .before .before .before .before .before .before .before .put-word .ensures) in
-    let p2 = begins-more p1 (numbersText (trueAtoms (c .before .before .before .before .before .before .before .before .before .before .before .before .before .before .before .before .before .before .before .before .before .before .before .before .before .before .args .n) (now (c .before .before .before .before .before .before .before .before .before .before .before .before .before .before .before .before .before .before .before .before .before .before .before .before .before .before .args .assignment)))) (c .before .before .before .before .before .before .before .before .before .before .before .before .before .before .before .before .put-atoms .kept .1 .1 .0) (c .before .before .before .before .before .before .before .before .before .before .before .before .before .before .before .before .put-atoms .ensures) in
+    let p2 = begins-more p1 (numbersText (trueAtomList (c .before .before .before .before .before .before .before .before .before .before .before .before .before .before .before .before .before .before .before .before .before .before .before .before .before .before .args .n) (now (c .before .before .before .before .before .before .before .before .before .before .before .before .before .before .before .before .before .before .before .before .before .before .before .before .before .before .args .assignment)))) (c .before .before .before .before .before .before .before .before .before .before .before .before .before .before .before .before .put-atoms-text .kept .1 .1 .0) (c .before .before .before .before .before .before .before .before .before .before .before .before .before .before .before .before .put-atoms-text .ensures) in
     let p3 = begins-more p2 (ascii ") (") (c .before .before .before .before .before .before .before .before .before .before .before .put-word2 .kept .1 .0) (c .before .before .before .before .before .before .before .before .before .before .before .put-word2 .ensures) in
-    let p4 = begins-more p3 (numbersText (map (levelIn (now (c .before .before .before .before .before .before .before .before .before .before .before .before .before .before .before .before .before .before .before .before .before .before .before .before .before .before .args .levels))) (trueAtoms (c .before .before .before .before .before .before .before .before .before .before .before .before .before .before .before .before .before .before .before .before .before .before .before .before .before .before .args .n) (now (c .before .before .before .before .before .before .before .before .before .before .before .before .before .before .before .before .before .before .before .before .before .before .before .before .before .before .args .assignment))))) (c .before .before .before .before .before .before .before .put-levels .kept .1 .1 .1 .0) (c .before .before .before .before .before .before .before .put-levels .ensures) in
+    let p4 = begins-more p3 (numbersText (map (levelByte (now (c .before .before .before .before .before .before .before .before .before .before .before .before .before .before .before .before .before .before .before .before .before .before .before .before .before .before .args .levels))) (trueAtomList (c .before .before .before .before .before .before .before .before .before .before .before .before .before .before .before .before .before .before .before .before .before .before .before .before .before .before .args .n) (now (c .before .before .before .before .before .before .before .before .before .before .before .before .before .before .before .before .before .before .before .before .before .before .before .before .before .before .args .assignment))))) (c .before .before .before .before .before .before .before .put-levels-text .kept .1 .1 .1 .0) (c .before .before .before .before .before .before .before .put-levels-text .ensures) in
     let p5 = begins-more p4 (ascii "))\n") (c .before .before .put-word3 .kept .1 .0) (c .before .before .put-word3 .ensures) in
     begins-whole p5
 
@@ -181,10 +181,10 @@ put-model-spec =
     (tie.spec
     slice-aggregate-put-word
     put-word-requires
-    sub-put-atoms
-    part-put-atoms-start
-    part-put-atoms-end
-    put-atoms-requires
+    sub-put-atoms-text
+    part-put-atoms-text-start
+    part-put-atoms-text-end
+    put-atoms-text-requires
     add-to
     slice-aggregate-put-word-2
     sub-put-word
@@ -192,10 +192,10 @@ put-model-spec =
     part-put-word-end
     put-word-requires-2
     add-to-2
-    sub-put-levels
-    part-put-levels-start
-    part-put-levels-end
-    put-levels-requires
+    sub-put-levels-text
+    part-put-levels-text-start
+    part-put-levels-text-end
+    put-levels-text-requires
     add-to-3
     slice-aggregate-put-word-3
     sub-put-word-2

@@ -1,7 +1,7 @@
 use denote.Ref.{now}
-use Rattle.reader.specs.declared.Reading.{Reading}
+use Rattle.reader.specs.declared.ReadResult.{ReadResult}
 use mathlib.Core.Path.{ap}
-use Rattle.checker_output.specs.Output.{outputOf, outputText}
+use Rattle.checker_output.specs.Output.{checkerOutputOf, checkerOutput}
 use Rattle.checker_output.proofs.Shown.{same-text}
 use Rattle.call_laws.proofs.Tabled.{counted-stored}
 use borrow.Author.Needs.{needs}
@@ -18,8 +18,8 @@ same-length : tie.Need-same-length
 same-length c = search needs
 
 returns : tie.Need-returns
-unfolding outputText
-returns c = same-text (now (c .before .before .before .before .before .before .before .before .args .out)) (ap (λ (x : Reading). outputOf x (now (c .before .before .before .before .before .before .before .before .args .answer)) (c .before .before .before .before .before .before .before .before .args .total)) (c .before .before .before .before .read-counted .ensures)) (c .before .before .put-checked .ensures)
+unfolding checkerOutput
+returns c = same-text (now (c .before .before .before .before .before .before .before .before .args .out)) (ap (λ (x : ReadResult). checkerOutputOf x (now (c .before .before .before .before .before .before .before .before .args .answer)) (c .before .before .before .before .before .before .before .before .args .total)) (c .before .before .before .before .read-counted .ensures)) (c .before .before .put-checked .ensures)
 
 pub put-output-spec : {M : Type 1} → statement M
 put-output-spec =

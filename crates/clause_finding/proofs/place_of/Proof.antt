@@ -20,20 +20,20 @@ find-group-requires c κs = search needs
 find-item-requires : tie.Need-find-item-requires
 find-item-requires c κs = (c .before .before .before .before .before .before .before .before .pre .0, c .find-group .ensures .at .some, c .find-group .ensures .at .within, c .find-group .ensures .inside)
 
-find-row-requires : tie.Need-find-row-requires
-find-row-requires c κs = (c .before .before .before .before .before .before .before .before .before .pre .0, c .before .find-group .ensures .at .some, c .before .find-group .ensures .at .within, c .find-item .ensures .at .some, c .find-item .ensures .at .within, c .find-item .ensures .inside)
+find-block-requires : tie.Need-find-block-requires
+find-block-requires c κs = (c .before .before .before .before .before .before .before .before .before .pre .0, c .before .find-group .ensures .at .some, c .before .find-group .ensures .at .within, c .find-item .ensures .at .some, c .find-item .ensures .at .within, c .find-item .ensures .inside)
 
-cast-spot-at : tie.Need-cast-spot-at
-cast-spot-at c = omega (arith, found-fits _ _ (c .before .before .before .find-group .ensures) (c .before .before .find-item .ensures) (c .before .find-row .ensures) (c .before .before .before .before .before .before .before .before .before .before .before .pre .0 .limits) (sizes-in (c .before .before .before .before .before .before .before .before .before .before .before .pre .0) .bits))
+cast-coordinates-at : tie.Need-cast-coordinates-at
+cast-coordinates-at c = omega (arith, found-fits _ _ (c .before .before .before .find-group .ensures) (c .before .before .find-item .ensures) (c .before .find-block .ensures) (c .before .before .before .before .before .before .before .before .before .before .before .pre .0 .limits) (sizes-in (c .before .before .before .before .before .before .before .before .before .before .before .pre .0) .bits))
 
-add-spot-at : tie.Need-add-spot-at
-add-spot-at c = omega (arith, found-fits _ _ (c .before .before .before .find-group .ensures) (c .before .before .find-item .ensures) (c .before .find-row .ensures) (c .before .before .before .before .before .before .before .before .before .before .before .pre .0 .limits) (sizes-in (c .before .before .before .before .before .before .before .before .before .before .before .pre .0) .bits))
+add-coordinates-at : tie.Need-add-coordinates-at
+add-coordinates-at c = omega (arith, found-fits _ _ (c .before .before .before .find-group .ensures) (c .before .before .find-item .ensures) (c .before .find-block .ensures) (c .before .before .before .before .before .before .before .before .before .before .before .pre .0 .limits) (sizes-in (c .before .before .before .before .before .before .before .before .before .before .before .pre .0) .bits))
 
-spot-at-requires : tie.Need-spot-at-requires
-spot-at-requires c κs = (c .before .before .before .before .before .before .before .before .before .before .before .pre .0, found-at _ _ (c .before .before .before .find-group .ensures) (c .before .before .find-item .ensures) (c .before .find-row .ensures))
+coordinates-at-requires : tie.Need-coordinates-at-requires
+coordinates-at-requires c κs = (c .before .before .before .before .before .before .before .before .before .before .before .pre .0, found-at _ _ (c .before .before .before .find-group .ensures) (c .before .before .find-item .ensures) (c .before .find-block .ensures))
 
 returns-2 : tie.Need-returns-2
-returns-2 c = placed _ _ (c .before .before .before .before .before .before .before .before .before .before .before .before .args .j) (c .before .before .before .before .before .if1 .left) (c .before .before .before .before .find-group .ensures) (c .before .before .before .find-item .ensures) (c .before .before .find-row .ensures) (c .spot-at .ensures)
+returns-2 c = placed _ _ (c .before .before .before .before .before .before .before .before .before .before .before .before .args .j) (c .before .before .before .before .before .if1 .left) (c .before .before .before .before .find-group .ensures) (c .before .before .before .find-item .ensures) (c .before .before .find-block .ensures) (c .coordinates-at .ensures)
 
 pub place-of-spec : {M : Type 1} → statement M
 place-of-spec =
@@ -44,8 +44,8 @@ place-of-spec =
     sub-find-group
     find-group-requires
     find-item-requires
-    find-row-requires
-    cast-spot-at
-    add-spot-at
-    spot-at-requires
+    find-block-requires
+    cast-coordinates-at
+    add-coordinates-at
+    coordinates-at-requires
     returns-2)

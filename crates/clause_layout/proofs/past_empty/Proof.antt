@@ -1,4 +1,4 @@
--- `layout::past_empty` meets its contract, group by group.
+-- `clause_layout::past_empty` meets its contract, group by group.
 -- Assumes nothing.
 use borrow.Author.Tests.{eq-eqb, ne-eqb, lt-ltb, le-ltb}
 use borrow.Author.Needs.{needs}

@@ -1,4 +1,4 @@
--- `layout::past_others` meets its contract.
+-- `clause_layout::past_others` meets its contract.
 -- Assumes nothing.
 use Prim.Native.Nat.{_+_, _-_}
 use native.Mathlib.Omega.{arith}

@@ -14,7 +14,7 @@ returns : tie.Need-returns
 returns c = size-body (c .before .before .before .before .before .before .before .before .before .pre .0) (c .before .before .before .before .before .before .before .before .before .pre .1) (c .before .if1 .taken) (c .span .ensures)
 
 implied-size-requires : tie.Need-implied-size-requires
-implied-size-requires c κs = (heads-in (c .before .before .before .before .before .before .before .before .before .pre .0) (c .before .before .before .before .before .before .before .before .before .pre .1), c .before .before .before .before .before .before .before .before .before .pre .1 .row-some)
+implied-size-requires c κs = (heads-in (c .before .before .before .before .before .before .before .before .before .pre .0) (c .before .before .before .before .before .before .before .before .before .pre .1), c .before .before .before .before .before .before .before .before .before .pre .1 .block-some)
 
 returns-2 : tie.Need-returns-2
 returns-2 c = size-implied (c .before .before .before .before .before .before .before .before .before .before .pre .0) (c .before .before .before .before .before .before .before .before .before .before .pre .1) (c .before .if2 .taken) (c .implied-size .ensures)

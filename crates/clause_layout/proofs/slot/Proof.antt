@@ -7,25 +7,25 @@ use Rattle.clause_layout.proofs.slot.Statement.{statement}
 use Rattle.clause_layout.proofs.slot.Tie as tie
 
 entry-requires : tie.Need-entry-requires
-entry-requires c κs = entry-asks5 (c .before .before .before .before .before .before .before .before .pre .0) (c .before .before .before .before .before .before .before .before .pre .1 .row-at) (now (c .before .before .before .before .before .before .before .before .args .partners)) (partners-length _ _ _ _ _ _ _ _ (c .before .before .before .before .before .before .before .before .pre .0)) (c .if1 .taken)
+entry-requires c κs = entry-asks5 (c .before .before .before .before .before .before .before .before .pre .0) (c .before .before .before .before .before .before .before .before .pre .1 .block-at) (now (c .before .before .before .before .before .before .before .before .args .partners)) (partners-length _ _ _ _ _ _ _ _ (c .before .before .before .before .before .before .before .before .pre .0)) (c .if1 .taken)
 
 entry-requires-2 : tie.Need-entry-requires-2
-entry-requires-2 c κs = entry-asks5 (c .before .before .before .before .before .before .before .before .before .pre .0) (c .before .before .before .before .before .before .before .before .before .pre .1 .row-at) (now (c .before .before .before .before .before .before .before .before .before .args .owners)) (owners-length _ _ _ _ _ _ _ _ (c .before .before .before .before .before .before .before .before .before .pre .0)) (c .before .if1 .taken)
+entry-requires-2 c κs = entry-asks5 (c .before .before .before .before .before .before .before .before .before .pre .0) (c .before .before .before .before .before .before .before .before .before .pre .1 .block-at) (now (c .before .before .before .before .before .before .before .before .before .args .owners)) (owners-length _ _ _ _ _ _ _ _ (c .before .before .before .before .before .before .before .before .before .pre .0)) (c .before .if1 .taken)
 
 pair-slot-requires : tie.Need-pair-slot-requires
-pair-slot-requires c κs = pair-asks (c .before .before .before .before .before .before .before .before .before .before .pre .0) (c .before .before .before .before .before .before .before .before .before .before .pre .1 .row-at) (c .before .before .if1 .taken) (c .before .entry .ensures) (c .entry2 .ensures)
+pair-slot-requires c κs = pair-asks (c .before .before .before .before .before .before .before .before .before .before .pre .0) (c .before .before .before .before .before .before .before .before .before .before .pre .1 .block-at) (c .before .before .if1 .taken) (c .before .entry .ensures) (c .entry2 .ensures)
 
 returns : tie.Need-returns
 returns c = slot-pair (c .before .before .before .before .before .before .before .before .before .before .before .pre .0) (c .before .before .before .before .before .before .before .before .before .before .before .pre .1) (c .before .before .before .before .before .before .before .before .before .before .before .args .l) (c .before .before .before .if1 .taken) (c .before .before .entry .ensures) (c .before .entry2 .ensures) (c .pair-slot .ensures)
 
 start-requires : tie.Need-start-requires
-start-requires c κs = start-asks (c .before .before .before .before .before .before .before .before .before .pre .0) (c .before .before .before .before .before .before .before .before .before .pre .1 .row-at) (rule1 (c .before .before .before .before .before .before .before .before .before .pre .0) (c .before .before .before .before .before .before .before .before .before .pre .1 .row-at) (c .if2 .taken)) 0 (omega arith)
+start-requires c κs = start-asks (c .before .before .before .before .before .before .before .before .before .pre .0) (c .before .before .before .before .before .before .before .before .before .pre .1 .block-at) (rule1 (c .before .before .before .before .before .before .before .before .before .pre .0) (c .before .before .before .before .before .before .before .before .before .pre .1 .block-at) (c .if2 .taken)) 0 (omega arith)
 
 start-requires-2 : tie.Need-start-requires-2
-start-requires-2 c κs = start-asks (c .before .before .before .before .before .before .before .before .before .before .pre .0) (c .before .before .before .before .before .before .before .before .before .before .pre .1 .row-at) (rule1 (c .before .before .before .before .before .before .before .before .before .before .pre .0) (c .before .before .before .before .before .before .before .before .before .before .pre .1 .row-at) (c .before .if2 .taken)) 1 (omega arith)
+start-requires-2 c κs = start-asks (c .before .before .before .before .before .before .before .before .before .before .pre .0) (c .before .before .before .before .before .before .before .before .before .before .pre .1 .block-at) (rule1 (c .before .before .before .before .before .before .before .before .before .before .pre .0) (c .before .before .before .before .before .before .before .before .before .before .pre .1 .block-at) (c .before .if2 .taken)) 1 (omega arith)
 
 start-requires-3 : tie.Need-start-requires-3
-start-requires-3 c κs = start-asks (c .before .before .before .before .before .before .before .before .before .before .before .pre .0) (c .before .before .before .before .before .before .before .before .before .before .before .pre .1 .row-at) (rule1 (c .before .before .before .before .before .before .before .before .before .before .before .pre .0) (c .before .before .before .before .before .before .before .before .before .before .before .pre .1 .row-at) (c .before .before .if2 .taken)) 2 (omega arith)
+start-requires-3 c κs = start-asks (c .before .before .before .before .before .before .before .before .before .before .before .pre .0) (c .before .before .before .before .before .before .before .before .before .before .before .pre .1 .block-at) (rule1 (c .before .before .before .before .before .before .before .before .before .before .before .pre .0) (c .before .before .before .before .before .before .before .before .before .before .before .pre .1 .block-at) (c .before .before .if2 .taken)) 2 (omega arith)
 
 body-part-requires : tie.Need-body-part-requires
 body-part-requires c κs = body-asks (c .before .before .before .before .before .before .before .before .before .before .before .before .pre .0) (c .before .before .before .before .before .before .before .before .before .before .before .before .pre .1) (c .before .before .before .before .before .before .before .before .before .before .before .before .args .l) (c .before .before .before .if2 .taken) (c .before .before .start .ensures) (c .before .start2 .ensures) (c .start3 .ensures) (c .before .before .before .before .before .before .before .before .before .before .before .before .pre .2) (c .before .before .before .before .before .before .before .before .before .before .before .before .pre .3)
@@ -58,7 +58,7 @@ returns-6 : tie.Need-returns-6
 returns-6 c = slot-next (c .before .before .before .before .before .before .before .before .before .before .before .before .before .pre .0) (c .before .before .before .before .before .before .before .before .before .before .before .before .before .pre .1) (c .before .before .before .before .before .before .before .before .before .before .before .before .before .args .l) (c .before .if6 .taken) (c .next-slot .ensures)
 
 span-requires : tie.Need-span-requires
-span-requires c κs = span-asks1 (c .before .before .before .before .before .before .before .before .before .before .before .before .before .pre .0) (c .before .before .before .before .before .before .before .before .before .before .before .before .before .pre .1 .row-at) (rule6 (c .before .before .before .before .before .before .before .before .before .before .before .before .before .pre .0) (c .before .before .before .before .before .before .before .before .before .before .before .before .before .pre .1 .row-at) (c .if7 .taken))
+span-requires c κs = span-asks1 (c .before .before .before .before .before .before .before .before .before .before .before .before .before .pre .0) (c .before .before .before .before .before .before .before .before .before .before .before .before .before .pre .1 .block-at) (rule6 (c .before .before .before .before .before .before .before .before .before .before .before .before .before .pre .0) (c .before .before .before .before .before .before .before .before .before .before .before .before .before .pre .1 .block-at) (c .if7 .taken))
 
 head-requires : tie.Need-head-requires
 head-requires c κs = head-asks (c .before .before .before .before .before .before .before .before .before .before .before .before .before .before .pre .0) (c .before .before .before .before .before .before .before .before .before .before .before .before .before .before .pre .1) (c .before .before .before .before .before .before .before .before .before .before .before .before .before .before .args .l) (c .before .if7 .taken)

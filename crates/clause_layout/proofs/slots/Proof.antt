@@ -5,10 +5,10 @@ use Rattle.clause_layout.proofs.slots.Statement.{statement}
 use Rattle.clause_layout.proofs.slots.Tie as tie
 
 span-requires : tie.Need-span-requires
-span-requires c κs = span-asks2 (c .before .before .before .before .before .before .before .before .pre .0) (c .before .before .before .before .before .before .before .before .pre .1 .row-at) (rule1 (c .before .before .before .before .before .before .before .before .pre .0) (c .before .before .before .before .before .before .before .before .pre .1 .row-at) (c .if1 .taken))
+span-requires c κs = span-asks2 (c .before .before .before .before .before .before .before .before .pre .0) (c .before .before .before .before .before .before .before .before .pre .1 .block-at) (rule1 (c .before .before .before .before .before .before .before .before .pre .0) (c .before .before .before .before .before .before .before .before .pre .1 .block-at) (c .if1 .taken))
 
 body-slots-requires : tie.Need-body-slots-requires
-body-slots-requires c κs = span-fits2 (c .before .before .before .before .before .before .before .before .before .pre .0) (c .before .before .before .before .before .before .before .before .before .pre .1 .row-at) (rule1 (c .before .before .before .before .before .before .before .before .before .pre .0) (c .before .before .before .before .before .before .before .before .before .pre .1 .row-at) (c .before .if1 .taken)) (c .span .ensures)
+body-slots-requires c κs = span-fits2 (c .before .before .before .before .before .before .before .before .before .pre .0) (c .before .before .before .before .before .before .before .before .before .pre .1 .block-at) (rule1 (c .before .before .before .before .before .before .before .before .before .pre .0) (c .before .before .before .before .before .before .before .before .before .pre .1 .block-at) (c .before .if1 .taken)) (c .span .ensures)
 
 returns : tie.Need-returns
 returns c = slots-body (c .before .before .before .before .before .before .before .before .before .before .pre .0) (c .before .before .before .before .before .before .before .before .before .before .pre .1) (c .before .before .if1 .taken) (c .before .span .ensures) (c .body-slots .ensures)
@@ -26,7 +26,7 @@ returns-4 : tie.Need-returns-4
 returns-4 c = slots-zero (c .before .before .before .before .before .before .before .before .before .before .pre .0) (c .before .before .before .before .before .before .before .before .before .before .pre .1) (c .if4 .taken)
 
 next-slots-requires : tie.Need-next-slots-requires
-next-slots-requires c κs = (bits4 (c .before .before .before .before .before .before .before .before .before .before .before .pre .0) (c .before .before .before .before .before .before .before .before .before .before .before .pre .1 .row-at) (c .if5 .taken), c .before .before .before .before .before .before .before .before .before .before .before .pre .1 .clause-some)
+next-slots-requires c κs = (bits4 (c .before .before .before .before .before .before .before .before .before .before .before .pre .0) (c .before .before .before .before .before .before .before .before .before .before .before .pre .1 .block-at) (c .if5 .taken), c .before .before .before .before .before .before .before .before .before .before .before .pre .1 .clause-some)
 
 returns-5 : tie.Need-returns-5
 returns-5 c = slots-next (c .before .before .before .before .before .before .before .before .before .before .before .before .pre .0) (c .before .before .before .before .before .before .before .before .before .before .before .before .pre .1) (c .before .if5 .taken) (c .next-slots .ensures)
@@ -41,10 +41,10 @@ returns-6 : tie.Need-returns-6
 returns-6 c = slots-pair (c .before .before .before .before .before .before .before .before .before .before .before .before .before .before .pre .0) (c .before .before .before .before .before .before .before .before .before .before .before .before .before .before .pre .1) (c .before .before .if6 .taken) (c .before .chain-bit .ensures) (c .chain-slots .ensures)
 
 span-requires-2 : tie.Need-span-requires-2
-span-requires-2 c κs = span-asks1 (c .before .before .before .before .before .before .before .before .before .before .before .before .before .pre .0) (c .before .before .before .before .before .before .before .before .before .before .before .before .before .pre .1 .row-at) (rule6 (c .before .before .before .before .before .before .before .before .before .before .before .before .before .pre .0) (c .before .before .before .before .before .before .before .before .before .before .before .before .before .pre .1 .row-at) (c .if7 .taken))
+span-requires-2 c κs = span-asks1 (c .before .before .before .before .before .before .before .before .before .before .before .before .before .pre .0) (c .before .before .before .before .before .before .before .before .before .before .before .before .before .pre .1 .block-at) (rule6 (c .before .before .before .before .before .before .before .before .before .before .before .before .before .pre .0) (c .before .before .before .before .before .before .before .before .before .before .before .before .before .pre .1 .block-at) (c .if7 .taken))
 
 rule-slots-requires : tie.Need-rule-slots-requires
-rule-slots-requires c κs = span-fits1 (c .before .before .before .before .before .before .before .before .before .before .before .before .before .before .pre .0) (c .before .before .before .before .before .before .before .before .before .before .before .before .before .before .pre .1 .row-at) (rule6 (c .before .before .before .before .before .before .before .before .before .before .before .before .before .before .pre .0) (c .before .before .before .before .before .before .before .before .before .before .before .before .before .before .pre .1 .row-at) (c .before .if7 .taken)) (c .span2 .ensures)
+rule-slots-requires c κs = span-fits1 (c .before .before .before .before .before .before .before .before .before .before .before .before .before .before .pre .0) (c .before .before .before .before .before .before .before .before .before .before .before .before .before .before .pre .1 .block-at) (rule6 (c .before .before .before .before .before .before .before .before .before .before .before .before .before .before .pre .0) (c .before .before .before .before .before .before .before .before .before .before .before .before .before .before .pre .1 .block-at) (c .before .if7 .taken)) (c .span2 .ensures)
 
 returns-7 : tie.Need-returns-7
 returns-7 c = slots-rule (c .before .before .before .before .before .before .before .before .before .before .before .before .before .before .before .pre .0) (c .before .before .before .before .before .before .before .before .before .before .before .before .before .before .before .pre .1) (c .before .before .if7 .taken) (c .before .span2 .ensures) (c .rule-slots .ensures)

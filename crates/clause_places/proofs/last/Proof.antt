@@ -1,7 +1,7 @@
 use mathlib.Core.Path.{refl}
 use native.Mathlib.Omega.{arith}
 use Rattle.clause_places.proofs.Numbers.{number-fits}
-use Rattle.clause_places.proofs.RowPlaces.{last-is, last-adds}
+use Rattle.clause_places.proofs.BlockPlaces.{last-is, last-adds}
 use borrow.Author.Needs.{needs}
 use Rattle.clause_places.proofs.last.Statement.{statement}
 use Rattle.clause_places.proofs.last.Tie as tie

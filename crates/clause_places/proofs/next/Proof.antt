@@ -6,11 +6,11 @@ use Rattle.clause_places.proofs.next.Tie as tie
 add-t9 : tie.Need-add-t9
 add-t9 c = omega (arith, c .before .before .before .before .before .before .before .pre .2, number-fits (c .before .before .before .before .before .before .before .pre .0))
 
-seek-requires : tie.Need-seek-requires
-seek-requires c κs = (c .before .before .before .before .before .before .before .pre .0, place-in (c .before .before .before .before .before .before .before .pre .0) (c .before .before .before .before .before .before .before .pre .1) (c .before .before .before .before .before .before .before .pre .2))
+next-coordinates-requires : tie.Need-next-coordinates-requires
+next-coordinates-requires c κs = (c .before .before .before .before .before .before .before .pre .0, place-in (c .before .before .before .before .before .before .before .pre .0) (c .before .before .before .before .before .before .before .pre .1) (c .before .before .before .before .before .before .before .pre .2))
 
 returns : tie.Need-returns
-returns c = follows (c .before .before .before .before .before .before .before .before .pre .0) (c .before .before .before .before .before .before .before .before .pre .1) (c .before .before .before .before .before .before .before .before .pre .2) (c .seek .ensures)
+returns c = follows (c .before .before .before .before .before .before .before .before .pre .0) (c .before .before .before .before .before .before .before .before .pre .1) (c .before .before .before .before .before .before .before .before .pre .2) (c .next-coordinates .ensures)
 
 pub next-spec : {M : Type 1} → statement M
-next-spec = tie.close (tie.spec add-t9 seek-requires returns)
+next-spec = tie.close (tie.spec add-t9 next-coordinates-requires returns)

@@ -1,43 +1,43 @@
 use native.Mathlib.Omega.{arith}
 use borrow.Author.Needs.{needs}
-use Rattle.clause_places.proofs.HeadRow.{head-row-asks, head-row-onward}
-use Rattle.clause_places.proofs.Steps.{row-adds, row-at, row-onward, item-adds, item-onward, group-onward}
+use Rattle.clause_places.proofs.HeadBlock.{head-block-asks, head-block-onward}
+use Rattle.clause_places.proofs.Steps.{block-adds, block-at, block-onward, item-adds, item-onward, group-onward}
 use Rattle.clause_table_laws.proofs.Elements.{bounded}
 use Rattle.clause_places.proofs.step.Statement.{statement}
 use Rattle.clause_places.proofs.step.Tie as tie
 
-head-row-requires : tie.Need-head-row-requires
-head-row-requires c κs = head-row-asks (c .before .before .before .before .before .before .before .before .before .pre .0) (c .before .before .before .before .before .before .before .before .before .pre .1) (c .before .before .before .before .before .before .before .before .before .pre .2) (c .before .if1 .taken) (c .if2 .taken)
+head-block-requires : tie.Need-head-block-requires
+head-block-requires c κs = head-block-asks (c .before .before .before .before .before .before .before .before .before .pre .0) (c .before .before .before .before .before .before .before .before .before .pre .1) (c .before .before .before .before .before .before .before .before .before .pre .2) (c .before .if1 .taken) (c .if2 .taken)
 
 returns : tie.Need-returns
-returns c = head-row-onward (c .before .before .before .before .before .before .before .before .before .before .pre .0) (c .before .before .before .before .before .before .before .before .before .before .pre .1) (c .before .before .before .before .before .before .before .before .before .before .pre .2) (c .before .before .if1 .taken) (c .before .if2 .taken) (c .head-row .ensures)
+returns c = head-block-onward (c .before .before .before .before .before .before .before .before .before .before .pre .0) (c .before .before .before .before .before .before .before .before .before .before .pre .1) (c .before .before .before .before .before .before .before .before .before .before .pre .2) (c .before .before .if1 .taken) (c .before .if2 .taken) (c .head-block .ensures)
 
 add-i : tie.Need-add-i
-add-i c = omega (arith, row-adds (c .before .before .before .before .before .before .before .before .before .before .pre .0) (c .before .before .before .before .before .before .before .before .before .before .pre .1) (c .before .before .before .before .before .before .before .before .before .before .pre .2) (c .before .before .if1 .taken))
+add-i c = omega (arith, block-adds (c .before .before .before .before .before .before .before .before .before .before .pre .0) (c .before .before .before .before .before .before .before .before .before .before .pre .1) (c .before .before .before .before .before .before .before .before .before .before .pre .2) (c .before .before .if1 .taken))
 
 size-requires : tie.Need-size-requires
-size-requires c κs = (c .before .before .before .before .before .before .before .before .before .before .pre .0, row-at (c .before .before .before .before .before .before .before .before .before .before .pre .0) (c .before .before .before .before .before .before .before .before .before .before .pre .1) (c .before .before .before .before .before .before .before .before .before .before .pre .2) (c .before .before .if1 .taken))
+size-requires c κs = (c .before .before .before .before .before .before .before .before .before .before .pre .0, block-at (c .before .before .before .before .before .before .before .before .before .before .pre .0) (c .before .before .before .before .before .before .before .before .before .before .pre .1) (c .before .before .before .before .before .before .before .before .before .before .pre .2) (c .before .before .if1 .taken))
 
 sub-t15 : tie.Need-sub-t15
 sub-t15 c = search needs
 
 returns-2 : tie.Need-returns-2
-returns-2 c = row-onward (c .before .before .before .before .before .before .before .before .before .before .before .before .pre .0) (c .before .before .before .before .before .before .before .before .before .before .before .before .pre .1) (c .before .before .before .before .before .before .before .before .before .before .before .before .pre .2) (c .before .before .before .before .if1 .taken) (c .before .size .ensures)
+returns-2 c = block-onward (c .before .before .before .before .before .before .before .before .before .before .before .before .pre .0) (c .before .before .before .before .before .before .before .before .before .before .before .before .pre .1) (c .before .before .before .before .before .before .before .before .before .before .before .before .pre .2) (c .before .before .before .before .if1 .taken) (c .before .size .ensures)
 
 add-t16 : tie.Need-add-t16
 add-t16 c = omega (arith, item-adds (c .before .before .before .before .before .before .before .before .before .before .pre .0) (c .before .before .before .before .before .before .before .before .before .before .pre .1) (c .before .before .before .before .before .before .before .before .before .before .pre .2) (c .before .before .if1 .left) (c .if3 .taken))
 
-rows-requires : tie.Need-rows-requires
-rows-requires c κs = bounded _ _ _ _ _ _ _ _ (c .before .before .before .before .before .before .before .before .before .before .pre .0)
+block-count-requires : tie.Need-block-count-requires
+block-count-requires c κs = bounded _ _ _ _ _ _ _ _ (c .before .before .before .before .before .before .before .before .before .before .pre .0)
 
 sub-t18 : tie.Need-sub-t18
 sub-t18 c = search needs
 
 returns-3 : tie.Need-returns-3
-returns-3 c = item-onward (c .before .before .before .before .before .before .before .before .before .before .before .before .pre .0) (c .before .before .before .before .before .before .before .before .before .before .before .before .pre .1) (c .before .before .before .before .before .before .before .before .before .before .before .before .pre .2) (c .before .before .before .before .if1 .left) (c .before .before .if3 .taken) (c .before .rows .ensures)
+returns-3 c = item-onward (c .before .before .before .before .before .before .before .before .before .before .before .before .pre .0) (c .before .before .before .before .before .before .before .before .before .before .before .before .pre .1) (c .before .before .before .before .before .before .before .before .before .before .before .before .pre .2) (c .before .before .before .before .if1 .left) (c .before .before .if3 .taken) (c .before .block-count .ensures)
 
-add-entered : tie.Need-add-entered
-add-entered c = omega (arith, c .before .before .before .before .before .before .before .before .before .before .pre .1 .group-in)
+add-group-start : tie.Need-add-group-start
+add-group-start c = omega (arith, c .before .before .before .before .before .before .before .before .before .before .pre .1 .group-in)
 
 add-items : tie.Need-add-items
 add-items c = omega (arith, c .before .before .before .before .before .before .before .before .before .before .pre .1 .group-in)
@@ -45,28 +45,28 @@ add-items c = omega (arith, c .before .before .before .before .before .before .b
 items-requires : tie.Need-items-requires
 items-requires c κs = search needs
 
-entered-requires : tie.Need-entered-requires
-entered-requires c κs = search needs
+group-start-requires : tie.Need-group-start-requires
+group-start-requires c κs = search needs
 
 returns-4 : tie.Need-returns-4
-returns-4 c = group-onward (c .before .before .before .before .before .before .before .before .before .before .before .before .pre .0) (c .before .before .before .before .before .before .before .before .before .before .before .before .pre .1) (c .before .before .before .before .before .before .before .before .before .before .before .before .pre .2) (c .before .before .before .before .before .before .before .before .before .before .before .before .pre .3) (c .before .before .before .before .if1 .left) (c .before .before .if3 .left) (c .before .items .ensures) (c .entered .ensures)
+returns-4 c = group-onward (c .before .before .before .before .before .before .before .before .before .before .before .before .pre .0) (c .before .before .before .before .before .before .before .before .before .before .before .before .pre .1) (c .before .before .before .before .before .before .before .before .before .before .before .before .pre .2) (c .before .before .before .before .before .before .before .before .before .before .before .before .pre .3) (c .before .before .before .before .if1 .left) (c .before .before .if3 .left) (c .before .items .ensures) (c .group-start .ensures)
 
 pub step-spec : {M : Type 1} → statement M
 step-spec =
     tie.close
     (tie.spec
-    head-row-requires
+    head-block-requires
     returns
     add-i
     size-requires
     sub-t15
     returns-2
     add-t16
-    rows-requires
+    block-count-requires
     sub-t18
     returns-3
-    add-entered
+    add-group-start
     add-items
     items-requires
-    entered-requires
+    group-start-requires
     returns-4)

@@ -3,11 +3,11 @@ use borrow.Author.Needs.{needs}
 use Rattle.clause_runs.proofs.put_some.Statement.{statement}
 use Rattle.clause_runs.proofs.put_some.Tie as tie
 
-is-rowed-requires : tie.Need-is-rowed-requires
-is-rowed-requires c κs = search needs
+is-blockwise-requires : tie.Need-is-blockwise-requires
+is-blockwise-requires c κs = search needs
 
-put-whole-row-requires : tie.Need-put-whole-row-requires
-put-whole-row-requires c κs = (c .before .before .before .before .before .before .before .before .before .before .before .before .before .pre .0, c .before .before .before .before .before .before .before .before .before .before .before .before .before .pre .1, c .before .before .before .before .before .before .before .before .before .before .before .before .before .pre .2, sym (c .before .before .is-rowed .ensures) ∙ c .before .if3 .taken, c .before .before .before .if2 .taken, c .before .before .before .before .before .if1 .taken)
+put-whole-block-requires : tie.Need-put-whole-block-requires
+put-whole-block-requires c κs = (c .before .before .before .before .before .before .before .before .before .before .before .before .before .pre .0, c .before .before .before .before .before .before .before .before .before .before .before .before .before .pre .1, c .before .before .before .before .before .before .before .before .before .before .before .before .before .pre .2, sym (c .before .before .is-blockwise .ensures) ∙ c .before .if3 .taken, c .before .before .before .if2 .taken, c .before .before .before .before .before .if1 .taken)
 
 same-length : tie.Need-same-length
 same-length c = search needs
@@ -28,8 +28,8 @@ pub put-some-spec : {M : Type 1} → statement M
 put-some-spec =
     tie.close
     (tie.spec
-    is-rowed-requires
-    put-whole-row-requires
+    is-blockwise-requires
+    put-whole-block-requires
     same-length
     returns
     put-one-requires

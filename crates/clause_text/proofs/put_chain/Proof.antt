@@ -1,5 +1,5 @@
 use Rattle.clause_text.proofs.ChainLine.{chain-fits, chain-next, chain-room, chain-end}
-use Rattle.clause_text.specs.Lines.{literalsIn, shown}
+use Rattle.clause_text.specs.Lines.{literalsIn, shownLiteral}
 use Rattle.digits.proofs.Begins.{Begins, begins-none, begins-more, begins-room, begins-tail, begins-sum, begins-whole}
 use Rattle.clause_walk.specs.Walk.{chainSlot}
 use Rattle.digits.specs.Bytes.{literalsText}
@@ -14,7 +14,7 @@ use Rattle.clause_text.proofs.put_chain.Statement.{statement}
 use Rattle.clause_text.proofs.put_chain.Tie as tie
 
 abbrev Inv-loop : tie.InvT-loop
-Inv-loop c i y buf₀ k l₀ end₀ buf l end = (l ≤ k) × Begins buf₀ buf (literalsText (each l (λ l. shown (chainSlot (c .z .0) (c .x .0) (c .y .0) (c .g .0) i y l)))) end
+Inv-loop c i y buf₀ k l₀ end₀ buf l end = (l ≤ k) × Begins buf₀ buf (literalsText (each l (λ l. shownLiteral (chainSlot (c .z .0) (c .x .0) (c .y .0) (c .g .0) i y l)))) end
 
 abbrev μ-loop : tie.MeasureT-loop
 μ-loop c i y buf₀ k l₀ end₀ buf l end = k - l

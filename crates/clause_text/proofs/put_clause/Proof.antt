@@ -21,20 +21,20 @@ Inv-loop t heads starts bodies before partners owners g a i y buf₀ k l₀ to�
 abbrev μ-loop : tie.MeasureT-loop
 μ-loop t heads starts bodies before partners owners g a i y buf₀ k l₀ to₀ buf l to = k - l
 
-chain-at-requires : tie.Need-chain-at-requires Inv-loop μ-loop
-chain-at-requires c κs = (c .before .before .before .before .before .before .before .before .pre .0, c .before .before .before .before .before .before .before .before .pre .1 .row-at)
+chain-of-block-requires : tie.Need-chain-of-block-requires Inv-loop μ-loop
+chain-of-block-requires c κs = (c .before .before .before .before .before .before .before .before .pre .0, c .before .before .before .before .before .before .before .before .pre .1 .block-at)
 
 chain-bit-requires : tie.Need-chain-bit-requires Inv-loop μ-loop
 chain-bit-requires c κs = search needs
 
 put-chain-requires : tie.Need-put-chain-requires Inv-loop μ-loop
-put-chain-requires c κs = chain-asks (c .before .before .before .before .before .before .before .before .before .before .before .pre .0) (c .before .before .before .before .before .before .before .before .before .before .before .pre .1) (c .before .before .before .if1 .taken) (c .before .before .chain-at .ensures) (c .before .chain-bit .ensures) (c .before .before .before .before .before .before .before .before .before .before .before .pre .2)
+put-chain-requires c κs = chain-asks (c .before .before .before .before .before .before .before .before .before .before .before .pre .0) (c .before .before .before .before .before .before .before .before .before .before .before .pre .1) (c .before .before .before .if1 .taken) (c .before .before .chain-of-block .ensures) (c .before .chain-bit .ensures) (c .before .before .before .before .before .before .before .before .before .before .before .pre .2)
 
 same-length : tie.Need-same-length Inv-loop μ-loop
 same-length c = search needs
 
 returns : tie.Need-returns Inv-loop μ-loop
-returns c = chain-put (c .before .before .before .before .before .before .before .before .before .before .before .before .before .before .pre .0) (c .before .before .before .before .before .before .before .before .before .before .before .before .before .before .pre .1) (c .before .before .before .before .before .before .if1 .taken) (c .before .before .before .before .before .chain-at .ensures) (c .before .before .before .before .chain-bit .ensures) (now (c .before .before .before .before .before .before .before .before .before .before .before .before .before .before .args .buf)) (c .before .before .put-chain .ensures)
+returns c = chain-put (c .before .before .before .before .before .before .before .before .before .before .before .before .before .before .pre .0) (c .before .before .before .before .before .before .before .before .before .before .before .before .before .before .pre .1) (c .before .before .before .before .before .before .if1 .taken) (c .before .before .before .before .before .chain-of-block .ensures) (c .before .before .before .before .chain-bit .ensures) (now (c .before .before .before .before .before .before .before .before .before .before .before .before .before .before .args .buf)) (c .before .before .put-chain .ensures)
 
 slots-requires : tie.Need-slots-requires Inv-loop μ-loop
 slots-requires c κs = (c .before .before .before .before .before .before .before .before .pre .0, c .before .before .before .before .before .before .before .before .pre .1)
@@ -99,7 +99,7 @@ put-clause-spec =
     (tie.spec
     Inv-loop
     μ-loop
-    chain-at-requires
+    chain-of-block-requires
     chain-bit-requires
     put-chain-requires
     same-length

@@ -18,20 +18,20 @@ loop-holds c = (search needs, λ i h. absurd (omega (arith, h)))
 wide-requires : tie.Need-wide-requires Inv-loop μ-loop
 wide-requires c κs = search needs
 
-shared-slice-read-unlike : tie.Need-shared-slice-read-unlike Inv-loop μ-loop
-shared-slice-read-unlike c = omega (arith, c .before .before .before .before .before .before .pre .0, c .before .if1 .taken, c .before .before .wide .ensures)
+shared-slice-read-differ-in-zero : tie.Need-shared-slice-read-differ-in-zero Inv-loop μ-loop
+shared-slice-read-differ-in-zero c = omega (arith, c .before .before .before .before .before .before .pre .0, c .before .if1 .taken, c .before .before .wide .ensures)
 
-shared-slice-read-unlike-2 : tie.Need-shared-slice-read-unlike-2 Inv-loop μ-loop
-shared-slice-read-unlike-2 c = omega (arith, c .before .before .before .before .before .before .before .pre .1, c .before .before .if1 .taken, c .before .before .before .wide .ensures)
+shared-slice-read-differ-in-zero-2 : tie.Need-shared-slice-read-differ-in-zero-2 Inv-loop μ-loop
+shared-slice-read-differ-in-zero-2 c = omega (arith, c .before .before .before .before .before .before .before .pre .1, c .before .before .if1 .taken, c .before .before .before .wide .ensures)
 
-unlike-requires : tie.Need-unlike-requires Inv-loop μ-loop
-unlike-requires c κs = search needs
+differ-in-zero-requires : tie.Need-differ-in-zero-requires Inv-loop μ-loop
+differ-in-zero-requires c κs = search needs
 
 add-result : tie.Need-add-result Inv-loop μ-loop
 add-result c = search needs
 
 returns : tie.Need-returns Inv-loop μ-loop
-returns c = unlike-here (now (c .before .before .before .before .before .before .before .before .before .args .set)) (now (c .before .before .before .before .before .before .before .before .before .args .levels)) _ _ (c .before .before .before .before .before .before .loop .inv .1) (omega (arith, c .before .before .before .before .if1 .taken, c .before .before .before .before .before .wide .ensures)) (c .before .unlike .ensures) (c .if2 .taken)
+returns c = unlike-here (now (c .before .before .before .before .before .before .before .before .before .args .set)) (now (c .before .before .before .before .before .before .before .before .before .args .levels)) _ _ (c .before .before .before .before .before .before .loop .inv .1) (omega (arith, c .before .before .before .before .if1 .taken, c .before .before .before .before .before .wide .ensures)) (c .before .differ-in-zero .ensures) (c .if2 .taken)
 
 add-a : tie.Need-add-a Inv-loop μ-loop
 add-a c = search needs
@@ -40,7 +40,7 @@ loop-less : tie.Need-loop-less Inv-loop μ-loop
 loop-less c = omega (arith, c .before .before .before .before .if1 .taken, c .before .before .before .before .before .wide .ensures)
 
 loop-again : tie.Need-loop-again Inv-loop μ-loop
-loop-again c = (omega (arith, c .before .before .before .before .if1 .taken, c .before .before .before .before .before .wide .ensures), alike-more (now (c .before .before .before .before .before .before .before .before .before .args .set)) (now (c .before .before .before .before .before .before .before .before .before .args .levels)) _ (c .before .before .before .before .before .before .loop .inv .1) (c .before .unlike .ensures) (c .if2 .left))
+loop-again c = (omega (arith, c .before .before .before .before .if1 .taken, c .before .before .before .before .before .wide .ensures), alike-more (now (c .before .before .before .before .before .before .before .before .before .args .set)) (now (c .before .before .before .before .before .before .before .before .before .args .levels)) _ (c .before .before .before .before .before .before .loop .inv .1) (c .before .differ-in-zero .ensures) (c .if2 .left))
 
 returns-2 : tie.Need-returns-2 Inv-loop μ-loop
 returns-2 c = unlike-nowhere (now (c .before .before .before .before .before .args .set)) (now (c .before .before .before .before .before .args .levels)) _ _ (c .before .before .loop .inv .1) (omega (arith, c .if1 .left, c .before .wide .ensures))
@@ -53,9 +53,9 @@ first-difference-spec =
     μ-loop
     loop-holds
     wide-requires
-    shared-slice-read-unlike
-    shared-slice-read-unlike-2
-    unlike-requires
+    shared-slice-read-differ-in-zero
+    shared-slice-read-differ-in-zero-2
+    differ-in-zero-requires
     add-result
     returns
     add-a

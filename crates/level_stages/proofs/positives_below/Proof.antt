@@ -1,4 +1,4 @@
-use Rattle.level_stages.specs.Levels.{levelAt}
+use Rattle.level_stages.specs.Levels.{levelByte}
 use lib.Dec.{ltb}
 use Rattle.lists.specs.Lists.{all}
 use denote.Ref.{now}
@@ -30,7 +30,7 @@ all-below-requires : tie.Need-all-below-requires
 all-below-requires c κs = positives-asked (c .before .before .before .before .before .before .before .before .before .before .pre .0) (c .before .before .before .before .before .before .before .before .before .before .args .r) (c .before .before .before .before .before .before .before .before .before .before .pre .1) (c .before .before .before .before .before .before .before .before .before .before .pre .2) (now (c .before .before .before .before .before .before .before .before .before .before .args .bytes)) (c .before .before .before .before .before .before .before .before .before .before .pre .3) (positive-part (c .before .before .before .before .before .before .before .before .before .before .pre .0) (c .before .before .before .before .before .before .before .before .before .before .args .r) (c .before .before .before .before .before .before .before .before .before .before .pre .1) (c .before .before .before .before .before .before .before .before .before .before .pre .2) (c .before .before .list-start .ensures) (c .before .list-start2 .ensures))
 
 returns : tie.Need-returns
-returns c = c .all-below .ensures ∙ ap (all (λ b. ltb (levelAt (now (c .before .before .before .before .before .before .before .before .before .before .before .args .bytes)) b) (c .before .before .before .before .before .before .before .before .before .before .before .args .y))) (positive-part (c .before .before .before .before .before .before .before .before .before .before .before .pre .0) (c .before .before .before .before .before .before .before .before .before .before .before .args .r) (c .before .before .before .before .before .before .before .before .before .before .before .pre .1) (c .before .before .before .before .before .before .before .before .before .before .before .pre .2) (c .before .before .before .list-start .ensures) (c .before .before .list-start2 .ensures) .list-is)
+returns c = c .all-below .ensures ∙ ap (all (λ b. ltb (levelByte (now (c .before .before .before .before .before .before .before .before .before .before .before .args .bytes)) b) (c .before .before .before .before .before .before .before .before .before .before .before .args .y))) (positive-part (c .before .before .before .before .before .before .before .before .before .before .before .pre .0) (c .before .before .before .before .before .before .before .before .before .before .before .args .r) (c .before .before .before .before .before .before .before .before .before .before .before .pre .1) (c .before .before .before .before .before .before .before .before .before .before .before .pre .2) (c .before .before .before .list-start .ensures) (c .before .before .list-start2 .ensures) .list-is)
 
 pub positives-below-spec : {M : Type 1} → statement M
 positives-below-spec =

@@ -1,4 +1,4 @@
-use Rattle.reader_work.specs.Work.{valueOf}
+use Rattle.reader_work.specs.Work.{valueAfter}
 use borrow.Author.Tests.{eq-eqb, ne-eqb}
 use borrow.Author.Needs.{needs}
 use Rattle.reader_work.proofs.value_after.Statement.{statement}
@@ -8,18 +8,18 @@ grown-requires : tie.Need-grown-requires
 grown-requires c κs = search needs
 
 returns : tie.Need-returns
-unfolding valueOf
+unfolding valueAfter
 returns c = simp (eq-eqb _ _ (c .before .if1 .taken)) (c .grown .ensures)
 
 grown-requires-2 : tie.Need-grown-requires-2
 grown-requires-2 c κs = search needs
 
 returns-2 : tie.Need-returns-2
-unfolding valueOf
+unfolding valueAfter
 returns-2 c = simp (ne-eqb _ _ (c .before .before .if1 .left), eq-eqb _ _ (c .before .if2 .taken)) (c .grown2 .ensures)
 
 returns-3 : tie.Need-returns-3
-unfolding valueOf
+unfolding valueAfter
 returns-3 c = simp (ne-eqb _ _ (c .before .if1 .left), ne-eqb _ _ (c .if2 .left))
 
 pub value-after-spec : {M : Type 1} → statement M

@@ -13,12 +13,12 @@ returns-2 : tie.Need-returns-2
 unfolding workOf workHeads workStarts workBodies
 returns-2 c = simp (le-ltb _ _ (c .before .before .if1 .left), ne-eqb _ _ (c .if2 .taken)) (refl, (refl, (refl, refl)))
 
-number-ended-requires : tie.Need-number-ended-requires
-number-ended-requires c κs = search needs
+end-number-requires : tie.Need-end-number-requires
+end-number-requires c κs = search needs
 
 returns-3 : tie.Need-returns-3
 unfolding workOf workHeads workStarts workBodies
-returns-3 c = simp (le-ltb _ _ (c .before .before .before .before .before .before .if1 .left), eq-eqb _ _ (c .before .before .before .before .if2 .left), eq-eqb _ _ (c .before .before .before .if3 .taken)) (c .number-ended .ensures .0, (c .number-ended .ensures .1 .0, (refl, c .number-ended .ensures .1 .1)))
+returns-3 c = simp (le-ltb _ _ (c .before .before .before .before .before .before .if1 .left), eq-eqb _ _ (c .before .before .before .before .if2 .left), eq-eqb _ _ (c .before .before .before .if3 .taken)) (c .end-number .ensures .0, (c .end-number .ensures .1 .0, (refl, c .end-number .ensures .1 .1)))
 
 bracket-requires : tie.Need-bracket-requires
 bracket-requires c κs = search needs
@@ -30,4 +30,4 @@ returns-4 c = simp (le-ltb _ _ (c .before .before .before .before .before .if1 .
 pub work-spec : {M : Type 1} → statement M
 work-spec =
     tie.close
-    (tie.spec returns returns-2 number-ended-requires returns-3 bracket-requires returns-4)
+    (tie.spec returns returns-2 end-number-requires returns-3 bracket-requires returns-4)

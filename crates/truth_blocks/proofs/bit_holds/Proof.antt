@@ -1,8 +1,8 @@
 use denote.Ref.{now}
 use mathlib.Core.Path.{sym, _∙_, ap}
-use Rattle.truth_blocks.specs.Rows.{bitTrue}
+use Rattle.truth_blocks.specs.Blocks.{bitTrue}
 use Rattle.truth_blocks.specs.Values.{valueIn}
-use Rattle.truth_blocks.proofs.RowLaws.{further-bit, further-in}
+use Rattle.truth_blocks.proofs.BlockLaws.{further-bit, further-in}
 use borrow.Author.Needs.{needs}
 use Rattle.truth_blocks.proofs.bit_holds.Statement.{statement}
 use Rattle.truth_blocks.proofs.bit_holds.Tie as tie

@@ -1,6 +1,6 @@
 use denote.Ref.{now}
 use Rattle.truth_blocks.specs.Values.{valueIn}
-use Rattle.truth_blocks.proofs.RowLaws.{first-bit}
+use Rattle.truth_blocks.proofs.BlockLaws.{first-bit}
 use borrow.Author.Needs.{needs}
 use Rattle.truth_blocks.proofs.first_bit_holds.Statement.{statement}
 use Rattle.truth_blocks.proofs.first_bit_holds.Tie as tie

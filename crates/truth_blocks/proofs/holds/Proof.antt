@@ -8,28 +8,28 @@ use Rattle.truth_blocks.proofs.holds.Tie as tie
 magnitude-requires : tie.Need-magnitude-requires
 magnitude-requires c κs = search needs
 
-cast-value-of : tie.Need-cast-value-of
-cast-value-of c = search needs
+cast-is-true : tie.Need-cast-is-true
+cast-is-true c = search needs
 
-value-of-requires : tie.Need-value-of-requires
-value-of-requires c κs = place-asks (now (c .before .before .args .assignment)) (toZ-ofZ (c .before .before .fits .x)) (c .magnitude .ensures) (c .before .before .pre .1) (c .before .before .pre .2)
+is-true-requires : tie.Need-is-true-requires
+is-true-requires c κs = place-asks (now (c .before .before .args .assignment)) (toZ-ofZ (c .before .before .fits .x)) (c .magnitude .ensures) (c .before .before .pre .1) (c .before .before .pre .2)
 
 is-negative-requires : tie.Need-is-negative-requires
 is-negative-requires c κs = search needs
 
 returns : tie.Need-returns
-returns c = true-negative (now (c .before .before .before .before .before .args .assignment)) _ _ _ _ _ (toZ-ofZ (c .before .before .before .before .before .fits .x)) (c .before .is-negative .ensures) (c .before .before .before .magnitude .ensures) (c .before .before .value-of .ensures) (c .if1 .taken)
+returns c = true-negative (now (c .before .before .before .before .before .args .assignment)) _ _ _ _ _ (toZ-ofZ (c .before .before .before .before .before .fits .x)) (c .before .is-negative .ensures) (c .before .before .before .magnitude .ensures) (c .before .before .is-true .ensures) (c .if1 .taken)
 
 returns-2 : tie.Need-returns-2
-returns-2 c = true-positive (now (c .before .before .before .before .before .args .assignment)) _ _ _ _ _ (toZ-ofZ (c .before .before .before .before .before .fits .x)) (c .before .is-negative .ensures) (c .before .before .before .magnitude .ensures) (c .before .before .value-of .ensures) (c .if1 .left)
+returns-2 c = true-positive (now (c .before .before .before .before .before .args .assignment)) _ _ _ _ _ (toZ-ofZ (c .before .before .before .before .before .fits .x)) (c .before .is-negative .ensures) (c .before .before .before .magnitude .ensures) (c .before .before .is-true .ensures) (c .if1 .left)
 
 pub holds-spec : {M : Type 1} → statement M
 holds-spec =
     tie.close
     (tie.spec
     magnitude-requires
-    cast-value-of
-    value-of-requires
+    cast-is-true
+    is-true-requires
     is-negative-requires
     returns
     returns-2)

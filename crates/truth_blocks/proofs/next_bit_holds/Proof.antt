@@ -1,7 +1,7 @@
 use denote.Ref.{now}
 use native.Mathlib.Omega.{arith}
 use Rattle.truth_blocks.specs.Values.{valueIn}
-use Rattle.truth_blocks.proofs.RowLaws.{next-bit}
+use Rattle.truth_blocks.proofs.BlockLaws.{next-bit}
 use borrow.Author.Needs.{needs}
 use Rattle.truth_blocks.proofs.next_bit_holds.Statement.{statement}
 use Rattle.truth_blocks.proofs.next_bit_holds.Tie as tie

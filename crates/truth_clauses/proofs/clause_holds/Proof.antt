@@ -22,8 +22,8 @@ abbrev μ-loop : tie.MeasureT-loop
 slots-requires : tie.Need-slots-requires Inv-loop μ-loop
 slots-requires c κs = (c .before .before .before .before .before .before .before .pre .0, c .before .before .before .before .before .before .before .pre .1)
 
-chain-at-requires : tie.Need-chain-at-requires Inv-loop μ-loop
-chain-at-requires c κs = (c .before .before .before .before .before .before .before .before .pre .0, c .before .before .before .before .before .before .before .before .pre .1 .row-at)
+chain-of-block-requires : tie.Need-chain-of-block-requires Inv-loop μ-loop
+chain-of-block-requires c κs = (c .before .before .before .before .before .before .before .before .pre .0, c .before .before .before .before .before .before .before .before .pre .1 .block-at)
 
 loop-holds : tie.Need-loop-holds Inv-loop μ-loop
 loop-holds c = (search needs, refl)
@@ -32,7 +32,7 @@ add-literal-in : tie.Need-add-literal-in Inv-loop μ-loop
 add-literal-in c = search needs
 
 literal-in-requires : tie.Need-literal-in-requires Inv-loop μ-loop
-literal-in-requires c κs = let q = slot-asks (c .before .before .before .before .before .before .before .before .before .before .before .pre .0) (c .before .before .before .before .before .before .before .before .before .before .before .pre .1) (c .before .before .before .slots .ensures) (c .loop-test .taken) in (q .0, q .1, q .2, q .3, c .before .before .chain-at .ensures)
+literal-in-requires c κs = let q = slot-asks (c .before .before .before .before .before .before .before .before .before .before .before .pre .0) (c .before .before .before .before .before .before .before .before .before .before .before .pre .1) (c .before .before .before .slots .ensures) (c .loop-test .taken) in (q .0, q .1, q .2, q .3, c .before .before .chain-of-block .ensures)
 
 slot-holds-requires : tie.Need-slot-holds-requires Inv-loop μ-loop
 slot-holds-requires c κs = variable-fits (c .before .before .before .before .before .before .before .before .before .before .before .before .pre .0) (c .before .before .before .before .before .before .before .before .before .before .before .before .pre .1) (now (c .before .before .before .before .before .before .before .before .before .before .before .before .args .assignment)) (c .literal-in .result) (c .before .before .before .before .slots .ensures) (c .before .loop-test .taken) (c .literal-in .ensures) (c .before .before .before .before .before .before .before .before .before .before .before .before .pre .2)
@@ -62,7 +62,7 @@ clause-holds-spec =
     Inv-loop
     μ-loop
     slots-requires
-    chain-at-requires
+    chain-of-block-requires
     loop-holds
     add-literal-in
     literal-in-requires

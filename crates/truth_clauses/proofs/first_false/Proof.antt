@@ -4,7 +4,7 @@ use native.Mathlib.Omega.{arith}
 use borrow.Author.Tests.{not-true, not-false}
 use Rattle.clause_tables.specs.Tables.{programIn}
 use Rattle.clause_places.proofs.Numbers.{number-is}
-use Rattle.truth_clauses.proofs.Clauses.{start-asks, begun, clause-asks, clause-passed, clause-false, row-passed, ended}
+use Rattle.truth_clauses.proofs.Clauses.{start-asks, begun, clause-asks, clause-passed, clause-false, block-passed, ended}
 use Rattle.truth_clauses.specs.Standing.{Standing}
 use Rattle.truth_clauses.proofs.first_false.Statement.{statement}
 use Rattle.truth_clauses.proofs.first_false.Tie as tie
@@ -24,35 +24,35 @@ next-requires c κs = let q = start-asks (c .before .before .before .before .bef
 loop-holds : tie.Need-loop-holds Inv-loop μ-loop
 loop-holds c = begun (c .before .before .before .before .before .before .before .before .before .pre .0) (now (c .before .before .before .before .before .before .before .before .before .args .assignment)) (c .before .start .ensures) (c .next .ensures)
 
-through-rows-requires : tie.Need-through-rows-requires Inv-loop μ-loop
-through-rows-requires c κs = (c .before .before .before .before .before .before .before .before .before .before .before .before .before .pre .0, c .before .before .before .loop .inv, c .if1 .taken, c .before .before .before .before .before .before .before .before .before .before .before .before .before .pre .1)
+through-blocks-requires : tie.Need-through-blocks-requires Inv-loop μ-loop
+through-blocks-requires c κs = (c .before .before .before .before .before .before .before .before .before .before .before .before .before .pre .0, c .before .before .before .loop .inv, c .if1 .taken, c .before .before .before .before .before .before .before .before .before .before .before .before .before .pre .1)
 
-row-passes-requires : tie.Need-row-passes-requires Inv-loop μ-loop
-row-passes-requires c κs = (c .before .before .before .before .before .before .before .before .before .before .before .before .before .before .before .before .before .pre .0, clause-asks (c .before .before .before .before .before .before .before .before .before .before .before .before .before .before .before .before .before .pre .0) (now (c .before .before .before .before .before .before .before .before .before .before .before .before .before .before .before .before .before .args .assignment)) (c .before .before .before .through-rows .ensures .0) (c .before .before .before .through-rows .ensures .2) .row-at, c .before .before .before .before .before .before .before .before .before .before .before .before .before .before .before .before .before .pre .1)
+block-passes-requires : tie.Need-block-passes-requires Inv-loop μ-loop
+block-passes-requires c κs = (c .before .before .before .before .before .before .before .before .before .before .before .before .before .before .before .before .before .pre .0, clause-asks (c .before .before .before .before .before .before .before .before .before .before .before .before .before .before .before .before .before .pre .0) (now (c .before .before .before .before .before .before .before .before .before .before .before .before .before .before .before .before .before .args .assignment)) (c .before .before .before .through-blocks .ensures .0) (c .before .before .before .through-blocks .ensures .2) .block-at, c .before .before .before .before .before .before .before .before .before .before .before .before .before .before .before .before .before .pre .1)
 
-past-row-requires : tie.Need-past-row-requires Inv-loop μ-loop
-past-row-requires c κs = (c .before .before .before .before .before .before .before .before .before .before .before .before .before .before .before .before .before .before .before .pre .0, c .before .before .before .before .before .through-rows .ensures .0 .own, c .before .before .before .before .before .through-rows .ensures .2)
+past-block-requires : tie.Need-past-block-requires Inv-loop μ-loop
+past-block-requires c κs = (c .before .before .before .before .before .before .before .before .before .before .before .before .before .before .before .before .before .before .before .pre .0, c .before .before .before .before .before .through-blocks .ensures .0 .own, c .before .before .before .before .before .through-blocks .ensures .2)
 
 loop-less : tie.Need-loop-less Inv-loop μ-loop
-loop-less c = omega (arith, number-is (c .before .before .before .before .before .before .before .before .before .before .before .before .before .before .before .before .before .before .before .before .pre .0) (c .past-row .ensures .0), c .before .before .before .before .before .before .through-rows .ensures .1, c .before .before .before .before .before .before .through-rows .ensures .2, c .before .before .before .before .before .before .before .if1 .taken)
+loop-less c = omega (arith, number-is (c .before .before .before .before .before .before .before .before .before .before .before .before .before .before .before .before .before .before .before .before .pre .0) (c .past-block .ensures .0), c .before .before .before .before .before .before .through-blocks .ensures .1, c .before .before .before .before .before .before .through-blocks .ensures .2, c .before .before .before .before .before .before .before .if1 .taken)
 
 loop-again : tie.Need-loop-again Inv-loop μ-loop
-loop-again c = row-passed (c .before .before .before .before .before .before .before .before .before .before .before .before .before .before .before .before .before .before .before .before .pre .0) (now (c .before .before .before .before .before .before .before .before .before .before .before .before .before .before .before .before .before .before .before .before .args .assignment)) (c .before .before .before .before .before .before .through-rows .ensures .0) (c .before .before .before .before .before .before .through-rows .ensures .2) (c .before .before .before .if2 .taken) (c .before .before .row-passes .ensures) (c .before .if3 .taken) (c .past-row .ensures)
+loop-again c = block-passed (c .before .before .before .before .before .before .before .before .before .before .before .before .before .before .before .before .before .before .before .before .pre .0) (now (c .before .before .before .before .before .before .before .before .before .before .before .before .before .before .before .before .before .before .before .before .args .assignment)) (c .before .before .before .before .before .before .through-blocks .ensures .0) (c .before .before .before .before .before .before .through-blocks .ensures .2) (c .before .before .before .if2 .taken) (c .before .before .block-passes .ensures) (c .before .if3 .taken) (c .past-block .ensures)
 
 clause-holds-requires : tie.Need-clause-holds-requires Inv-loop μ-loop
-clause-holds-requires c κs = (c .before .before .before .before .before .before .before .before .before .before .before .before .before .before .before .before .before .pre .0, clause-asks (c .before .before .before .before .before .before .before .before .before .before .before .before .before .before .before .before .before .pre .0) (now (c .before .before .before .before .before .before .before .before .before .before .before .before .before .before .before .before .before .args .assignment)) (c .before .before .before .through-rows .ensures .0) (c .before .before .before .through-rows .ensures .2), c .before .before .before .before .before .before .before .before .before .before .before .before .before .before .before .before .before .pre .1)
+clause-holds-requires c κs = (c .before .before .before .before .before .before .before .before .before .before .before .before .before .before .before .before .before .pre .0, clause-asks (c .before .before .before .before .before .before .before .before .before .before .before .before .before .before .before .before .before .pre .0) (now (c .before .before .before .before .before .before .before .before .before .before .before .before .before .before .before .before .before .args .assignment)) (c .before .before .before .through-blocks .ensures .0) (c .before .before .before .through-blocks .ensures .2), c .before .before .before .before .before .before .before .before .before .before .before .before .before .before .before .before .before .pre .1)
 
 returns : tie.Need-returns Inv-loop μ-loop
-returns c = clause-false (c .before .before .before .before .before .before .before .before .before .before .before .before .before .before .before .before .before .before .before .pre .0) (now (c .before .before .before .before .before .before .before .before .before .before .before .before .before .before .before .before .before .before .before .args .assignment)) (c .before .before .before .before .before .through-rows .ensures .0) (c .before .before .before .before .before .through-rows .ensures .2) (c .before .clause-holds .ensures) (not-true _ (c .if4 .taken))
+returns c = clause-false (c .before .before .before .before .before .before .before .before .before .before .before .before .before .before .before .before .before .before .before .pre .0) (now (c .before .before .before .before .before .before .before .before .before .before .before .before .before .before .before .before .before .before .before .args .assignment)) (c .before .before .before .before .before .through-blocks .ensures .0) (c .before .before .before .before .before .through-blocks .ensures .2) (c .before .clause-holds .ensures) (not-true _ (c .if4 .taken))
 
 next-requires-2 : tie.Need-next-requires-2 Inv-loop μ-loop
-next-requires-2 c κs = (c .before .before .before .before .before .before .before .before .before .before .before .before .before .before .before .before .before .before .before .pre .0, c .before .before .before .before .before .through-rows .ensures .0 .own, c .before .before .before .before .before .through-rows .ensures .2)
+next-requires-2 c κs = (c .before .before .before .before .before .before .before .before .before .before .before .before .before .before .before .before .before .before .before .pre .0, c .before .before .before .before .before .through-blocks .ensures .0 .own, c .before .before .before .before .before .through-blocks .ensures .2)
 
 loop-less-2 : tie.Need-loop-less-2 Inv-loop μ-loop
-loop-less-2 c = omega (arith, number-is (c .before .before .before .before .before .before .before .before .before .before .before .before .before .before .before .before .before .before .before .before .pre .0) (c .next2 .ensures), c .before .before .before .before .before .before .through-rows .ensures .1, c .before .before .before .before .before .before .through-rows .ensures .2, c .before .before .before .before .before .before .before .if1 .taken)
+loop-less-2 c = omega (arith, number-is (c .before .before .before .before .before .before .before .before .before .before .before .before .before .before .before .before .before .before .before .before .pre .0) (c .next2 .ensures), c .before .before .before .before .before .before .through-blocks .ensures .1, c .before .before .before .before .before .before .through-blocks .ensures .2, c .before .before .before .before .before .before .before .if1 .taken)
 
 loop-again-2 : tie.Need-loop-again-2 Inv-loop μ-loop
-loop-again-2 c = clause-passed (c .before .before .before .before .before .before .before .before .before .before .before .before .before .before .before .before .before .before .before .before .pre .0) (now (c .before .before .before .before .before .before .before .before .before .before .before .before .before .before .before .before .before .before .before .before .args .assignment)) (c .before .before .before .before .before .before .through-rows .ensures .0) (c .before .before .before .before .before .before .through-rows .ensures .2) (c .before .before .clause-holds .ensures) (not-false _ (c .before .if4 .left)) (c .next2 .ensures)
+loop-again-2 c = clause-passed (c .before .before .before .before .before .before .before .before .before .before .before .before .before .before .before .before .before .before .before .before .pre .0) (now (c .before .before .before .before .before .before .before .before .before .before .before .before .before .before .before .before .before .before .before .before .args .assignment)) (c .before .before .before .before .before .before .through-blocks .ensures .0) (c .before .before .before .before .before .before .through-blocks .ensures .2) (c .before .before .clause-holds .ensures) (not-false _ (c .before .if4 .left)) (c .next2 .ensures)
 
 returns-2 : tie.Need-returns-2 Inv-loop μ-loop
 returns-2 c = ended (c .before .before .before .before .before .before .before .before .before .before .before .before .before .pre .0) (now (c .before .before .before .before .before .before .before .before .before .before .before .before .before .args .assignment)) (c .before .before .before .loop .inv) (c .if1 .left)
@@ -66,9 +66,9 @@ first-false-spec =
     start-requires
     next-requires
     loop-holds
-    through-rows-requires
-    row-passes-requires
-    past-row-requires
+    through-blocks-requires
+    block-passes-requires
+    past-block-requires
     loop-less
     loop-again
     clause-holds-requires

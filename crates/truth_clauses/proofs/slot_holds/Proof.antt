@@ -11,14 +11,14 @@ use Rattle.truth_clauses.proofs.slot_holds.Tie as tie
 returns : tie.Need-returns
 returns c = slot-none (now (c .before .before .before .args .assignment)) (c .before .before .before .args .x) (c .if1 .taken)
 
-number-of-requires : tie.Need-number-of-requires
-number-of-requires c κs = search needs
+literal-number-requires : tie.Need-literal-number-requires
+literal-number-requires c κs = search needs
 
 holds-requires : tie.Need-holds-requires
-holds-requires c κs = number-asks (now (c .before .before .before .before .args .assignment)) (c .before .before .before .before .args .x) (c .before .if1 .left) (toZ-ofZ (sfits-of {w = w32} (c .number-of .ok)) ∙ c .number-of .ensures) (search needs) (c .before .before .before .before .pre)
+holds-requires c κs = number-asks (now (c .before .before .before .before .args .assignment)) (c .before .before .before .before .args .x) (c .before .if1 .left) (toZ-ofZ (sfits-of {w = w32} (c .literal-number .ok)) ∙ c .literal-number .ensures) (search needs) (c .before .before .before .before .pre)
 
 returns-2 : tie.Need-returns-2
-returns-2 c = slot-some (now (c .before .before .before .before .before .args .assignment)) (c .before .before .before .before .before .args .x) (c .before .before .if1 .left) (toZ-ofZ (sfits-of {w = w32} (c .before .number-of .ok)) ∙ c .before .number-of .ensures) (c .holds .ensures)
+returns-2 c = slot-some (now (c .before .before .before .before .before .args .assignment)) (c .before .before .before .before .before .args .x) (c .before .before .if1 .left) (toZ-ofZ (sfits-of {w = w32} (c .before .literal-number .ok)) ∙ c .before .literal-number .ensures) (c .holds .ensures)
 
 pub slot-holds-spec : {M : Type 1} → statement M
-slot-holds-spec = tie.close (tie.spec returns number-of-requires holds-requires returns-2)
+slot-holds-spec = tie.close (tie.spec returns literal-number-requires holds-requires returns-2)

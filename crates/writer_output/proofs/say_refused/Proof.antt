@@ -1,4 +1,4 @@
-use Rattle.writer_output.specs.Output.{refusedLine}
+use Rattle.writer_output.specs.Output.{writerRefusalLine}
 use Rattle.reader.specs.declared.ReadVerdict.{ReadVerdict}
 use lib.ListN.{length}
 use mathlib.Core.Path.{_∙_, sym, ap}
@@ -27,7 +27,7 @@ returns c = search needs
 
 -- src/lib.rt:42:1
 returns-2 : tie.Need-returns-2
-returns-2 c = c .say-refusal .ensures ∙ sym (ap (λ (x : ReadVerdict). length (refusedLine x)) (c .before .before .v .given .1))
+returns-2 c = c .say-refusal .ensures ∙ sym (ap (λ (x : ReadVerdict). length (writerRefusalLine x)) (c .before .before .v .given .1))
 
 pub say-refused-spec : {M : Type 1} → statement M
 say-refused-spec =

@@ -1,0 +1,16 @@
+use Rattle.call_results.proofs.Counting.{part-true, part-false}
+use borrow.Author.Needs.{needs}
+use Rattle.call_results.proofs.bit_weight.Statement.{statement}
+use Rattle.call_results.proofs.bit_weight.Tie as tie
+
+is-true-requires : tie.Need-is-true-requires
+is-true-requires c κs = search needs
+
+returns : tie.Need-returns
+returns c = part-true _ _ (c .before .is-true .ensures) (c .if1 .taken)
+
+returns-2 : tie.Need-returns-2
+returns-2 c = part-false _ _ (c .before .is-true .ensures) (c .if1 .left)
+
+pub bit-weight-spec : {M : Type 1} → statement M
+bit-weight-spec = tie.close (tie.spec is-true-requires returns returns-2)

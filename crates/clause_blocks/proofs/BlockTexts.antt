@@ -1,0 +1,212 @@
+-- The blocks of groups 4 and 5, in a program whose tables are given.
+--   bit-block, next-block   the lines of a chain's bit, and of a block of group 4, are those of the walk's block
+--   bit-short               the variables of the bit are from 1 to 9,999
+--   next-block-asks         what `put_next_block` asks
+--   block-put               they are in the buffer
+--   block-short             the lines of a block have at most 3,008 bytes
+-- Assumes nothing.
+use Prim.Native.Nat.{ℕ, zero, suc, _+_, _*_, _≤_, _<_}
+use native.Mathlib.Nat.{suc-mul}
+use native.Mathlib.Omega.{arith}
+use mathlib.Core.Path.{_≡_, refl, sym, _∙_, ap, subst}
+use mathlib.Core.Bool.{Bool, true, false, cond}
+use mathlib.Core.Logic.{_⊎_, inl, inr}
+use mathlib.Core.List.{List, [], _∷_, _++_}
+use lib.Dec.{eqb, ltb}
+use lib.ListN.{length, drop, length-append}
+use borrow.Author.Tests.{eqb-true}
+use Rattle.lists.specs.Lists.{each}
+use Rattle.lists.proofs.Tables.{each-ext}
+use Rattle.meaning.specs.Program.{Program}
+use Rattle.encoding.specs.Literal.{Literal, literalNumber, variable}
+use Rattle.clause_literals.specs.Sizes.{sizesOf, Bounded}
+use Rattle.digits.specs.Bytes.{literalText, literalsText, lineText}
+use Rattle.digits.proofs.Lengths.{literal-fits, literals-append-length, line-length}
+use Rattle.clause_walk.specs.Walk.{size, slots, slot, clauseAt, bitOf, slots4, slot4, chainSize, chainSlots, chainSlot, chainFirst, chainNext, chainBit, BlockAt, At}
+use Rattle.clause_slots.specs.declared.Chain.{Chain}
+use Rattle.clause_slots.specs.Signed.{slotLiteral}
+use Rattle.clause_tables.specs.declared.Totals.{Totals}
+use Rattle.clause_tables.specs.Tables.{Tabled}
+use Rattle.clause_table_laws.proofs.Bounds.{Slotted, empty, holds}
+use Rattle.clause_layout.specs.BlockChain.{chainOfBlock}
+use Rattle.clause_layout.proofs.BlockChains.{literal-pair}
+use Rattle.clause_layout.proofs.Groups.{bounded, atom4, bits4, size-next, size-pair, slots-next, slots-pair, slot-next}
+use Rattle.clause_text.specs.Lines.{shownLiteral, chainClause}
+use Rattle.clause_text.specs.Blocks.{isBlockwise, blockText}
+use Rattle.clause_text.proofs.BlockLaws.{blockwise-is}
+use Rattle.clause_blocks.specs.Texts.{bitText, Short, ShortBit, nextBlockText}
+use Rattle.clause_blocks.proofs.NextBlocks.{nextClause, next-blocks}
+use Rattle.clause_text.proofs.Clause.{slotted}
+use Rattle.clause_text.proofs.ChainLine.{shown-held, chain-clause}
+use Rattle.clause_text.proofs.Held.{number-is}
+
+-- a text, and the lines that it stands for
+pub block-put : (b : List ℕ) {s t : List ℕ} {r : ℕ} {d : List ℕ} → s ≡ t → (r ≡ length s) × (d ≡ s ++ drop r b) → (r ≡ length t) × (d ≡ t ++ drop r b)
+block-put b {r = r} {d = d} e u = subst (λ (t : List ℕ). (r ≡ length t) × (d ≡ t ++ drop r b)) e u
+
+-- ---- lengths
+
+-- lines of at most m bytes each
+lines-short : (F : ℕ → List ℕ) (m k : ℕ) → ((y : ℕ) → y < k → length (F (suc y)) ≤ m) → length (each k F) ≤ k * m
+lines-short F m zero f = omega arith
+lines-short F m (suc k) f =
+    omega (arith, length-append (each k F) (F (suc k)), suc-mul k m, lines-short F m k (λ y h. f y (omega (arith, h))), f k (omega arith))
+
+slot-short : (ls : List Literal) → Slotted ls → length (literalsText ls) ≤ 6
+slot-short ls (empty q) = subst (λ (zs : List Literal). length (literalsText zs) ≤ 6) (sym q) (omega arith)
+slot-short ls (holds x q p h) =
+    subst (λ (zs : List Literal). length (literalsText zs) ≤ 6) (sym q)
+    (omega (
+      arith,
+      literals-append-length (x ∷ []) [],
+      length-append (literalText (literalNumber x) ++ (32 ∷ [])) [],
+      length-append (literalText (literalNumber x)) (32 ∷ []),
+      literal-fits 3 (literalNumber x) (omega (arith, number-is x, h)),
+    ))
+
+module _ {P : Program} {t : Totals} {hs ss bs ks xs ys : List ℕ} (T : Tabled P t hs ss bs ks xs ys) where
+  abbrev w : ℕ
+  w = t .sizes .w
+
+  slots-short : {g a i y : ℕ} → At P w g a i y → (l : ℕ) → l ≤ slots P w g a i y → length (literalsText (each l (slot P w g a i y))) ≤ l * 6
+  slots-short A zero h = omega arith
+  slots-short {g} {a} {i} {y} A (suc l) h =
+      omega (
+        arith,
+        literals-append-length (each l (slot P w g a i y)) (slot P w g a i y (suc l)),
+        slots-short A l (omega (arith, h)),
+        slot-short (slot P w g a i y (suc l)) (slotted T A (suc l) (omega arith) h),
+      )
+
+  module _ {g a i : ℕ} (R : BlockAt P w g a i) where
+    clause-at : (y : ℕ) → y < size P w g a i → At P w g a i (suc y)
+    clause-at y h = record { block-at = R; clause-some = omega arith; clause-in = h }
+
+    -- ---- group 5
+
+    pub bit-block : {c : Chain} {j : ℕ} → g ≡ 5 → c ≡ chainOfBlock P w g a i → j ≡ chainBit w i → bitText c j ≡ blockText P w g a i
+    bit-block {c} {j} e p q =
+        each-ext (chainSize j) (λ y. lineText (chainClause c j y)) (λ y. lineText (clauseAt P w g a i y))
+        (λ y h. ap lineText (chain-clause T (clause-at y (subst (λ (n : ℕ). y < n) many h)) e p q))
+        ∙ ap (λ (n : ℕ). each n (λ y. lineText (clauseAt P w g a i y))) many
+      where
+        many : chainSize j ≡ size P w g a i
+        many = size-pair T R e q refl
+
+    -- a slot of a chain's clause holds a literal
+    slot-some : (y l : ℕ) → g ≡ 5 → slot P w g a i y l ≡ [] → ⊥
+    unfolding slot
+    slot-some y l e r = none (sym (ap (λ (k : ℕ). slot P w k a i y l) e) ∙ r)
+      where
+        none : {x : Literal} → x ∷ [] ≡ [] → ⊥
+        none q = omega (arith, ap length q)
+
+    module _ {c : Chain} {j : ℕ} (e : g ≡ 5) (p : c ≡ chainOfBlock P w g a i) (q : j ≡ chainBit w i) where
+      abbrev literal : ℕ → ℕ → Literal
+      literal y l = chainSlot (c .z .0) (c .x .0) (c .y .0) (c .g .0) j y l
+
+      -- its variable is from 1 to 9,999
+      literal-short : (y l : ℕ) → y < chainSize j → l < chainSlots j (suc y) → Short (variable (literal (suc y) (suc l)))
+      literal-short y l h k = go (slotted T A (suc l) (omega arith) (subst (λ (n : ℕ). l < n) (slots-pair T A e q refl) k))
+        where
+          A : At P w g a i (suc y)
+          A = clause-at y (subst (λ (n : ℕ). y < n) (size-pair T R e q refl) h)
+
+          is : literal (suc y) (suc l) ≡ slotLiteral (slot P w g a i (suc y) (suc l))
+          is = literal-pair T R (suc y) (suc l) e p q refl
+
+          go : Slotted (slot P w g a i (suc y) (suc l)) → Short (variable (literal (suc y) (suc l)))
+          go (empty r) = absurd (slot-some (suc y) (suc l) e r)
+          go (holds z r u v) =
+              record { some = subst (λ (n : ℕ). 0 < n) (sym same) u; fits = omega (arith, v, same) }
+            where
+              same : variable (literal (suc y) (suc l)) ≡ variable z
+              same = ap variable (is ∙ ap slotLiteral r)
+
+      -- by the test for the first bit
+      abbrev named : Bool → ℕ → ℕ → ℕ
+      named d y l = variable (cond d (chainFirst (c .z .0) (c .x .0) (c .y .0) y l) (chainNext (c .z .0) (c .x .0) (c .y .0) (c .g .0) y l))
+
+      pub bit-short : ShortBit c j
+      bit-short = go (eqb j 1) refl
+        where
+          short-at : {d : Bool} → eqb j 1 ≡ d → (y l : ℕ) → y < cond d 3 6 → l < cond d (cond (eqb (suc y) 3) 3 2) 3 → Short (named d (suc y) (suc l))
+          short-at r y l h k =
+              subst (λ (d : Bool). Short (named d (suc y) (suc l))) r
+              (literal-short y l (subst (λ (d : Bool). y < cond d 3 6) (sym r) h) (subst (λ (d : Bool). l < cond d (cond (eqb (suc y) 3) 3 2) 3) (sym r) k))
+
+          go : (d : Bool) → eqb j 1 ≡ d → ShortBit c j
+          go true r =
+              record {
+                short-z = short-at r 0 0 (omega arith) (omega arith);
+                short-x = short-at r 0 1 (omega arith) (omega arith);
+                short-y = short-at r 1 1 (omega arith) (omega arith);
+                short-g = λ f. absurd (f (eqb-true j 1 r));
+              }
+          go false r =
+              record {
+                short-z = short-at r 0 0 (omega arith) (omega arith);
+                short-x = short-at r 0 1 (omega arith) (omega arith);
+                short-y = short-at r 0 2 (omega arith) (omega arith);
+                short-g = λ f. short-at r 1 2 (omega arith) (omega arith);
+              }
+
+    -- ---- group 4
+
+    next-clause : (y : ℕ) → At P w g a i y → g ≡ 4 → nextClause (sizesOf (t .sizes)) a i y ≡ clauseAt P w g a i y
+    next-clause y A e =
+        each-ext (slots4 i y) (λ l. shownLiteral (slot4 (sizesOf (t .sizes)) a i y l)) (slot P w g a i y)
+        (λ l h. ap shownLiteral (slot-next T A (suc l) e refl) ∙ shown-held (slot P w g a i y (suc l)) (slotted T A (suc l) (omega arith) (subst (λ (n : ℕ). suc l ≤ n) many h)))
+        ∙ ap (λ (n : ℕ). each n (slot P w g a i y)) many
+      where
+        many : slots4 i y ≡ slots P w g a i y
+        many = slots-next T A e refl
+
+    pub next-block : g ≡ 4 → nextBlockText (sizesOf (t .sizes)) a i ≡ blockText P w g a i
+    next-block e =
+        sym (next-blocks (t .sizes) (bounded T) a (atom4 T R e) i (R .block-some) (bits4 T R e))
+        ∙ each-ext (2 * i) (λ y. lineText (nextClause (sizesOf (t .sizes)) a i y)) (λ y. lineText (clauseAt P w g a i y))
+        (λ y h. ap lineText (next-clause (suc y) (clause-at y (subst (λ (n : ℕ). y < n) (size-next T R e) h)) e))
+        ∙ ap (λ (n : ℕ). each n (λ y. lineText (clauseAt P w g a i y))) (size-next T R e)
+
+    pub next-block-asks : {n : ℕ} → g ≡ 4 → length (blockText P w g a i) ≤ n
+        → (Bounded (t .sizes)) × (0 < a) × (a ≤ 126) × (0 < i) × (i ≤ 7) × (length (nextBlockText (sizesOf (t .sizes)) a i) ≤ n)
+    next-block-asks {n} e f =
+        (bounded T, R .item-some, atom4 T R e, R .block-some, bits4 T R e, subst (λ (s : List ℕ). length s ≤ n) (sym (next-block e)) f)
+
+    -- ---- the length of a block
+
+    few-clauses : (g ≡ 4) ⊎ (g ≡ 5) → size P w g a i ≤ 14
+    few-clauses (inl e) = omega (arith, size-next T R e, bits4 T R e)
+    few-clauses (inr e) = subst (λ (n : ℕ). n ≤ 14) (size-pair T R e refl refl) (go (eqb (chainBit w i) 1))
+      where
+        go : (d : Bool) → cond d 3 6 ≤ 14
+        go true = omega arith
+        go false = omega arith
+
+    few-slots : (y : ℕ) → At P w g a i y → (g ≡ 4) ⊎ (g ≡ 5) → slots P w g a i y ≤ 8
+    few-slots y A (inl e) = subst (λ (n : ℕ). n ≤ 8) (slots-next T A e refl) (go (ltb (bitOf y) i) (bits4 T R e))
+      where
+        go : (d : Bool) → i ≤ 7 → cond d 3 (suc i) ≤ 8
+        go true h = omega arith
+        go false h = omega (arith, h)
+    few-slots y A (inr e) = subst (λ (n : ℕ). n ≤ 8) (slots-pair T A e refl refl) (go (eqb (chainBit w i) 1) (eqb y 3))
+      where
+        go : (d f : Bool) → cond d (cond f 3 2) 3 ≤ 8
+        go true true = omega arith
+        go true false = omega arith
+        go false f = omega arith
+
+    pub block-short : isBlockwise g ≡ true → length (blockText P w g a i) ≤ 3008
+    block-short e =
+        omega (
+          arith,
+          lines-short (λ y. lineText (clauseAt P w g a i y)) 50 (size P w g a i)
+              (λ y h. omega (
+                arith,
+                line-length (clauseAt P w g a i (suc y)),
+                slots-short (clause-at y h) (slots P w g a i (suc y)) (omega arith),
+                few-slots (suc y) (clause-at y h) (blockwise-is g e),
+              )),
+          few-clauses (blockwise-is g e),
+        )

@@ -1,0 +1,65 @@
+use borrow.Author.Needs.{needs}
+use Prim.Native.Nat.{_-_, _≤_}
+use denote.Ref.{now}
+use mathlib.Core.Path.{refl}
+use native.Mathlib.Omega.{arith}
+use Rattle.digits.proofs.Begins.{Begins, begins-none}
+use Rattle.level_stages.specs.Levels.{setIn}
+use Rattle.level_fill.specs.Values.{truthBytes}
+use Rattle.level_fill.proofs.Families.{atom-row}
+use Rattle.level_fill.proofs.Writes.{put-room, put-next, put-all}
+use Rattle.level_fill.proofs.put_atom_values.Statement.{statement}
+use Rattle.level_fill.proofs.put_atom_values.Tie as tie
+
+abbrev Inv-loop : tie.InvT-loop
+Inv-loop n set buf₀ a₀ buf a = (a ≤ n) × Begins buf₀ buf (truthBytes a (setIn n set)) a
+
+abbrev μ-loop : tie.MeasureT-loop
+μ-loop n set buf₀ a₀ buf a = n - a
+
+loop-holds : tie.Need-loop-holds Inv-loop μ-loop
+loop-holds c = (search needs, begins-none (now (c .before .before .args .buf)))
+
+wide-requires : tie.Need-wide-requires Inv-loop μ-loop
+wide-requires c κs = search needs
+
+shared-slice-read-as-byte : tie.Need-shared-slice-read-as-byte Inv-loop μ-loop
+shared-slice-read-as-byte c = omega (arith, c .before .before .before .before .before .before .pre .0, c .before .if1 .taken, c .before .before .wide .ensures)
+
+as-byte-requires : tie.Need-as-byte-requires Inv-loop μ-loop
+as-byte-requires c κs = search needs
+
+slice-write-buf : tie.Need-slice-write-buf Inv-loop μ-loop
+slice-write-buf c = omega (arith, put-room (now (c .before .before .before .before .before .before .before .args .buf)) (setIn (c .before .before .before .before .before .before .before .args .n) (now (c .before .before .before .before .before .before .before .args .set))) (c .before .before .before .before .before .before .before .args .n) (c .before .before .before .before .loop .a) (omega (arith, c .before .before .if1 .taken, c .before .before .before .wide .ensures)) (c .before .before .before .before .before .before .before .pre .1), c .before .before .before .before .loop .inv .1 .same)
+
+add-a : tie.Need-add-a Inv-loop μ-loop
+add-a c = search needs
+
+loop-less : tie.Need-loop-less Inv-loop μ-loop
+loop-less c = omega (arith, c .before .before .if1 .taken, c .before .before .before .wide .ensures)
+
+loop-again : tie.Need-loop-again Inv-loop μ-loop
+loop-again c = (omega (arith, c .before .before .if1 .taken, c .before .before .before .wide .ensures), put-next (now (c .before .before .before .before .before .before .before .args .buf)) (setIn (c .before .before .before .before .before .before .before .args .n) (now (c .before .before .before .before .before .before .before .args .set))) (c .before .before .before .before .before .before .before .args .n) (omega (arith, c .before .before .if1 .taken, c .before .before .before .wide .ensures)) (c .before .before .before .before .before .before .before .pre .1) refl (atom-row (c .before .before .before .before .before .before .before .args .n) (now (c .before .before .before .before .before .before .before .args .set)) (c .before .before .before .before .loop .a) (omega (arith, c .before .before .if1 .taken, c .before .before .before .wide .ensures)) (c .as-byte .ensures)) (c .before .before .before .before .loop .inv .1))
+
+same-length : tie.Need-same-length Inv-loop μ-loop
+same-length c = c .before .before .loop .inv .1 .same
+
+returns : tie.Need-returns Inv-loop μ-loop
+returns c = put-all (now (c .before .before .before .before .before .args .buf)) (setIn (c .before .before .before .before .before .args .n) (now (c .before .before .before .before .before .args .set))) (c .before .before .before .before .before .args .n) (c .before .before .loop .inv .0) (omega (arith, c .if1 .left, c .before .wide .ensures)) refl (c .before .before .loop .inv .1)
+
+pub put-atom-values-spec : {M : Type 1} → statement M
+put-atom-values-spec =
+    tie.close
+    (tie.spec
+    Inv-loop
+    μ-loop
+    loop-holds
+    wide-requires
+    shared-slice-read-as-byte
+    as-byte-requires
+    slice-write-buf
+    add-a
+    loop-less
+    loop-again
+    same-length
+    returns)
