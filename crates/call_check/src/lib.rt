@@ -1,127 +1,25 @@
 // The check of a solver answer against a program (document 01, "Check and filling out"; document 02, Q-3).
 use answer_reader::Formed;
-use answer_values::Assigned;
-use answer_values::AnswerRead;
-use answer_values::copy_completed;
-use answer_values::fill;
 use answer_values::read_form;
-use call_results::highest_of;
-use call_results::put_counters;
-use call_results::true_count;
+use call_check_judge::assigned;
+use call_check_rows::CheckVerdict;
 use clause_tables::Totals;
 use clause_tabling::pairs_of;
 use clause_tabling::totals_of;
 use program::Program;
 use reader::MAX_TEXT;
-use reader::ReadVerdict;
 use reader::ReadResult;
+use reader::ReadVerdict;
 use reader::read;
 use refusals::CheckRefusal;
-use truth_clauses::first_false;
-ghost use Prim.Native.Nat.{_≤_};
 ghost use mathlib.Core.Path.{_≡_};
-ghost use lib.ListN.{length, take};
+ghost use lib.ListN.{length};
 ghost use Rattle.program.specs.Arrays.{decoded};
 ghost use Rattle.reader.specs.declared.ReadVerdict.the-variants.{Accepted};
 ghost use Rattle.clause_tables.specs.Tables.{Stored, programIn, Ready};
-ghost use Rattle.answer_values.specs.Assign.{completed, overwritten};
-ghost use Rattle.call_check.specs.declared.CheckVerdict.the-variants.{Refused};
+ghost use Rattle.call_check_rows.specs.declared.CheckVerdict.the-variants.{Refused};
 ghost use Rattle.call_results.specs.Results.{programRead};
-ghost use Rattle.call_check.specs.Check.{CheckGives, valuesJudged, outcomeOf, afterAssigning, checkResult, callResult, checkAnswer, checkAssignment, checkLevels};
-
-// How many atoms are true, the highest level, and how many variables the answer left out, which are read as false; or a refusal.
-pub enum CheckVerdict {
-    Model(usize, usize, usize),
-    Refused(CheckRefusal),
-}
-
-// Refuses with r and zeros the values of v variables.
-fn refuse_zeroed(r: CheckRefusal, v: usize, assignment: &mut [u8]) -> CheckVerdict
-    requires { ⌜ v ≤ length (now assignment) ⌝ }
-    ensures { λ x. ⌜ (x ≡ Refused r) × (now (assignment .exit) ≡ overwritten v 0 (now (assignment .entry))) ⌝ }
-{
-    fill(&mut *assignment, v, 0);
-    CheckVerdict::Refused(r)
-}
-
-// Row 16, for the values that stand in the assignment, `assumed` of which are assumed.
-fn judge<'a>(
-    t: Totals,
-    heads: &'a [u16],
-    starts: &'a [u16],
-    bodies: &'a [u16],
-    before: &'a [u16],
-    partners: &'a [u16],
-    owners: &'a [u16],
-    assumed: usize,
-    assignment: &mut [u8],
-    levels: &mut [u8],
-) -> CheckVerdict
-    requires { ⌜ (Ready t (now heads) (now starts) (now bodies) (now before) (now partners) (now owners)) × (t .vars ≤ length (now assignment)) × (t .sizes .n ≤ length (now levels)) ⌝ }
-    ensures { λ r. ⌜ CheckGives (programIn (t .sizes) (now (heads .entry)) (now (starts .entry)) (now (bodies .entry))) (valuesJudged (programIn (t .sizes) (now (heads .entry)) (now (starts .entry)) (now (bodies .entry))) assumed (take (t .vars) (now (assignment .entry)))) r (now (assignment .entry)) (now (assignment .exit)) (now (levels .entry)) (now (levels .exit)) ⌝ }
-{
-    let j = first_false(
-        t,
-        heads,
-        starts,
-        bodies,
-        before,
-        partners,
-        owners,
-        &*assignment,
-    );
-    if 0 < j {
-        return refuse_zeroed(CheckRefusal::FalseClause(j), t.vars, &mut *assignment);
-    }
-    put_counters(t.sizes, &*assignment, &mut *levels);
-    let n = t.sizes.n;
-    CheckVerdict::Model(
-        true_count(n, &*assignment),
-        highest_of(n, &*levels),
-        assumed,
-    )
-}
-
-// Rows 13 and 14, by how the literals of the answer were assigned, then row 16, for the values that they gave, completed.
-fn assigned<'a>(
-    t: Totals,
-    heads: &'a [u16],
-    starts: &'a [u16],
-    bodies: &'a [u16],
-    before: &'a [u16],
-    partners: &'a [u16],
-    owners: &'a [u16],
-    x: AnswerRead,
-    values: &'a [u8],
-    assignment: &mut [u8],
-    levels: &mut [u8],
-) -> CheckVerdict
-    requires { ⌜ (Ready t (now heads) (now starts) (now bodies) (now before) (now partners) (now owners)) × (t .vars ≤ length (now values)) × (t .vars ≤ length (now assignment)) × (t .sizes .n ≤ length (now levels)) ⌝ }
-    ensures { λ r. ⌜ CheckGives (programIn (t .sizes) (now (heads .entry)) (now (starts .entry)) (now (bodies .entry))) (afterAssigning (outcomeOf (x .outcome)) (valuesJudged (programIn (t .sizes) (now (heads .entry)) (now (starts .entry)) (now (bodies .entry))) (x .assumed) (completed (take (t .vars) (now (values .entry)))))) r (now (assignment .entry)) (now (assignment .exit)) (now (levels .entry)) (now (levels .exit)) ⌝ }
-{
-    let o = x.outcome;
-    match o {
-        Assigned::Done => {
-            copy_completed(values, t.vars, &mut *assignment);
-            judge(
-                t,
-                heads,
-                starts,
-                bodies,
-                before,
-                partners,
-                owners,
-                x.assumed,
-                &mut *assignment,
-                &mut *levels,
-            )
-        }
-        Assigned::Stray(s) => { refuse_zeroed(CheckRefusal::StrayVariable(s), t.vars, &mut *assignment) }
-        Assigned::Repeated(s) => {
-            refuse_zeroed(CheckRefusal::RepeatedVariable(s), t.vars, &mut *assignment)
-        }
-    }
-}
+ghost use Rattle.call_check_rows.specs.Check.{CheckGives, checkResult, callResult, checkAnswer, checkAssignment, checkLevels};
 
 // Rows 8 and 10 to 16. The answer has `total` bytes; of one that is not overlong, `answer` is all. Its values are read into an
 // array of the call's own, of the largest V, since refusal 11 writes nothing.

@@ -1,128 +1,19 @@
 // Filling out a proposed set of atoms (document 01, "Check and filling out").
-use call_results::highest_of;
-use call_results::true_count;
+use call_fill_found::fill_founded;
+use call_fill_found::first_bad;
+use call_fill_rows::FillVerdict;
 use clause_tables::Totals;
 use clause_tabling::pairs_of;
 use clause_tabling::totals_of;
-use clause_text::put_word;
-use level_fill::put_filled;
-use level_stages::first_difference;
-use level_stages::stage_levels;
 use program::Program;
 use reader::ReadVerdict;
 use reader::read;
 use refusals::FillRefusal;
-ghost use Prim.Native.Nat.{_≤_};
 ghost use mathlib.Core.Path.{_≡_};
-ghost use mathlib.Core.List.{_++_};
-ghost use lib.ListN.{length, drop};
-ghost use Rattle.lists.specs.Lists.{tab};
-ghost use Rattle.meaning.specs.Stage.{level};
+ghost use lib.ListN.{length};
 ghost use Rattle.program.specs.Arrays.{decoded};
 ghost use Rattle.clause_tables.specs.Tables.{Stored, programIn, Ready};
-ghost use Rattle.level_stages.specs.Levels.{setIn};
-ghost use Rattle.call_fill.specs.FillOut.{firstBad, FillGives, foundedResult, fillResult, fillAnswer, fillAssignment, fillLevels};
-
-// How many atoms are true, and the highest level; or a refusal.
-pub enum FillVerdict {
-    Filled(usize, usize),
-    Refused(FillRefusal),
-}
-
-// The first byte above 1, counted from 1; 0 if there is none.
-fn first_bad(set: &[u8]) -> usize
-    ensures { λ r. ⌜ r ≡ firstBad (now (set .entry)) ⌝ }
-{
-    let mut i: usize = 0;
-    while i < set.len() {
-        if 1 < set[i] {
-            return i + 1;
-        }
-        i += 1;
-    }
-    0
-}
-
-// Row 18, for the atoms whose byte is not 0, by their levels; if it is not met, the assignment and the levels are written.
-fn fill_found<'a>(
-    t: Totals,
-    heads: &'a [u16],
-    starts: &'a [u16],
-    bodies: &'a [u16],
-    before: &'a [u16],
-    partners: &'a [u16],
-    owners: &'a [u16],
-    set: &'a [u8],
-    found: &'a [u8],
-    assignment: &mut [u8],
-    levels: &mut [u8],
-) -> FillVerdict
-    requires { ⌜ (Ready t (now heads) (now starts) (now bodies) (now before) (now partners) (now owners)) × (t .sizes .n ≤ length (now set)) × (now found ≡ tab (t .sizes .n) (level (programIn (t .sizes) (now heads) (now starts) (now bodies)) (setIn (t .sizes .n) (now set))) ++ drop (t .sizes .n) (now found)) × (t .vars ≤ length (now assignment)) × (t .sizes .n ≤ length (now levels)) ⌝ }
-    ensures { λ r. ⌜ FillGives (programIn (t .sizes) (now (heads .entry)) (now (starts .entry)) (now (bodies .entry))) (foundedResult (programIn (t .sizes) (now (heads .entry)) (now (starts .entry)) (now (bodies .entry))) (setIn (t .sizes .n) (now (set .entry)))) r (now (assignment .entry)) (now (assignment .exit)) (now (levels .entry)) (now (levels .exit)) ⌝ }
-{
-    let n = t.sizes.n;
-    let a = first_difference(n, set, found);
-    if 0 < a {
-        return FillVerdict::Refused(FillRefusal::Unfounded(a));
-    }
-    put_filled(
-        t,
-        heads,
-        starts,
-        bodies,
-        before,
-        partners,
-        owners,
-        set,
-        found,
-        &mut *assignment,
-    );
-    put_word(&found[..n as usize], &mut *levels);
-    FillVerdict::Filled(true_count(n, &*assignment), highest_of(n, &*levels))
-}
-
-// Row 18, where the levels are found; if it is not met, the assignment and the levels are written.
-fn fill_founded<'a>(
-    t: Totals,
-    heads: &'a [u16],
-    starts: &'a [u16],
-    bodies: &'a [u16],
-    before: &'a [u16],
-    partners: &'a [u16],
-    owners: &'a [u16],
-    set: &'a [u8],
-    assignment: &mut [u8],
-    levels: &mut [u8],
-) -> FillVerdict
-    requires { ⌜ (Ready t (now heads) (now starts) (now bodies) (now before) (now partners) (now owners)) × (t .sizes .n ≤ length (now set)) × (t .vars ≤ length (now assignment)) × (t .sizes .n ≤ length (now levels)) ⌝ }
-    ensures { λ r. ⌜ FillGives (programIn (t .sizes) (now (heads .entry)) (now (starts .entry)) (now (bodies .entry))) (foundedResult (programIn (t .sizes) (now (heads .entry)) (now (starts .entry)) (now (bodies .entry))) (setIn (t .sizes .n) (now (set .entry)))) r (now (assignment .entry)) (now (assignment .exit)) (now (levels .entry)) (now (levels .exit)) ⌝ }
-{
-    let mut found = [0u8; 126];
-    stage_levels(
-        t,
-        heads,
-        starts,
-        bodies,
-        before,
-        partners,
-        owners,
-        set,
-        &mut found,
-    );
-    fill_found(
-        t,
-        heads,
-        starts,
-        bodies,
-        before,
-        partners,
-        owners,
-        set,
-        &found,
-        &mut *assignment,
-        &mut *levels,
-    )
-}
+ghost use Rattle.call_fill_rows.specs.FillOut.{FillGives, fillResult, fillAnswer, fillAssignment, fillLevels};
 
 // Rows 8, 17 and 18, for the tables of a program; if none is met, the assignment and the levels are written.
 fn fill_in<'a>(

@@ -1,4 +1,6 @@
-// The lines of a text's clause file: one line, and a run of lines, into a lent buffer (document 01, "Clauses, in order").
+// One line of the clause file, and a run of lines (document 01, "Clauses, in order").
+use call_lines_rows::LineVerdict;
+use call_lines_rows::RunVerdict;
 use clause_finding::place_of;
 use clause_runs::line_length;
 use clause_runs::put_line;
@@ -16,19 +18,7 @@ ghost use lib.ListN.{length};
 ghost use Rattle.program.specs.Arrays.{decoded};
 ghost use Rattle.clause_tables.specs.Tables.{Stored, programIn, Ready};
 ghost use Rattle.clause_runs.specs.Lines.{runBytesIn};
-ghost use Rattle.call_lines.specs.Lines.{answerIn, lineBytesIn, lineAnswer, lineBytes, runAnswerIn, runAnswer, runBytes};
-
-// The length of the line written, or a refusal.
-pub enum LineVerdict {
-    Written(usize),
-    Refused(LineRefusal),
-}
-
-// How many lines are written, and how many bytes they are, or a refusal.
-pub enum RunVerdict {
-    WrittenRun(usize, usize),
-    RefusedRun(LineRefusal),
-}
+ghost use Rattle.call_lines_rows.specs.Lines.{answerIn, lineBytesIn, lineAnswer, lineBytes, runAnswerIn, runAnswer, runBytes};
 
 // Line j into the buffer from place `from` on.
 fn line_in<'a>(

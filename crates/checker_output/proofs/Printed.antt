@@ -25,11 +25,11 @@ use Rattle.clause_text.specs.Lines.{refusedText}
 use Rattle.truth_clauses.specs.Truth.{valueIn}
 use Rattle.call_results.specs.Results.{Result, levelByte, assignmentAfter, levelsAfter, varTotal, programRead}
 use Rattle.refusals.specs.declared.CheckRefusal.{CheckRefusal}
-use Rattle.call_check.specs.declared.CheckVerdict.{CheckVerdict}
-use Rattle.call_check.specs.declared.CheckVerdict.the-variants.{Model}
-use Rattle.call_check.specs.Check.{zeroes, checkVerdictOf, checkOf, checkAnswer, checkAssignment, checkLevels}
-use Rattle.call_check.specs.Rows.{CheckAnswers, Shows}
-use Rattle.call_check.proofs.Verdicts.{program-is, model-offers}
+use Rattle.call_check_rows.specs.declared.CheckVerdict.{CheckVerdict}
+use Rattle.call_check_rows.specs.declared.CheckVerdict.the-variants.{Model}
+use Rattle.call_check_rows.specs.Check.{zeroes, checkVerdictOf, checkOf, checkAnswer, checkAssignment, checkLevels}
+use Rattle.call_check_rows.specs.Rows.{CheckAnswers, Shows}
+use Rattle.call_check_rows.proofs.Verdicts.{program-is, model-offers}
 use Rattle.correspondence.specs.Accepted.{AcceptedAssignment, CheckWrites}
 use Rattle.correspondence.proofs.Correspond.{shows-accepted, accepted-true, accepted-stable, check-writes}
 use Rattle.correspondence.proofs.Gaps.{value-in, level-in}

@@ -26,11 +26,11 @@ use Rattle.answer_form.specs.Pieces.{Spotted}
 use Rattle.answer_offers.specs.Offered.{valuesOf}
 use Rattle.call_results.specs.Results.{Result, assignmentAfter, levelsAfter, varTotal, programRead}
 use Rattle.refusals.specs.declared.CheckRefusal.{CheckRefusal}
-use Rattle.call_check.specs.declared.CheckVerdict.{CheckVerdict}
-use Rattle.call_check.specs.declared.CheckVerdict.the-variants.{Model, Refused}
+use Rattle.call_check_rows.specs.declared.CheckVerdict.{CheckVerdict}
+use Rattle.call_check_rows.specs.declared.CheckVerdict.the-variants.{Model, Refused}
 use Rattle.refusals.specs.Numbers.{checkNumber, checkSpot}
-use Rattle.call_check.specs.Check.{zeroes, checkVerdictOf, callResult}
-use Rattle.call_check.specs.Rows.{Offers}
+use Rattle.call_check_rows.specs.Check.{zeroes, checkVerdictOf, callResult}
+use Rattle.call_check_rows.specs.Rows.{Offers}
 use Rattle.checker_model.specs.Model.{modelLine, modelText, assumedText}
 
 abbrev pub checkerRefusalLine : CheckVerdict → List ℕ

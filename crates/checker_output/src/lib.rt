@@ -1,7 +1,7 @@
 // The checker: reads a program text and a solver answer from two files and prints the model that the answer shows, or why none is shown (document 01,
 // "Programs"; document 02, Q-3).
-use call_check::CheckVerdict;
 use call_check::check_read;
+use call_check_rows::CheckVerdict;
 use checker_model::put_shown_model;
 use clause_text::put_refusal;
 use files::read_file;

@@ -1,9 +1,9 @@
 // The place of clause j, found by passing whole groups, items and blocks.
-use clause_layout::items;
 use clause_layout::block_count;
+use clause_layout::items;
 use clause_layout::size;
-use clause_places::Place;
 use clause_places::Coordinates;
+use clause_places::Place;
 use clause_places::start;
 use clause_tables::Totals;
 use numbers::wide;

@@ -1,7 +1,7 @@
 // The walk of the clause list from clause to clause.
+use clause_layout::block_count;
 use clause_layout::items;
 use clause_layout::next_head;
-use clause_layout::block_count;
 use clause_layout::size;
 use clause_tables::Totals;
 use numbers::Atom;
@@ -187,7 +187,16 @@ pub fn next<'a>(
 {
     Place {
         number: c.number + 1,
-        coordinates: next_coordinates(t, heads, starts, bodies, before, partners, owners, c.coordinates),
+        coordinates: next_coordinates(
+            t,
+            heads,
+            starts,
+            bodies,
+            before,
+            partners,
+            owners,
+            c.coordinates,
+        ),
     }
 }
 

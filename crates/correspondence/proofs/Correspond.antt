@@ -44,15 +44,15 @@ use Rattle.truth_clauses.specs.Truth.{valueIn}
 use Rattle.level_stages.specs.Levels.{setIn}
 use Rattle.call_results.specs.Results.{varTotal}
 use Rattle.call_results.proofs.ValueBytes.{value-same}
-use Rattle.call_check.specs.declared.CheckVerdict.the-variants.{Model}
-use Rattle.call_check.specs.Check.{checkAnswer, checkAssignment, checkLevels}
-use Rattle.call_check.specs.Rows.{Offers, assumedNumber, trueNumber, levelsOf, clauseOf, clauseNumber, EachTrue, Shows, ModelWritten}
-use Rattle.call_check.proofs.Spots.{offers-unique}
-use Rattle.call_check.proofs.Verdicts.{model-offers, true-accepted}
-use Rattle.call_check.proofs.Buffers.{shows-writes}
-use Rattle.call_fill.specs.declared.FillVerdict.the-variants.{Filled}
-use Rattle.call_fill.specs.FillOut.{fillAnswer, fillAssignment, fillLevels}
-use Rattle.call_fill.proofs.Written.{stable-fills}
+use Rattle.call_check_rows.specs.declared.CheckVerdict.the-variants.{Model}
+use Rattle.call_check_rows.specs.Check.{checkAnswer, checkAssignment, checkLevels}
+use Rattle.call_check_rows.specs.Rows.{Offers, assumedNumber, trueNumber, levelsOf, clauseOf, clauseNumber, EachTrue, Shows, ModelWritten}
+use Rattle.call_check_rows.proofs.Spots.{offers-unique}
+use Rattle.call_check_rows.proofs.Verdicts.{model-offers, true-accepted}
+use Rattle.call_check_rows.proofs.Buffers.{shows-writes}
+use Rattle.call_fill_rows.specs.declared.FillVerdict.the-variants.{Filled}
+use Rattle.call_fill_rows.specs.FillOut.{fillAnswer, fillAssignment, fillLevels}
+use Rattle.call_fill_rows.proofs.Written.{stable-fills}
 use Rattle.correspondence.specs.Accepted.{AcceptedAssignment, Room, CheckWrites, setBytes, SetOf}
 
 -- ---- clauses, one by one and all together

@@ -28,15 +28,15 @@ use Rattle.truth_clauses.specs.Truth.{valueIn}
 use Rattle.level_stages.specs.Levels.{setIn}
 use Rattle.call_results.specs.Results.{levelByte, varTotal}
 use Rattle.call_results.proofs.ValueBytes.{value-same, atoms-within, value-here, level-here}
-use Rattle.call_check.specs.declared.CheckVerdict.the-variants.{Model}
-use Rattle.call_check.specs.Check.{checkAnswer, checkAssignment, checkLevels}
-use Rattle.call_check.specs.Rows.{Shows}
-use Rattle.call_check.proofs.Verdicts.{model-offers}
-use Rattle.call_check.proofs.Buffers.{countIn, highestIn}
-use Rattle.call_fill.specs.declared.FillVerdict.the-variants.{Filled}
-use Rattle.call_fill.specs.FillOut.{fillAnswer, fillAssignment, fillLevels}
-use Rattle.call_fill.specs.Rows.{Fills}
-use Rattle.call_fill.proofs.Written.{fill-accepted}
+use Rattle.call_check_rows.specs.declared.CheckVerdict.the-variants.{Model}
+use Rattle.call_check_rows.specs.Check.{checkAnswer, checkAssignment, checkLevels}
+use Rattle.call_check_rows.specs.Rows.{Shows}
+use Rattle.call_check_rows.proofs.Verdicts.{model-offers}
+use Rattle.call_check_rows.proofs.Buffers.{countIn, highestIn}
+use Rattle.call_fill_rows.specs.declared.FillVerdict.the-variants.{Filled}
+use Rattle.call_fill_rows.specs.FillOut.{fillAnswer, fillAssignment, fillLevels}
+use Rattle.call_fill_rows.specs.Rows.{Fills}
+use Rattle.call_fill_rows.proofs.Written.{fill-accepted}
 use Rattle.correspondence.proofs.Correspond.{shows-accepted, accepted-true, accepted-stable, check-writes}
 
 -- bs are the values of the stable model M: c holds them and m the level numbers, and after them any bytes

@@ -32,19 +32,19 @@ use Rattle.answer_form.specs.Pieces.{Spotted}
 use Rattle.answer_offers.specs.Offered.{valuesOf}
 use Rattle.answer_values.specs.Rows.{AllFit}
 use Rattle.clause_runs.specs.Lines.{clauseTotal, lineOf}
-use Rattle.call_lines.specs.Lines.{lineBytes}
-use Rattle.call_lines.specs.Rows.{LineRow, of-text, short-buffer, no-such-clause}
-use Rattle.call_lines.proofs.Rows.{none-written}
-use Rattle.call_lines.proofs.Calls.{line-writes}
-use Rattle.call_lines.proofs.File as File
+use Rattle.call_lines_rows.specs.Lines.{lineBytes}
+use Rattle.call_lines_rows.specs.Rows.{LineRow, of-text, short-buffer, no-such-clause}
+use Rattle.call_lines_rows.proofs.Rows.{none-written}
+use Rattle.call_lines_rows.proofs.Calls.{line-writes}
+use Rattle.call_lines_rows.proofs.File as File
 use Rattle.level_stages.specs.Levels.{setIn}
 use Rattle.call_results.specs.Results.{levelByte, varTotal}
 use Rattle.call_results.proofs.ValueBytes.{level-here}
-use Rattle.call_check.specs.Check.{checkLevels}
-use Rattle.call_check.specs.Rows.{Offers, clauseOf, clauseNumber, Accepts}
-use Rattle.call_check.proofs.Verdicts as Verdicts
-use Rattle.call_fill.specs.Rows.{FillAccepts, Fills}
-use Rattle.call_fill.proofs.Written.{fill-accepted, stable-fills}
+use Rattle.call_check_rows.specs.Check.{checkLevels}
+use Rattle.call_check_rows.specs.Rows.{Offers, clauseOf, clauseNumber, Accepts}
+use Rattle.call_check_rows.proofs.Verdicts as Verdicts
+use Rattle.call_fill_rows.specs.Rows.{FillAccepts, Fills}
+use Rattle.call_fill_rows.proofs.Written.{fill-accepted, stable-fills}
 use Rattle.correspondence.specs.Accepted.{AcceptedAssignment, Room}
 use Rattle.correspondence.proofs.Correspond.{accepted-stable, accepted-counter, check-writes}
 

@@ -17,10 +17,10 @@ use Rattle.encoding.specs.Fill.{trueAtoms}
 use Rattle.answer_form.specs.Pieces.{Spotted}
 use Rattle.answer_offers.specs.Offered.{valueBytes, valuesOf}
 use Rattle.level_stages.specs.Levels.{setIn}
-use Rattle.call_check.specs.declared.CheckVerdict.the-variants.{Model}
+use Rattle.call_check_rows.specs.declared.CheckVerdict.the-variants.{Model}
 use Rattle.call_results.specs.Results.{varTotal}
-use Rattle.call_check.specs.Check.{checkAnswer, checkAssignment, checkLevels}
-use Rattle.call_check.specs.Rows.{Offers, assumedNumber}
+use Rattle.call_check_rows.specs.Check.{checkAnswer, checkAssignment, checkLevels}
+use Rattle.call_check_rows.specs.Rows.{Offers, assumedNumber}
 
 pub record AcceptedAssignment (t : List ℕ) (P : Program) (bs : List Bool) : Type 0 where
   pub answer : List ℕ

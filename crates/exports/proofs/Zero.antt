@@ -15,25 +15,25 @@ use Rattle.meaning.specs.Program.{Program}
 use Rattle.program.specs.Arrays.{decoded}
 use Rattle.refusals.specs.declared.LineRefusal.{LineRefusal}
 use Rattle.refusals.specs.declared.LineRefusal.the-variants.{Text, NoSuchClause, ShortBuffer}
-use Rattle.call_lines.specs.declared.LineVerdict.{LineVerdict}
-use Rattle.call_lines.specs.declared.LineVerdict.the-variants.{Written, Refused as LineRefused}
-use Rattle.call_lines.specs.declared.RunVerdict.{RunVerdict}
-use Rattle.call_lines.specs.declared.RunVerdict.the-variants.{WrittenRun, RefusedRun}
+use Rattle.call_lines_rows.specs.declared.LineVerdict.{LineVerdict}
+use Rattle.call_lines_rows.specs.declared.LineVerdict.the-variants.{Written, Refused as LineRefused}
+use Rattle.call_lines_rows.specs.declared.RunVerdict.{RunVerdict}
+use Rattle.call_lines_rows.specs.declared.RunVerdict.the-variants.{WrittenRun, RefusedRun}
 use Rattle.refusals.specs.Numbers.{lineNumber}
-use Rattle.call_lines.specs.Lines.{lineAnswer, runAnswer}
+use Rattle.call_lines_rows.specs.Lines.{lineAnswer, runAnswer}
 use Rattle.refusals.specs.declared.CheckRefusal.{CheckRefusal}
 use Rattle.refusals.specs.declared.CheckRefusal.the-variants.{Text as CheckText, ShortBuffer as CheckShort, OverlongAnswer, MalformedAnswer, NoModelOffered, StrayVariable, RepeatedVariable, FalseClause}
-use Rattle.call_check.specs.declared.CheckVerdict.{CheckVerdict}
-use Rattle.call_check.specs.declared.CheckVerdict.the-variants.{Model, Refused as CheckRefused}
+use Rattle.call_check_rows.specs.declared.CheckVerdict.{CheckVerdict}
+use Rattle.call_check_rows.specs.declared.CheckVerdict.the-variants.{Model, Refused as CheckRefused}
 use Rattle.refusals.specs.Numbers.{checkNumber}
-use Rattle.call_check.specs.Check.{checkAnswer}
-use Rattle.call_check.specs.Rows.{Accepts}
+use Rattle.call_check_rows.specs.Check.{checkAnswer}
+use Rattle.call_check_rows.specs.Rows.{Accepts}
 use Rattle.refusals.specs.declared.FillRefusal.{FillRefusal}
 use Rattle.refusals.specs.declared.FillRefusal.the-variants.{Text as FillText, ShortBuffer as FillShort, BadSet, Unfounded}
-use Rattle.call_fill.specs.declared.FillVerdict.{FillVerdict}
-use Rattle.call_fill.specs.declared.FillVerdict.the-variants.{Filled, Refused as FillRefused}
+use Rattle.call_fill_rows.specs.declared.FillVerdict.{FillVerdict}
+use Rattle.call_fill_rows.specs.declared.FillVerdict.the-variants.{Filled, Refused as FillRefused}
 use Rattle.refusals.specs.Numbers.{fillNumber}
-use Rattle.call_fill.specs.FillOut.{fillAnswer}
+use Rattle.call_fill_rows.specs.FillOut.{fillAnswer}
 use Rattle.exports.specs.Replies.{ofReading, ofLine, ofRun, ofCheck, ofFill, readReply, lineReply, runReply, checkReply, fillReply}
 
 -- ---- no row has the number 0

@@ -18,22 +18,22 @@ use Rattle.reader.specs.declared.ReadVerdict.the-variants.{Accepted, Refused as
 use Rattle.reader.specs.Verdict.{readOf}
 use Rattle.refusals.specs.Numbers.{textNumber, textSpot}
 use Rattle.program.specs.Arrays.{decoded}
-use Rattle.call_lines.specs.declared.LineVerdict.{LineVerdict}
-use Rattle.call_lines.specs.declared.LineVerdict.the-variants.{Written, Refused as LineRefused}
-use Rattle.call_lines.specs.declared.RunVerdict.{RunVerdict}
-use Rattle.call_lines.specs.declared.RunVerdict.the-variants.{WrittenRun, RefusedRun}
+use Rattle.call_lines_rows.specs.declared.LineVerdict.{LineVerdict}
+use Rattle.call_lines_rows.specs.declared.LineVerdict.the-variants.{Written, Refused as LineRefused}
+use Rattle.call_lines_rows.specs.declared.RunVerdict.{RunVerdict}
+use Rattle.call_lines_rows.specs.declared.RunVerdict.the-variants.{WrittenRun, RefusedRun}
 use Rattle.clause_runs.specs.Lines.{clauseTotal}
 use Rattle.refusals.specs.Numbers.{lineNumber, lineSpot}
-use Rattle.call_lines.specs.Lines.{lineAnswer, runAnswer}
+use Rattle.call_lines_rows.specs.Lines.{lineAnswer, runAnswer}
 use Rattle.call_results.specs.Results.{varTotal}
-use Rattle.call_check.specs.declared.CheckVerdict.{CheckVerdict}
-use Rattle.call_check.specs.declared.CheckVerdict.the-variants.{Model, Refused as CheckRefused}
+use Rattle.call_check_rows.specs.declared.CheckVerdict.{CheckVerdict}
+use Rattle.call_check_rows.specs.declared.CheckVerdict.the-variants.{Model, Refused as CheckRefused}
 use Rattle.refusals.specs.Numbers.{checkNumber, checkSpot}
-use Rattle.call_check.specs.Check.{checkAnswer}
-use Rattle.call_fill.specs.declared.FillVerdict.{FillVerdict}
-use Rattle.call_fill.specs.declared.FillVerdict.the-variants.{Filled, Refused as FillRefused}
+use Rattle.call_check_rows.specs.Check.{checkAnswer}
+use Rattle.call_fill_rows.specs.declared.FillVerdict.{FillVerdict}
+use Rattle.call_fill_rows.specs.declared.FillVerdict.the-variants.{Filled, Refused as FillRefused}
 use Rattle.refusals.specs.Numbers.{fillNumber, fillSpot}
-use Rattle.call_fill.specs.FillOut.{fillAnswer}
+use Rattle.call_fill_rows.specs.FillOut.{fillAnswer}
 use Rattle.exports.specs.declared.Reply.{Reply}
 
 abbrev pub acceptedReply : ℕ → ℕ → ℕ → Reply

@@ -1,12 +1,12 @@
 // The functions that C, Rust and other languages call (include/quadrensolo.h): thin, over numbers and byte slices.
-use call_check::CheckVerdict;
 use call_check::check;
-use call_fill::FillVerdict;
+use call_check_rows::CheckVerdict;
 use call_fill::fill_out;
-use call_lines::LineVerdict;
-use call_lines::RunVerdict;
+use call_fill_rows::FillVerdict;
 use call_lines::line;
 use call_lines::run;
+use call_lines_rows::LineVerdict;
+use call_lines_rows::RunVerdict;
 use clause_tabling::pairs_of;
 use clause_tabling::totals_of;
 use program::Program;
@@ -24,9 +24,9 @@ ghost use mathlib.Core.Path.{_≡_};
 ghost use lib.ListN.{length};
 ghost use Rattle.program.specs.Arrays.{decoded};
 ghost use Rattle.clause_tables.specs.Tables.{Stored};
-ghost use Rattle.call_lines.specs.Lines.{lineBytes, runBytes};
-ghost use Rattle.call_check.specs.Check.{checkAssignment, checkLevels};
-ghost use Rattle.call_fill.specs.FillOut.{fillAssignment, fillLevels};
+ghost use Rattle.call_lines_rows.specs.Lines.{lineBytes, runBytes};
+ghost use Rattle.call_check_rows.specs.Check.{checkAssignment, checkLevels};
+ghost use Rattle.call_fill_rows.specs.FillOut.{fillAssignment, fillLevels};
 ghost use Rattle.exports.specs.Replies.{acceptedReply, refusedReply, totalsReply, ofLine, ofRun, ofCheck, ofFill, readReply, lineReply, runReply, checkReply, fillReply};
 
 // The row's number and the spot of a refusal, both 0 for acceptance; and the numbers that an accepted call gives, 0 where it gives none.

@@ -38,7 +38,7 @@ use Rattle.answer_values.specs.Rows.{AllFit, StrayAt, RepeatedAt}
 use Rattle.answer_values.proofs.Rows as Assigned
 use Rattle.answer_offers.specs.Offered.{valueBytes, valuesOf, Completes}
 use Rattle.answer_offers.proofs.Values.{values-complete, values-alone, values-unique}
-use Rattle.call_check.specs.Check.{callResult}
+use Rattle.call_check_rows.specs.Check.{callResult}
 use Rattle.call_check.proofs as call-check
 use Rattle.call_fill.proofs as call-fill
 use Rattle.files.proofs as files

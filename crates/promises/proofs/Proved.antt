@@ -39,10 +39,10 @@ use Rattle.reader_laws.proofs.Contents.{accepted-admitted, admitted-answer, ref
 use Rattle.clause_table_laws.proofs.Bounds.{variables-fit, clauses-fit}
 use Rattle.clause_runs.specs.Lines.{clauseTotal, linesOf, lineOf, fitting, runIn}
 use Rattle.clause_runs.proofs.Runs.{joined-append}
-use Rattle.call_lines.proofs.File as File
-use Rattle.call_lines.proofs.Parts.{lines-many, file-parts, some-line}
-use Rattle.call_lines.proofs.Rows.{answers-line-first, first-line-answers, first-line-unique, written-none, none-written}
-use Rattle.call_lines.proofs.Calls.{line-stays, line-writes, run-refused-as, run-stays, run-writes}
+use Rattle.call_lines_rows.proofs.File as File
+use Rattle.call_lines_rows.proofs.Parts.{lines-many, file-parts, some-line}
+use Rattle.call_lines_rows.proofs.Rows.{answers-line-first, first-line-answers, first-line-unique, written-none, none-written}
+use Rattle.call_lines_rows.proofs.Calls.{line-stays, line-writes, run-refused-as, run-stays, run-writes}
 use Rattle.answer_form.specs.Answer.{Answer, proper, answerText, Status, OfStatus}
 use Rattle.answer_form.specs.Pieces.{Spotted, spotsOf}
 use Rattle.answer_form.proofs.Spot as AnswerSpot
@@ -50,12 +50,12 @@ use Rattle.answer_form.proofs.Unique.{answer-unique}
 use Rattle.answer_form.proofs.FirstBytes.{literals-at}
 use Rattle.answer_values.specs.Assign.{overwritten}
 use Rattle.answer_offers.proofs.Values.{values-complete, values-unique}
-use Rattle.call_check.specs.Rows.{Offers}
-use Rattle.call_check.proofs.Spots.{offers-unique, offers-named}
-use Rattle.call_check.proofs.Verdicts.{answers-check-first, first-check-answers, first-check-unique, model-none, none-model}
-use Rattle.call_check.proofs.Buffers.{model-writes, assumed-rest, refused-zeroes, refused-keeps, refused-levels, never-15}
-use Rattle.call_fill.proofs.FirstRows.{fill-answers-first, first-fill-answers, first-fill-one, fill-accepts-none, none-fill-accepts}
-use Rattle.call_fill.proofs.Written.{fill-accepted, fill-kept}
+use Rattle.call_check_rows.specs.Rows.{Offers}
+use Rattle.call_check_rows.proofs.Spots.{offers-unique, offers-named}
+use Rattle.call_check_rows.proofs.Verdicts.{answers-check-first, first-check-answers, first-check-unique, model-none, none-model}
+use Rattle.call_check_rows.proofs.Buffers.{model-writes, assumed-rest, refused-zeroes, refused-keeps, refused-levels, never-15}
+use Rattle.call_fill_rows.proofs.FirstRows.{fill-answers-first, first-fill-answers, first-fill-one, fill-accepts-none, none-fill-accepts}
+use Rattle.call_fill_rows.proofs.Written.{fill-accepted, fill-kept}
 use Rattle.correspondence.proofs.Correspond as Correspond
 use Rattle.correspondence.proofs.Gaps.{check-gaps, fill-gaps}
 use Rattle.correspondence.proofs.Texts.{checked-exactly, line-prints, level-bytes, level-of-false, fills-exactly}

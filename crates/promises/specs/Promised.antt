@@ -58,24 +58,24 @@ use Rattle.reader_laws.specs.Row.{Row, FirstRow, Answers}
 use Rattle.digits.specs.Bytes.{lineText}
 use Rattle.clause_text.specs.Lines.{headerText, refusedText}
 use Rattle.clause_runs.specs.Lines.{clauseTotal, linesOf, lineOf, fitting, runIn}
-use Rattle.call_lines.specs.declared.LineVerdict.the-variants.{Written, Refused as LineRefused}
-use Rattle.call_lines.specs.declared.RunVerdict.the-variants.{WrittenRun, RefusedRun}
-use Rattle.call_lines.specs.Lines.{lineAnswer, lineBytes, runAnswer, runBytes}
-use Rattle.call_lines.specs.Parts.{partsOf}
-use Rattle.call_lines.specs.Rows.{LineRow, FirstLineRow, LineAnswers, RunWritten}
+use Rattle.call_lines_rows.specs.declared.LineVerdict.the-variants.{Written, Refused as LineRefused}
+use Rattle.call_lines_rows.specs.declared.RunVerdict.the-variants.{WrittenRun, RefusedRun}
+use Rattle.call_lines_rows.specs.Lines.{lineAnswer, lineBytes, runAnswer, runBytes}
+use Rattle.call_lines_rows.specs.Parts.{partsOf}
+use Rattle.call_lines_rows.specs.Rows.{LineRow, FirstLineRow, LineAnswers, RunWritten}
 use Rattle.answer_form.specs.Answer.{Answer, proper, answerText, OfStatus}
 use Rattle.answer_form.specs.Answer as Solver
 use Rattle.answer_form.specs.Pieces.{Spotted, LiteralAt}
 use Rattle.answer_values.specs.Rows.{AllFit}
 use Rattle.answer_offers.specs.Offered.{valuesOf, Completes, offeredText}
 use Rattle.call_results.specs.Results.{levelByte, varTotal}
-use Rattle.call_check.specs.declared.CheckVerdict.the-variants.{Model}
-use Rattle.call_check.specs.Check.{checkAnswer, checkAssignment, checkLevels}
-use Rattle.call_check.specs.Rows.{Offers, clauseOf, CheckRow, FirstCheckRow, CheckAnswers, Accepts, Shows, ModelWritten}
+use Rattle.call_check_rows.specs.declared.CheckVerdict.the-variants.{Model}
+use Rattle.call_check_rows.specs.Check.{checkAnswer, checkAssignment, checkLevels}
+use Rattle.call_check_rows.specs.Rows.{Offers, clauseOf, CheckRow, FirstCheckRow, CheckAnswers, Accepts, Shows, ModelWritten}
 use Rattle.level_stages.specs.Levels.{setIn}
-use Rattle.call_fill.specs.declared.FillVerdict.the-variants.{Filled, Refused as FillRefused}
-use Rattle.call_fill.specs.FillOut.{fillAnswer, fillAssignment, fillLevels}
-use Rattle.call_fill.specs.Rows.{FillRow, FirstFillRow, FillAnswers, FillAccepts, Fills}
+use Rattle.call_fill_rows.specs.declared.FillVerdict.the-variants.{Filled, Refused as FillRefused}
+use Rattle.call_fill_rows.specs.FillOut.{fillAnswer, fillAssignment, fillLevels}
+use Rattle.call_fill_rows.specs.Rows.{FillRow, FirstFillRow, FillAnswers, FillAccepts, Fills}
 use Rattle.correspondence.specs.Accepted.{AcceptedAssignment, Room, CheckWrites, setBytes, SetOf}
 use Rattle.writer_output.specs.Output.{writerText}
 use Rattle.writer_output.specs.Output as Writer

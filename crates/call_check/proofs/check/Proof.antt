@@ -1,5 +1,5 @@
 use denote.Ref.{now}
-use Rattle.call_check.proofs.Open.{check-whole}
+use Rattle.call_check_rows.proofs.Open.{check-whole}
 use Rattle.call_laws.proofs.Tabled.{accepted-stored}
 use borrow.Author.Needs.{needs}
 use Rattle.call_check.proofs.check.Statement.{statement}

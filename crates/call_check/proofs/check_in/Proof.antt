@@ -1,7 +1,7 @@
 use denote.Ref.{now}
 use Prim.Native.Nat.{ℕ, _≤_}
 use mathlib.Core.Path.{sym, subst}
-use Rattle.call_check.proofs.Rows.{short-assignment, short-levels, overlong, form-malformed, form-none, form-model, vars-few}
+use Rattle.call_check_rows.proofs.Rows.{short-assignment, short-levels, overlong, form-malformed, form-none, form-model, vars-few}
 use borrow.Author.Needs.{needs}
 use Rattle.call_check.proofs.check_in.Statement.{statement}
 use Rattle.call_check.proofs.check_in.Tie as tie

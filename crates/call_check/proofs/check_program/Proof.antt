@@ -1,5 +1,5 @@
 use denote.Ref.{now}
-use Rattle.call_check.proofs.Open.{same-program}
+use Rattle.call_check_rows.proofs.Open.{same-program}
 use Rattle.call_laws.proofs.Tabled.{totals-asks, ready-of, program-is}
 use borrow.Author.Needs.{needs}
 use Rattle.call_check.proofs.check_program.Statement.{statement}

@@ -1,5 +1,5 @@
 use denote.Ref.{now}
-use Rattle.call_check.proofs.Open.{read-accepted, read-refused}
+use Rattle.call_check_rows.proofs.Open.{read-accepted, read-refused}
 use borrow.Author.Needs.{needs}
 use Rattle.call_check.proofs.check_read.Statement.{statement}
 use Rattle.call_check.proofs.check_read.Tie as tie

@@ -1,6 +1,6 @@
 use denote.Ref.{now}
 use native.Mathlib.Omega.{arith}
-use Rattle.call_fill.proofs.Steps.{short-assignment, short-levels, wrong-size, bad-at, set-founded}
+use Rattle.call_fill_rows.proofs.Steps.{short-assignment, short-levels, wrong-size, bad-at, set-founded}
 use borrow.Author.Needs.{needs}
 use Rattle.call_fill.proofs.fill_in.Statement.{statement}
 use Rattle.call_fill.proofs.fill_in.Tie as tie

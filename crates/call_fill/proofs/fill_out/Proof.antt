@@ -1,5 +1,5 @@
 use denote.Ref.{now}
-use Rattle.call_fill.proofs.Steps.{read-accepted, read-refused}
+use Rattle.call_fill_rows.proofs.Steps.{read-accepted, read-refused}
 use Rattle.call_laws.proofs.Tabled.{accepted-stored}
 use borrow.Author.Needs.{needs}
 use Rattle.call_fill.proofs.fill_out.Statement.{statement}

@@ -1,5 +1,5 @@
 use denote.Ref.{now}
-use Rattle.call_fill.proofs.Steps.{same-program}
+use Rattle.call_fill_rows.proofs.Steps.{same-program}
 use Rattle.call_laws.proofs.Tabled.{totals-asks, ready-of, program-is}
 use borrow.Author.Needs.{needs}
 use Rattle.call_fill.proofs.fill_program.Statement.{statement}

@@ -1,5 +1,5 @@
 use Rattle.call_laws.proofs.Tabled.{accepted-stored}
-use Rattle.call_lines.proofs.Open.{line-accepted, line-refused}
+use Rattle.call_lines_rows.proofs.Open.{line-accepted, line-refused}
 use denote.Ref.{now}
 use borrow.Author.Needs.{needs}
 use Rattle.call_lines.proofs.line.Statement.{statement}

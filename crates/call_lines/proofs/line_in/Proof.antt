@@ -1,4 +1,4 @@
-use Rattle.call_lines.proofs.Answer.{need-is, placed-within, placed-asks, placed-put, line-none, line-past, line-short, line-asks, line-written}
+use Rattle.call_lines_rows.proofs.Answer.{need-is, placed-within, placed-asks, placed-put, line-none, line-past, line-short, line-asks, line-written}
 use Rattle.clause_places.proofs.Numbers.{own-number}
 use Prim.Native.Nat.{_-_}
 use lib.ListN.{length, take, drop}

@@ -1,5 +1,5 @@
 use Rattle.call_laws.proofs.Tabled.{totals-asks, ready-of, program-is}
-use Rattle.call_lines.proofs.Open.{same-line}
+use Rattle.call_lines_rows.proofs.Open.{same-line}
 use denote.Ref.{now}
 use borrow.Author.Needs.{needs}
 use Rattle.call_lines.proofs.line_of.Statement.{statement}

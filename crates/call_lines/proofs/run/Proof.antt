@@ -1,5 +1,5 @@
 use Rattle.call_laws.proofs.Tabled.{accepted-stored}
-use Rattle.call_lines.proofs.Open.{run-accepted, run-refused}
+use Rattle.call_lines_rows.proofs.Open.{run-accepted, run-refused}
 use denote.Ref.{now}
 use borrow.Author.Needs.{needs}
 use Rattle.call_lines.proofs.run.Statement.{statement}

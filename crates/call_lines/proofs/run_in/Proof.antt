@@ -1,4 +1,4 @@
-use Rattle.call_lines.proofs.Answer.{need-is, placed-within, placed-part, run-past, run-refused, run-written}
+use Rattle.call_lines_rows.proofs.Answer.{need-is, placed-within, placed-part, run-past, run-refused, run-written}
 use Rattle.clause_places.proofs.Numbers.{own-number}
 use Rattle.clause_runs.specs.declared.RunPart.{RunPart}
 use native.Mathlib.Omega.{arith}

@@ -1,5 +1,5 @@
 use Rattle.call_laws.proofs.Tabled.{totals-asks, ready-of, program-is}
-use Rattle.call_lines.proofs.Open.{same-run}
+use Rattle.call_lines_rows.proofs.Open.{same-run}
 use denote.Ref.{now}
 use borrow.Author.Needs.{needs}
 use Rattle.call_lines.proofs.run_of.Statement.{statement}

@@ -51,9 +51,10 @@ slice-aggregate-next-part c = search needs
 
 -- src/lib.rt:94:13
 next-part-requires : tie.Need-next-part-requires Inv-loop μ-loop
-next-part-requires c κs =
-    ((c .before .before .before .before .before .before .before .before .before .pre, c .before .before .before .before .before .before .before .before .pairs-of .ensures, c .before .before .before .before .before .before .before .totals-of .ensures),
-    (c .before .before .before .before .loop .inv .1, omega (arith, c .before .if1 .taken), omega (arith, c .before .before .before .before .loop .inv .0), omega (arith, c .before .before .before .before .loop .inv .0)))
+next-part-requires c κs = (
+  (c .before .before .before .before .before .before .before .before .before .pre, c .before .before .before .before .before .before .before .before .pairs-of .ensures, c .before .before .before .before .before .before .before .totals-of .ensures),
+  (c .before .before .before .before .loop .inv .1, omega (arith, c .before .if1 .taken), omega (arith, c .before .before .before .before .loop .inv .0), omega (arith, c .before .before .before .before .loop .inv .0)),
+)
 
 -- src/lib.rt:95:26
 array-share-prefix-out : tie.Need-array-share-prefix-out Inv-loop μ-loop
