@@ -210,7 +210,8 @@ struct Number {
 
 // The number of `value`'s digits and those from `at` on.
 fn number_at(answer: &[u8], at: usize, value: u32) -> Number
-    ensures { λ r. ⌜ (r .value ≡ cappedValue mostNumber value (drop at (now (answer .entry)))) × (r .behind ≡ behindDigits at (drop at (now (answer .entry)))) ⌝ }
+    ensures { λ r. ⌜ (r .value ≡ cappedValue mostNumber value (drop at (now (answer .entry))))
+        × (r .behind ≡ behindDigits at (drop at (now (answer .entry)))) ⌝ }
 {
     let mut v = value;
     let mut i = at;

@@ -18,7 +18,8 @@ ghost use mathlib.Core.List.{_++_};
 ghost use lib.Dec.{eqb};
 ghost use lib.ListN.{length, take, drop};
 ghost use Rattle.answer_reader.specs.Results.{modelFrom, formOf};
-ghost use Rattle.answer_values.specs.Assign.{literalsFrom, putOutcome, putBytes, assignedOf, assignedBytes, unsetCount, completedByte, completed, overwritten, numberValue, assignedFor, nextAnswer, nextBytes, readOutcome, readBytes, assumedBy};
+ghost use Rattle.answer_values.specs.Assign.{literalsFrom, putOutcome, putBytes, assignedOf, assignedBytes, unsetCount, completedByte, completed};
+ghost use Rattle.answer_values.specs.Assign.{overwritten, numberValue, assignedFor, nextAnswer, nextBytes, readOutcome, readBytes, assumedBy};
 
 // Each literal is assigned; the first that is not is of a variable above V, or of one that has a value: the index of its first byte.
 pub enum Assigned {
@@ -121,7 +122,8 @@ fn literal_value(x: i32) -> u8
 // Assigns one literal, whose first byte has the index `first`.
 fn put_value(x: i32, first: usize, v: usize, assignment: &mut [u8]) -> Assigned
     requires { ⌜ (0 < natAbs x) × (natAbs x < 2 ^ 31) × (v ≤ length (now assignment)) ⌝ }
-    ensures { λ r. ⌜ (r ≡ assignedFor (putOutcome v (natAbs x) first (now (assignment .entry)))) × (now (assignment .exit) ≡ putBytes v (natAbs x) (numberValue x) (now (assignment .entry))) ⌝ }
+    ensures { λ r. ⌜ (r ≡ assignedFor (putOutcome v (natAbs x) first (now (assignment .entry))))
+        × (now (assignment .exit) ≡ putBytes v (natAbs x) (numberValue x) (now (assignment .entry))) ⌝ }
 {
     let k = magnitude(x) as usize;
     if v < k {
@@ -137,7 +139,8 @@ fn put_value(x: i32, first: usize, v: usize, assignment: &mut [u8]) -> Assigned
 // Assigns one literal if each literal before it was assigned, as `o` says; else the assignment stays.
 fn put_next_value(o: Assigned, x: i32, first: usize, v: usize, assignment: &mut [u8]) -> Assigned
     requires { ⌜ (0 < natAbs x) × (natAbs x < 2 ^ 31) × (v ≤ length (now assignment)) ⌝ }
-    ensures { λ r. ⌜ (r ≡ nextAnswer o (putOutcome v (natAbs x) first (now (assignment .entry)))) × (now (assignment .exit) ≡ nextBytes o (putBytes v (natAbs x) (numberValue x) (now (assignment .entry))) (now (assignment .entry))) ⌝ }
+    ensures { λ r. ⌜ (r ≡ nextAnswer o (putOutcome v (natAbs x) first (now (assignment .entry))))
+        × (now (assignment .exit) ≡ nextBytes o (putBytes v (natAbs x) (numberValue x) (now (assignment .entry))) (now (assignment .entry))) ⌝ }
 {
     let Assigned::Done = o else {
         return o;
@@ -148,7 +151,10 @@ fn put_next_value(o: Assigned, x: i32, first: usize, v: usize, assignment: &mut 
 // Reads the answer from position `from` on to its end: its form, and its literals, assigned up to literal 0 or the first that is stray or repeated.
 fn read_from(answer: &[u8], from: usize, v: usize, assignment: &mut [u8]) -> AnswerRead
     requires { ⌜ (from ≤ length (now answer)) × (v ≤ length (now assignment)) × (v ≤ 9890) ⌝ }
-    ensures { λ r. ⌜ (r .form ≡ modelFrom from from (now (answer .entry))) × (r .outcome ≡ assignedFor (assignedOf v (literalsFrom (now (answer .entry)) from) (now (assignment .entry)))) × (now (assignment .exit) ≡ assignedBytes v (literalsFrom (now (answer .entry)) from) (now (assignment .entry))) × (r .assumed ≡ assumedBy (r .form) (r .outcome) (unsetCount v (now (assignment .exit)))) ⌝ }
+    ensures { λ r. ⌜ (r .form ≡ modelFrom from from (now (answer .entry)))
+        × (r .outcome ≡ assignedFor (assignedOf v (literalsFrom (now (answer .entry)) from) (now (assignment .entry))))
+        × (now (assignment .exit) ≡ assignedBytes v (literalsFrom (now (answer .entry)) from) (now (assignment .entry)))
+        × (r .assumed ≡ assumedBy (r .form) (r .outcome) (unsetCount v (now (assignment .exit)))) ⌝ }
 {
     let mut p = from;
     let mut o = Assigned::Done;
@@ -184,7 +190,10 @@ fn read_from(answer: &[u8], from: usize, v: usize, assignment: &mut [u8]) -> Ans
 // names keep their 2; how many they are is said too.
 pub fn read_form(answer: &[u8], v: usize, assignment: &mut [u8]) -> AnswerRead
     requires { ⌜ (v ≤ length (now assignment)) × (v ≤ 9890) ⌝ }
-    ensures { λ r. ⌜ (r .form ≡ formOf (now (answer .entry))) × (r .outcome ≡ assignedFor (readOutcome v (now (answer .entry)) (now (assignment .entry)))) × (now (assignment .exit) ≡ readBytes v (now (answer .entry)) (now (assignment .entry))) × (r .assumed ≡ assumedBy (r .form) (r .outcome) (unsetCount v (now (assignment .exit)))) ⌝ }
+    ensures { λ r. ⌜ (r .form ≡ formOf (now (answer .entry)))
+        × (r .outcome ≡ assignedFor (readOutcome v (now (answer .entry)) (now (assignment .entry))))
+        × (now (assignment .exit) ≡ readBytes v (now (answer .entry)) (now (assignment .entry)))
+        × (r .assumed ≡ assumedBy (r .form) (r .outcome) (unsetCount v (now (assignment .exit)))) ⌝ }
 {
     let s = status(answer);
     match s {

@@ -37,7 +37,10 @@ fn check_in<'a>(
     levels: &mut [u8],
 ) -> CheckVerdict
     requires { ⌜ Ready t (now heads) (now starts) (now bodies) (now before) (now partners) (now owners) ⌝ }
-    ensures { λ r. ⌜ CheckGives (programIn (t .sizes) (now (heads .entry)) (now (starts .entry)) (now (bodies .entry))) (checkResult (programIn (t .sizes) (now (heads .entry)) (now (starts .entry)) (now (bodies .entry))) (now (answer .entry)) total (length (now (assignment .entry))) (length (now (levels .entry)))) r (now (assignment .entry)) (now (assignment .exit)) (now (levels .entry)) (now (levels .exit)) ⌝ }
+    ensures { λ r. ⌜ CheckGives (programIn (t .sizes) (now (heads .entry)) (now (starts .entry)) (now (bodies .entry)))
+        (checkResult (programIn (t .sizes) (now (heads .entry)) (now (starts .entry)) (now (bodies .entry))) (now (answer .entry)) total
+        (length (now (assignment .entry))) (length (now (levels .entry)))) r (now (assignment .entry)) (now (assignment .exit))
+        (now (levels .entry)) (now (levels .exit)) ⌝ }
 {
     if assignment.len() < t.vars {
         return CheckVerdict::Refused(CheckRefusal::ShortBuffer(t.vars));
@@ -80,7 +83,9 @@ fn check_program(
     levels: &mut [u8],
 ) -> CheckVerdict
     requires { ⌜ Stored p ⌝ }
-    ensures { λ r. ⌜ CheckGives (decoded p) (checkResult (decoded p) (now (answer .entry)) total (length (now (assignment .entry))) (length (now (levels .entry)))) r (now (assignment .entry)) (now (assignment .exit)) (now (levels .entry)) (now (levels .exit)) ⌝ }
+    ensures { λ r. ⌜ CheckGives (decoded p)
+        (checkResult (decoded p) (now (answer .entry)) total (length (now (assignment .entry))) (length (now (levels .entry)))) r
+        (now (assignment .entry)) (now (assignment .exit)) (now (levels .entry)) (now (levels .exit)) ⌝ }
 {
     let k = pairs_of(p);
     let t = totals_of(p, k.count, k.empty);
@@ -108,7 +113,9 @@ pub fn check_read(
     levels: &mut [u8],
 ) -> CheckVerdict
     requires { ⌜ (x .verdict ≡ Accepted → Stored (x .program)) ⌝ }
-    ensures { λ r. ⌜ CheckGives (programRead x) (callResult x (now (answer .entry)) total (length (now (assignment .entry))) (length (now (levels .entry)))) r (now (assignment .entry)) (now (assignment .exit)) (now (levels .entry)) (now (levels .exit)) ⌝ }
+    ensures { λ r. ⌜ CheckGives (programRead x)
+        (callResult x (now (answer .entry)) total (length (now (assignment .entry))) (length (now (levels .entry)))) r (now (assignment .entry))
+        (now (assignment .exit)) (now (levels .entry)) (now (levels .exit)) ⌝ }
 {
     let v = x.verdict;
     match v {
@@ -122,7 +129,9 @@ pub fn check_read(
 // Whether the answer shows a stable model of the program: how many atoms are true, the highest level, and how many variables were left out and read as
 // false; the assignment and the levels are written. Refusals 13, 14 and 16 zero the assignment; the others write nothing. Bytes past V and n stay.
 pub fn check(text: &[u8], answer: &[u8], assignment: &mut [u8], levels: &mut [u8]) -> CheckVerdict
-    ensures { λ r. ⌜ (r ≡ checkAnswer (now (text .entry)) (now (answer .entry)) (length (now (assignment .entry))) (length (now (levels .entry)))) × (now (assignment .exit) ≡ checkAssignment (now (text .entry)) (now (answer .entry)) (now (assignment .entry)) (length (now (levels .entry)))) × (now (levels .exit) ≡ checkLevels (now (text .entry)) (now (answer .entry)) (length (now (assignment .entry))) (now (levels .entry))) ⌝ }
+    ensures { λ r. ⌜ (r ≡ checkAnswer (now (text .entry)) (now (answer .entry)) (length (now (assignment .entry))) (length (now (levels .entry))))
+        × (now (assignment .exit) ≡ checkAssignment (now (text .entry)) (now (answer .entry)) (now (assignment .entry)) (length (now (levels .entry))))
+        × (now (levels .exit) ≡ checkLevels (now (text .entry)) (now (answer .entry)) (length (now (assignment .entry))) (now (levels .entry))) ⌝ }
 {
     let x = read(text);
     check_read(x, answer, answer.len(), &mut *assignment, &mut *levels)

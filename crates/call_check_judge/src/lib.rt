@@ -40,8 +40,11 @@ fn judge<'a>(
     assignment: &mut [u8],
     levels: &mut [u8],
 ) -> CheckVerdict
-    requires { ⌜ (Ready t (now heads) (now starts) (now bodies) (now before) (now partners) (now owners)) × (t .vars ≤ length (now assignment)) × (t .sizes .n ≤ length (now levels)) ⌝ }
-    ensures { λ r. ⌜ CheckGives (programIn (t .sizes) (now (heads .entry)) (now (starts .entry)) (now (bodies .entry))) (valuesJudged (programIn (t .sizes) (now (heads .entry)) (now (starts .entry)) (now (bodies .entry))) assumed (take (t .vars) (now (assignment .entry)))) r (now (assignment .entry)) (now (assignment .exit)) (now (levels .entry)) (now (levels .exit)) ⌝ }
+    requires { ⌜ (Ready t (now heads) (now starts) (now bodies) (now before) (now partners) (now owners)) × (t .vars ≤ length (now assignment))
+        × (t .sizes .n ≤ length (now levels)) ⌝ }
+    ensures { λ r. ⌜ CheckGives (programIn (t .sizes) (now (heads .entry)) (now (starts .entry)) (now (bodies .entry)))
+        (valuesJudged (programIn (t .sizes) (now (heads .entry)) (now (starts .entry)) (now (bodies .entry))) assumed
+        (take (t .vars) (now (assignment .entry)))) r (now (assignment .entry)) (now (assignment .exit)) (now (levels .entry)) (now (levels .exit)) ⌝ }
 {
     let j = first_false(
         t,
@@ -79,8 +82,13 @@ pub fn assigned<'a>(
     assignment: &mut [u8],
     levels: &mut [u8],
 ) -> CheckVerdict
-    requires { ⌜ (Ready t (now heads) (now starts) (now bodies) (now before) (now partners) (now owners)) × (t .vars ≤ length (now values)) × (t .vars ≤ length (now assignment)) × (t .sizes .n ≤ length (now levels)) ⌝ }
-    ensures { λ r. ⌜ CheckGives (programIn (t .sizes) (now (heads .entry)) (now (starts .entry)) (now (bodies .entry))) (afterAssigning (outcomeOf (x .outcome)) (valuesJudged (programIn (t .sizes) (now (heads .entry)) (now (starts .entry)) (now (bodies .entry))) (x .assumed) (completed (take (t .vars) (now (values .entry)))))) r (now (assignment .entry)) (now (assignment .exit)) (now (levels .entry)) (now (levels .exit)) ⌝ }
+    requires { ⌜ (Ready t (now heads) (now starts) (now bodies) (now before) (now partners) (now owners)) × (t .vars ≤ length (now values))
+        × (t .vars ≤ length (now assignment)) × (t .sizes .n ≤ length (now levels)) ⌝ }
+    ensures { λ r. ⌜ CheckGives (programIn (t .sizes) (now (heads .entry)) (now (starts .entry)) (now (bodies .entry)))
+        (afterAssigning (outcomeOf (x .outcome))
+        (valuesJudged (programIn (t .sizes) (now (heads .entry)) (now (starts .entry)) (now (bodies .entry))) (x .assumed)
+        (completed (take (t .vars) (now (values .entry)))))) r (now (assignment .entry)) (now (assignment .exit)) (now (levels .entry))
+        (now (levels .exit)) ⌝ }
 {
     let o = x.outcome;
     match o {

@@ -29,7 +29,10 @@ fn fill_in<'a>(
     levels: &mut [u8],
 ) -> FillVerdict
     requires { ⌜ Ready t (now heads) (now starts) (now bodies) (now before) (now partners) (now owners) ⌝ }
-    ensures { λ r. ⌜ FillGives (programIn (t .sizes) (now (heads .entry)) (now (starts .entry)) (now (bodies .entry))) (fillResult (programIn (t .sizes) (now (heads .entry)) (now (starts .entry)) (now (bodies .entry))) (now (set .entry)) (length (now (assignment .entry))) (length (now (levels .entry)))) r (now (assignment .entry)) (now (assignment .exit)) (now (levels .entry)) (now (levels .exit)) ⌝ }
+    ensures { λ r. ⌜ FillGives (programIn (t .sizes) (now (heads .entry)) (now (starts .entry)) (now (bodies .entry)))
+        (fillResult (programIn (t .sizes) (now (heads .entry)) (now (starts .entry)) (now (bodies .entry))) (now (set .entry))
+        (length (now (assignment .entry))) (length (now (levels .entry)))) r (now (assignment .entry)) (now (assignment .exit))
+        (now (levels .entry)) (now (levels .exit)) ⌝ }
 {
     if assignment.len() < t.vars {
         return FillVerdict::Refused(FillRefusal::ShortBuffer(t.vars));
@@ -62,7 +65,9 @@ fn fill_in<'a>(
 // Filling out for a program that was read.
 fn fill_program(p: Program, set: &[u8], assignment: &mut [u8], levels: &mut [u8]) -> FillVerdict
     requires { ⌜ Stored p ⌝ }
-    ensures { λ r. ⌜ FillGives (decoded p) (fillResult (decoded p) (now (set .entry)) (length (now (assignment .entry))) (length (now (levels .entry)))) r (now (assignment .entry)) (now (assignment .exit)) (now (levels .entry)) (now (levels .exit)) ⌝ }
+    ensures { λ r. ⌜ FillGives (decoded p)
+        (fillResult (decoded p) (now (set .entry)) (length (now (assignment .entry))) (length (now (levels .entry)))) r (now (assignment .entry))
+        (now (assignment .exit)) (now (levels .entry)) (now (levels .exit)) ⌝ }
 {
     let k = pairs_of(p);
     let t = totals_of(p, k.count, k.empty);
@@ -83,7 +88,9 @@ fn fill_program(p: Program, set: &[u8], assignment: &mut [u8], levels: &mut [u8]
 // Whether the set, one byte for each atom, is a stable model: how many atoms are true, and the highest level; its assignment and its levels are written.
 // A refusal writes nothing. Bytes past V and n stay.
 pub fn fill_out(text: &[u8], set: &[u8], assignment: &mut [u8], levels: &mut [u8]) -> FillVerdict
-    ensures { λ r. ⌜ (r ≡ fillAnswer (now (text .entry)) (now (set .entry)) (length (now (assignment .entry))) (length (now (levels .entry)))) × (now (assignment .exit) ≡ fillAssignment (now (text .entry)) (now (set .entry)) (now (assignment .entry)) (length (now (levels .entry)))) × (now (levels .exit) ≡ fillLevels (now (text .entry)) (now (set .entry)) (length (now (assignment .entry))) (now (levels .entry))) ⌝ }
+    ensures { λ r. ⌜ (r ≡ fillAnswer (now (text .entry)) (now (set .entry)) (length (now (assignment .entry))) (length (now (levels .entry))))
+        × (now (assignment .exit) ≡ fillAssignment (now (text .entry)) (now (set .entry)) (now (assignment .entry)) (length (now (levels .entry))))
+        × (now (levels .exit) ≡ fillLevels (now (text .entry)) (now (set .entry)) (length (now (assignment .entry))) (now (levels .entry))) ⌝ }
 {
     let x = read(text);
     let v = x.verdict;

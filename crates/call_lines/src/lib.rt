@@ -34,7 +34,10 @@ fn line_in<'a>(
     buf: &mut [u8],
 ) -> LineVerdict
     requires { ⌜ Ready t (now heads) (now starts) (now bodies) (now before) (now partners) (now owners) ⌝ }
-    ensures { λ r. ⌜ (r ≡ answerIn (programIn (t .sizes) (now (heads .entry)) (now (starts .entry)) (now (bodies .entry))) j (length (now (buf .entry)) - from)) × (now (buf .exit) ≡ lineBytesIn (programIn (t .sizes) (now (heads .entry)) (now (starts .entry)) (now (bodies .entry))) j from (now (buf .entry))) ⌝ }
+    ensures { λ r. ⌜ (r
+        ≡ answerIn (programIn (t .sizes) (now (heads .entry)) (now (starts .entry)) (now (bodies .entry))) j (length (now (buf .entry)) - from))
+        × (now (buf .exit)
+        ≡ lineBytesIn (programIn (t .sizes) (now (heads .entry)) (now (starts .entry)) (now (bodies .entry))) j from (now (buf .entry))) ⌝ }
 {
     if t.clauses < j {
         return LineVerdict::Refused(LineRefusal::NoSuchClause(t.clauses));
@@ -73,7 +76,9 @@ fn run_in<'a>(
     buf: &mut [u8],
 ) -> RunVerdict
     requires { ⌜ Ready t (now heads) (now starts) (now bodies) (now before) (now partners) (now owners) ⌝ }
-    ensures { λ r. ⌜ (r ≡ runAnswerIn (programIn (t .sizes) (now (heads .entry)) (now (starts .entry)) (now (bodies .entry))) j (length (now (buf .entry)))) × (now (buf .exit) ≡ runBytesIn (programIn (t .sizes) (now (heads .entry)) (now (starts .entry)) (now (bodies .entry))) j (now (buf .entry))) ⌝ }
+    ensures { λ r. ⌜ (r
+        ≡ runAnswerIn (programIn (t .sizes) (now (heads .entry)) (now (starts .entry)) (now (bodies .entry))) j (length (now (buf .entry))))
+        × (now (buf .exit) ≡ runBytesIn (programIn (t .sizes) (now (heads .entry)) (now (starts .entry)) (now (bodies .entry))) j (now (buf .entry))) ⌝ }
 {
     if t.clauses < j {
         return RunVerdict::RefusedRun(LineRefusal::NoSuchClause(t.clauses));
@@ -141,7 +146,8 @@ fn run_of(p: Program, j: usize, buf: &mut [u8]) -> RunVerdict
 // Line j of the text's clause file, written into the buffer from place `from` on: its length, or a refusal, which writes nothing.
 // The buffer's other bytes stay.
 pub fn line(text: &[u8], j: usize, from: usize, buf: &mut [u8]) -> LineVerdict
-    ensures { λ r. ⌜ (r ≡ lineAnswer (now (text .entry)) j from (length (now (buf .entry)))) × (now (buf .exit) ≡ lineBytes (now (text .entry)) j from (now (buf .entry))) ⌝ }
+    ensures { λ r. ⌜ (r ≡ lineAnswer (now (text .entry)) j from (length (now (buf .entry))))
+        × (now (buf .exit) ≡ lineBytes (now (text .entry)) j from (now (buf .entry))) ⌝ }
 {
     let r = read(text);
     let v = r.verdict;
@@ -154,7 +160,8 @@ pub fn line(text: &[u8], j: usize, from: usize, buf: &mut [u8]) -> LineVerdict
 // As many whole lines as fit the buffer, from line j on: how many and how many bytes, or a refusal, which writes nothing.
 // The buffer's other bytes stay.
 pub fn run(text: &[u8], j: usize, buf: &mut [u8]) -> RunVerdict
-    ensures { λ r. ⌜ (r ≡ runAnswer (now (text .entry)) j (length (now (buf .entry)))) × (now (buf .exit) ≡ runBytes (now (text .entry)) j (now (buf .entry))) ⌝ }
+    ensures { λ r. ⌜ (r ≡ runAnswer (now (text .entry)) j (length (now (buf .entry))))
+        × (now (buf .exit) ≡ runBytes (now (text .entry)) j (now (buf .entry))) ⌝ }
 {
     let r = read(text);
     let v = r.verdict;

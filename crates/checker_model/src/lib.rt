@@ -58,8 +58,10 @@ fn level_number(levels: &[u8], a: usize) -> usize
 
 // Writes the levels of the true ones of the atoms 1 to n.
 fn put_levels_text(n: usize, assignment: &[u8], levels: &[u8], buf: &mut [u8]) -> usize
-    requires { ⌜ (n ≤ length (now assignment)) × (n ≤ length (now levels)) × (length (numbersText (map (levelByte (now levels)) (trueAtomList n (now assignment)))) ≤ length (now buf)) ⌝ }
-    ensures { λ r. ⌜ Wrote (numbersText (map (levelByte (now (levels .entry))) (trueAtomList n (now (assignment .entry))))) (now (buf .entry)) (now (buf .exit)) r ⌝ }
+    requires { ⌜ (n ≤ length (now assignment)) × (n ≤ length (now levels))
+        × (length (numbersText (map (levelByte (now levels)) (trueAtomList n (now assignment)))) ≤ length (now buf)) ⌝ }
+    ensures { λ r. ⌜ Wrote (numbersText (map (levelByte (now (levels .entry))) (trueAtomList n (now (assignment .entry))))) (now (buf .entry))
+        (now (buf .exit)) r ⌝ }
 {
     let mut a: usize = 0;
     let mut to: usize = 0;

@@ -22,7 +22,8 @@ ghost use Rattle.digits.specs.Digits.{digitsOf};
 ghost use Rattle.clause_walk.specs.Walk.{BlockAt};
 ghost use Rattle.clause_tables.specs.Tables.{programIn, Ready};
 ghost use Rattle.clause_text.specs.Blocks.{isBlockwise, blockText};
-ghost use Rattle.clause_blocks.specs.Texts.{signText, twoText, threeText, firstText, nextText, ShortBit, bitText, lowerText, pairText, pairsText, longText, nextBlockText};
+ghost use Rattle.clause_blocks.specs.Texts.{signText, twoText, threeText, firstText, nextText, ShortBit};
+ghost use Rattle.clause_blocks.specs.Texts.{bitText, lowerText, pairText, pairsText, longText, nextBlockText};
 
 // Each function below writes at the front of the buffer and returns how many bytes it wrote.
 
@@ -162,7 +163,8 @@ fn put_pairs(s: Sizes, a: Atom, k: u16, u: Digits, v: Digits, buf: &mut [u8]) ->
 // The line of the k lower bits, negated, and of u and v with sign p.
 fn put_long(s: Sizes, a: Atom, k: u16, p: bool, u: Digits, v: Digits, buf: &mut [u8]) -> usize
     requires { ⌜ (Bounded s) × (0 < a .0) × (a .0 ≤ 126) × (k ≤ 7) × (length (longText (sizesOf s) (a .0) k p u v) ≤ length (now buf)) ⌝ }
-    ensures { λ r. ⌜ (r ≡ length (longText (sizesOf s) (a .0) k p u v)) × (now (buf .exit) ≡ longText (sizesOf s) (a .0) k p u v ++ drop r (now (buf .entry))) ⌝ }
+    ensures { λ r. ⌜ (r ≡ length (longText (sizesOf s) (a .0) k p u v))
+        × (now (buf .exit) ≡ longText (sizesOf s) (a .0) k p u v ++ drop r (now (buf .entry))) ⌝ }
 {
     let mut at = put_lower(s, a, k, &mut *buf);
     at += put_two(p, u, p, v, &mut buf[at..]);
@@ -198,8 +200,14 @@ pub fn put_block<'a>(
     i: u16,
     buf: &mut [u8],
 ) -> usize
-    requires { ⌜ (Ready t (now heads) (now starts) (now bodies) (now before) (now partners) (now owners)) × (BlockAt (programIn (t .sizes) (now heads) (now starts) (now bodies)) (t .sizes .w) g a i) × (isBlockwise g ≡ true) × (length (blockText (programIn (t .sizes) (now heads) (now starts) (now bodies)) (t .sizes .w) g a i) ≤ length (now buf)) ⌝ }
-    ensures { λ r. ⌜ (r ≡ length (blockText (programIn (t .sizes) (now (heads .entry)) (now (starts .entry)) (now (bodies .entry))) (t .sizes .w) g a i)) × (now (buf .exit) ≡ blockText (programIn (t .sizes) (now (heads .entry)) (now (starts .entry)) (now (bodies .entry))) (t .sizes .w) g a i ++ drop r (now (buf .entry))) ⌝ }
+    requires { ⌜ (Ready t (now heads) (now starts) (now bodies) (now before) (now partners) (now owners))
+        × (BlockAt (programIn (t .sizes) (now heads) (now starts) (now bodies)) (t .sizes .w) g a i) × (isBlockwise g ≡ true)
+        × (length (blockText (programIn (t .sizes) (now heads) (now starts) (now bodies)) (t .sizes .w) g a i) ≤ length (now buf)) ⌝ }
+    ensures { λ r. ⌜ (r
+        ≡ length (blockText (programIn (t .sizes) (now (heads .entry)) (now (starts .entry)) (now (bodies .entry))) (t .sizes .w) g a i))
+        × (now (buf .exit)
+        ≡ blockText (programIn (t .sizes) (now (heads .entry)) (now (starts .entry)) (now (bodies .entry))) (t .sizes .w) g a i
+        ++ drop r (now (buf .entry))) ⌝ }
 {
     if g == 5 {
         let c = chain_of_block(t, heads, starts, bodies, before, partners, owners, g, a, i);

@@ -160,8 +160,10 @@ fn find_atom<'a>(
     owners: &'a [u16],
     left: usize,
 ) -> PartFound
-    requires { ⌜ (Ready t (now heads) (now starts) (now bodies) (now before) (now partners) (now owners)) × (left < groupSize (programIn (t .sizes) (now heads) (now starts) (now bodies)) (t .sizes .w) 2) ⌝ }
-    ensures { λ r. ⌜ Falls (itemCount (programIn (t .sizes) (now (heads .entry)) (now (starts .entry)) (now (bodies .entry))) 2) (itemSize (programIn (t .sizes) (now (heads .entry)) (now (starts .entry)) (now (bodies .entry))) (t .sizes .w) 2) left r ⌝ }
+    requires { ⌜ (Ready t (now heads) (now starts) (now bodies) (now before) (now partners) (now owners))
+        × (left < groupSize (programIn (t .sizes) (now heads) (now starts) (now bodies)) (t .sizes .w) 2) ⌝ }
+    ensures { λ r. ⌜ Falls (itemCount (programIn (t .sizes) (now (heads .entry)) (now (starts .entry)) (now (bodies .entry))) 2)
+        (itemSize (programIn (t .sizes) (now (heads .entry)) (now (starts .entry)) (now (bodies .entry))) (t .sizes .w) 2) left r ⌝ }
 {
     let mut low: u16 = 0;
     let mut high = t.sizes.n;
@@ -191,8 +193,10 @@ fn find_rule<'a>(
     g: u16,
     left: usize,
 ) -> PartFound
-    requires { ⌜ (Ready t (now heads) (now starts) (now bodies) (now before) (now partners) (now owners)) × (0 < g) × (g ≤ 7) × (isFixed g ≡ false) × (g ≡ 2 → ⊥) × (left < groupSize (programIn (t .sizes) (now heads) (now starts) (now bodies)) (t .sizes .w) g) ⌝ }
-    ensures { λ r. ⌜ Falls (itemCount (programIn (t .sizes) (now (heads .entry)) (now (starts .entry)) (now (bodies .entry))) g) (itemSize (programIn (t .sizes) (now (heads .entry)) (now (starts .entry)) (now (bodies .entry))) (t .sizes .w) g) left r ⌝ }
+    requires { ⌜ (Ready t (now heads) (now starts) (now bodies) (now before) (now partners) (now owners)) × (0 < g) × (g ≤ 7) × (isFixed g ≡ false)
+        × (g ≡ 2 → ⊥) × (left < groupSize (programIn (t .sizes) (now heads) (now starts) (now bodies)) (t .sizes .w) g) ⌝ }
+    ensures { λ r. ⌜ Falls (itemCount (programIn (t .sizes) (now (heads .entry)) (now (starts .entry)) (now (bodies .entry))) g)
+        (itemSize (programIn (t .sizes) (now (heads .entry)) (now (starts .entry)) (now (bodies .entry))) (t .sizes .w) g) left r ⌝ }
 {
     let n = items(t, g);
     let mut a: u16 = 1;
@@ -226,8 +230,10 @@ fn find_item<'a>(
     g: u16,
     left: usize,
 ) -> PartFound
-    requires { ⌜ (Ready t (now heads) (now starts) (now bodies) (now before) (now partners) (now owners)) × (0 < g) × (g ≤ 7) × (left < groupSize (programIn (t .sizes) (now heads) (now starts) (now bodies)) (t .sizes .w) g) ⌝ }
-    ensures { λ r. ⌜ Falls (itemCount (programIn (t .sizes) (now (heads .entry)) (now (starts .entry)) (now (bodies .entry))) g) (itemSize (programIn (t .sizes) (now (heads .entry)) (now (starts .entry)) (now (bodies .entry))) (t .sizes .w) g) left r ⌝ }
+    requires { ⌜ (Ready t (now heads) (now starts) (now bodies) (now before) (now partners) (now owners)) × (0 < g) × (g ≤ 7)
+        × (left < groupSize (programIn (t .sizes) (now heads) (now starts) (now bodies)) (t .sizes .w) g) ⌝ }
+    ensures { λ r. ⌜ Falls (itemCount (programIn (t .sizes) (now (heads .entry)) (now (starts .entry)) (now (bodies .entry))) g)
+        (itemSize (programIn (t .sizes) (now (heads .entry)) (now (starts .entry)) (now (bodies .entry))) (t .sizes .w) g) left r ⌝ }
 {
     if is_fixed(g) {
         let k = fixed_size(wide(t.sizes.w), g);
@@ -256,8 +262,11 @@ fn find_block<'a>(
     a: u16,
     left: usize,
 ) -> PartFound
-    requires { ⌜ (Ready t (now heads) (now starts) (now bodies) (now before) (now partners) (now owners)) × (0 < g) × (g ≤ 7) × (0 < a) × (a ≤ itemCount (programIn (t .sizes) (now heads) (now starts) (now bodies)) g) × (left < itemSize (programIn (t .sizes) (now heads) (now starts) (now bodies)) (t .sizes .w) g a) ⌝ }
-    ensures { λ r. ⌜ Falls (blockCount (programIn (t .sizes) (now (heads .entry)) (now (starts .entry)) (now (bodies .entry))) (t .sizes .w) g) (sizeAt (programIn (t .sizes) (now (heads .entry)) (now (starts .entry)) (now (bodies .entry))) (t .sizes .w) g a) left r ⌝ }
+    requires { ⌜ (Ready t (now heads) (now starts) (now bodies) (now before) (now partners) (now owners)) × (0 < g) × (g ≤ 7) × (0 < a)
+        × (a ≤ itemCount (programIn (t .sizes) (now heads) (now starts) (now bodies)) g)
+        × (left < itemSize (programIn (t .sizes) (now heads) (now starts) (now bodies)) (t .sizes .w) g a) ⌝ }
+    ensures { λ r. ⌜ Falls (blockCount (programIn (t .sizes) (now (heads .entry)) (now (starts .entry)) (now (bodies .entry))) (t .sizes .w) g)
+        (sizeAt (programIn (t .sizes) (now (heads .entry)) (now (starts .entry)) (now (bodies .entry))) (t .sizes .w) g a) left r ⌝ }
 {
     let n = block_count(t.sizes, g);
     let mut i: u16 = 1;
@@ -293,7 +302,8 @@ fn coordinates_at<'a>(
     i: u16,
     y: u16,
 ) -> Coordinates
-    requires { ⌜ (Ready t (now heads) (now starts) (now bodies) (now before) (now partners) (now owners)) × (At (programIn (t .sizes) (now heads) (now starts) (now bodies)) (t .sizes .w) g a i y) ⌝ }
+    requires { ⌜ (Ready t (now heads) (now starts) (now bodies) (now before) (now partners) (now owners))
+        × (At (programIn (t .sizes) (now heads) (now starts) (now bodies)) (t .sizes .w) g a i y) ⌝ }
     ensures { λ r. ⌜ r ≡ coordinates (programIn (t .sizes) (now (heads .entry)) (now (starts .entry)) (now (bodies .entry))) (t .sizes .w) g a i y ⌝ }
 {
     Coordinates {

@@ -93,7 +93,8 @@ fn start(starts: &[u16], r: Rule, k: usize) -> u16
 
 // How many body atoms rule r has before start k.
 fn span(starts: &[u16], r: Rule, k: usize) -> u16
-    requires { ⌜ (0 < r .0) × (r .0 ≤ 500) × (k ≤ 2) × (length (now starts) ≡ 1001) × (getD (now starts) (2 * (r .0 - 1) + 0) 0 ≤ getD (now starts) (2 * (r .0 - 1) + k) 0) ⌝ }
+    requires { ⌜ (0 < r .0) × (r .0 ≤ 500) × (k ≤ 2) × (length (now starts) ≡ 1001)
+        × (getD (now starts) (2 * (r .0 - 1) + 0) 0 ≤ getD (now starts) (2 * (r .0 - 1) + k) 0) ⌝ }
     ensures { λ x. ⌜ x ≡ getD (now (starts .entry)) (2 * (r .0 - 1) + k) 0 - getD (now (starts .entry)) (2 * (r .0 - 1) + 0) 0 ⌝ }
 {
     start(starts, r, k) - start(starts, r, 0)
@@ -110,7 +111,8 @@ fn body_part(
     y: u16,
     l: u16,
 ) -> Signed
-    requires { ⌜ (Bounded s) × (r .0 ≤ 500) × (first ≤ middle) × (first ≤ end) × (end ≤ length (now bodies)) × (0 < y) × (0 < l) × (l ≤ slots1 (end - first) y) ⌝ }
+    requires { ⌜ (Bounded s) × (r .0 ≤ 500) × (first ≤ middle) × (first ≤ end) × (end ≤ length (now bodies)) × (0 < y) × (0 < l)
+        × (l ≤ slots1 (end - first) y) ⌝ }
     ensures { λ x. ⌜ literalIn x ≡ slot1 (sizesOf s) (r .0) (take (end - first) (drop first (now (bodies .entry)))) (middle - first) y l ⌝ }
 {
     body_slot(
@@ -158,7 +160,8 @@ pub fn size<'a>(
     a: u16,
     i: u16,
 ) -> u16
-    requires { ⌜ (Ready t (now heads) (now starts) (now bodies) (now before) (now partners) (now owners)) × (BlockAt (programIn (t .sizes) (now heads) (now starts) (now bodies)) (t .sizes .w) g a i) ⌝ }
+    requires { ⌜ (Ready t (now heads) (now starts) (now bodies) (now before) (now partners) (now owners))
+        × (BlockAt (programIn (t .sizes) (now heads) (now starts) (now bodies)) (t .sizes .w) g a i) ⌝ }
     ensures { λ r. ⌜ r ≡ sizeAt (programIn (t .sizes) (now (heads .entry)) (now (starts .entry)) (now (bodies .entry))) (t .sizes .w) g a i ⌝ }
 {
     let s = t.sizes;
@@ -197,7 +200,8 @@ pub fn slots<'a>(
     i: u16,
     y: u16,
 ) -> u16
-    requires { ⌜ (Ready t (now heads) (now starts) (now bodies) (now before) (now partners) (now owners)) × (At (programIn (t .sizes) (now heads) (now starts) (now bodies)) (t .sizes .w) g a i y) ⌝ }
+    requires { ⌜ (Ready t (now heads) (now starts) (now bodies) (now before) (now partners) (now owners))
+        × (At (programIn (t .sizes) (now heads) (now starts) (now bodies)) (t .sizes .w) g a i y) ⌝ }
     ensures { λ r. ⌜ r ≡ slotsAt (programIn (t .sizes) (now (heads .entry)) (now (starts .entry)) (now (bodies .entry))) (t .sizes .w) g a i y ⌝ }
 {
     let s = t.sizes;
@@ -240,8 +244,11 @@ pub fn slot<'a>(
     y: u16,
     l: u16,
 ) -> Signed
-    requires { ⌜ (Ready t (now heads) (now starts) (now bodies) (now before) (now partners) (now owners)) × (At (programIn (t .sizes) (now heads) (now starts) (now bodies)) (t .sizes .w) g a i y) × (0 < l) × (l ≤ slotsAt (programIn (t .sizes) (now heads) (now starts) (now bodies)) (t .sizes .w) g a i y) ⌝ }
-    ensures { λ x. ⌜ literalIn x ≡ slotLiteral (slotAt (programIn (t .sizes) (now (heads .entry)) (now (starts .entry)) (now (bodies .entry))) (t .sizes .w) g a i y l) ⌝ }
+    requires { ⌜ (Ready t (now heads) (now starts) (now bodies) (now before) (now partners) (now owners))
+        × (At (programIn (t .sizes) (now heads) (now starts) (now bodies)) (t .sizes .w) g a i y) × (0 < l)
+        × (l ≤ slotsAt (programIn (t .sizes) (now heads) (now starts) (now bodies)) (t .sizes .w) g a i y) ⌝ }
+    ensures { λ x. ⌜ literalIn x
+        ≡ slotLiteral (slotAt (programIn (t .sizes) (now (heads .entry)) (now (starts .entry)) (now (bodies .entry))) (t .sizes .w) g a i y l) ⌝ }
 {
     let s = t.sizes;
     if g == 5 {
@@ -366,7 +373,8 @@ pub fn chain_of_block<'a>(
     a: u16,
     i: u16,
 ) -> Chain
-    requires { ⌜ (Ready t (now heads) (now starts) (now bodies) (now before) (now partners) (now owners)) × (BlockAt (programIn (t .sizes) (now heads) (now starts) (now bodies)) (t .sizes .w) g a i) ⌝ }
+    requires { ⌜ (Ready t (now heads) (now starts) (now bodies) (now before) (now partners) (now owners))
+        × (BlockAt (programIn (t .sizes) (now heads) (now starts) (now bodies)) (t .sizes .w) g a i) ⌝ }
     ensures { λ r. ⌜ r ≡ chainOfBlock (programIn (t .sizes) (now (heads .entry)) (now (starts .entry)) (now (bodies .entry))) (t .sizes .w) g a i ⌝ }
 {
     if g == 5 {
@@ -398,8 +406,12 @@ pub fn literal_in<'a>(
     y: u16,
     l: u16,
 ) -> Signed
-    requires { ⌜ (Ready t (now heads) (now starts) (now bodies) (now before) (now partners) (now owners)) × (At (programIn (t .sizes) (now heads) (now starts) (now bodies)) (t .sizes .w) g a i y) × (0 < l) × (l ≤ slotsAt (programIn (t .sizes) (now heads) (now starts) (now bodies)) (t .sizes .w) g a i y) × (c ≡ chainOfBlock (programIn (t .sizes) (now heads) (now starts) (now bodies)) (t .sizes .w) g a i) ⌝ }
-    ensures { λ x. ⌜ literalIn x ≡ slotLiteral (slotAt (programIn (t .sizes) (now (heads .entry)) (now (starts .entry)) (now (bodies .entry))) (t .sizes .w) g a i y l) ⌝ }
+    requires { ⌜ (Ready t (now heads) (now starts) (now bodies) (now before) (now partners) (now owners))
+        × (At (programIn (t .sizes) (now heads) (now starts) (now bodies)) (t .sizes .w) g a i y) × (0 < l)
+        × (l ≤ slotsAt (programIn (t .sizes) (now heads) (now starts) (now bodies)) (t .sizes .w) g a i y)
+        × (c ≡ chainOfBlock (programIn (t .sizes) (now heads) (now starts) (now bodies)) (t .sizes .w) g a i) ⌝ }
+    ensures { λ x. ⌜ literalIn x
+        ≡ slotLiteral (slotAt (programIn (t .sizes) (now (heads .entry)) (now (starts .entry)) (now (bodies .entry))) (t .sizes .w) g a i y l) ⌝ }
 {
     if g == 5 {
         return chain_literal(c, chain_bit(t.sizes.w, i), y, l);

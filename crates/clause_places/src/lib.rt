@@ -86,7 +86,8 @@ fn step<'a>(
     owners: &'a [u16],
     c: Coordinates,
 ) -> Coordinates
-    requires { ⌜ (Ready t (now heads) (now starts) (now bodies) (now before) (now partners) (now owners)) × (In (programIn (t .sizes) (now heads) (now starts) (now bodies)) (t .sizes .w) c) × (c .clauses ≡ 0) × (isOver c ≡ false) ⌝ }
+    requires { ⌜ (Ready t (now heads) (now starts) (now bodies) (now before) (now partners) (now owners))
+        × (In (programIn (t .sizes) (now heads) (now starts) (now bodies)) (t .sizes .w) c) × (c .clauses ≡ 0) × (isOver c ≡ false) ⌝ }
     ensures { λ r. ⌜ Onward (programIn (t .sizes) (now (heads .entry)) (now (starts .entry)) (now (bodies .entry))) (t .sizes .w) c r ⌝ }
 {
     let g = c.group;
@@ -131,7 +132,8 @@ fn next_coordinates<'a>(
     owners: &'a [u16],
     c: Coordinates,
 ) -> Coordinates
-    requires { ⌜ (Ready t (now heads) (now starts) (now bodies) (now before) (now partners) (now owners)) × (In (programIn (t .sizes) (now heads) (now starts) (now bodies)) (t .sizes .w) c) ⌝ }
+    requires { ⌜ (Ready t (now heads) (now starts) (now bodies) (now before) (now partners) (now owners))
+        × (In (programIn (t .sizes) (now heads) (now starts) (now bodies)) (t .sizes .w) c) ⌝ }
     ensures { λ r. ⌜ r ≡ firstOf (ahead (programIn (t .sizes) (now (heads .entry)) (now (starts .entry)) (now (bodies .entry))) (t .sizes .w) c) ⌝ }
 {
     let mut at = c;
@@ -182,7 +184,8 @@ pub fn next<'a>(
     owners: &'a [u16],
     c: Place,
 ) -> Place
-    requires { ⌜ (Ready t (now heads) (now starts) (now bodies) (now before) (now partners) (now owners)) × (c ≡ placeAt (programIn (t .sizes) (now heads) (now starts) (now bodies)) (t .sizes .w) (c .number)) × (c .number ≤ t .clauses) ⌝ }
+    requires { ⌜ (Ready t (now heads) (now starts) (now bodies) (now before) (now partners) (now owners))
+        × (c ≡ placeAt (programIn (t .sizes) (now heads) (now starts) (now bodies)) (t .sizes .w) (c .number)) × (c .number ≤ t .clauses) ⌝ }
     ensures { λ r. ⌜ r ≡ placeAt (programIn (t .sizes) (now (heads .entry)) (now (starts .entry)) (now (bodies .entry))) (t .sizes .w) (suc (c .number)) ⌝ }
 {
     Place {
@@ -211,8 +214,11 @@ fn last<'a>(
     owners: &'a [u16],
     c: Place,
 ) -> Place
-    requires { ⌜ (Ready t (now heads) (now starts) (now bodies) (now before) (now partners) (now owners)) × (c ≡ placeAt (programIn (t .sizes) (now heads) (now starts) (now bodies)) (t .sizes .w) (c .number)) × (c .number ≤ t .clauses) ⌝ }
-    ensures { λ r. ⌜ (r ≡ placeAt (programIn (t .sizes) (now (heads .entry)) (now (starts .entry)) (now (bodies .entry))) (t .sizes .w) (c .number + c .coordinates .clauses)) × (c .number + c .coordinates .clauses ≤ t .clauses) × (r .coordinates .clauses ≡ 0) ⌝ }
+    requires { ⌜ (Ready t (now heads) (now starts) (now bodies) (now before) (now partners) (now owners))
+        × (c ≡ placeAt (programIn (t .sizes) (now heads) (now starts) (now bodies)) (t .sizes .w) (c .number)) × (c .number ≤ t .clauses) ⌝ }
+    ensures { λ r. ⌜ (r
+        ≡ placeAt (programIn (t .sizes) (now (heads .entry)) (now (starts .entry)) (now (bodies .entry))) (t .sizes .w)
+        (c .number + c .coordinates .clauses)) × (c .number + c .coordinates .clauses ≤ t .clauses) × (r .coordinates .clauses ≡ 0) ⌝ }
 {
     let s = c.coordinates;
     Place {
@@ -240,8 +246,11 @@ pub fn past_block<'a>(
     owners: &'a [u16],
     c: Place,
 ) -> Place
-    requires { ⌜ (Ready t (now heads) (now starts) (now bodies) (now before) (now partners) (now owners)) × (c ≡ placeAt (programIn (t .sizes) (now heads) (now starts) (now bodies)) (t .sizes .w) (c .number)) × (c .number ≤ t .clauses) ⌝ }
-    ensures { λ r. ⌜ (r ≡ placeAt (programIn (t .sizes) (now (heads .entry)) (now (starts .entry)) (now (bodies .entry))) (t .sizes .w) (suc (c .number + c .coordinates .clauses))) × (c .number + c .coordinates .clauses ≤ t .clauses) ⌝ }
+    requires { ⌜ (Ready t (now heads) (now starts) (now bodies) (now before) (now partners) (now owners))
+        × (c ≡ placeAt (programIn (t .sizes) (now heads) (now starts) (now bodies)) (t .sizes .w) (c .number)) × (c .number ≤ t .clauses) ⌝ }
+    ensures { λ r. ⌜ (r
+        ≡ placeAt (programIn (t .sizes) (now (heads .entry)) (now (starts .entry)) (now (bodies .entry))) (t .sizes .w)
+        (suc (c .number + c .coordinates .clauses))) × (c .number + c .coordinates .clauses ≤ t .clauses) ⌝ }
 {
     let end = last(t, heads, starts, bodies, before, partners, owners, c);
     next(t, heads, starts, bodies, before, partners, owners, end)

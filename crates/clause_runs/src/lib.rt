@@ -41,7 +41,8 @@ pub fn line_length<'a>(
     owners: &'a [u16],
     c: Place,
 ) -> usize
-    requires { ⌜ (Ready t (now heads) (now starts) (now bodies) (now before) (now partners) (now owners)) × (c ≡ placeAt (programIn (t .sizes) (now heads) (now starts) (now bodies)) (t .sizes .w) (c .number)) × (c .number ≤ t .clauses) ⌝ }
+    requires { ⌜ (Ready t (now heads) (now starts) (now bodies) (now before) (now partners) (now owners))
+        × (c ≡ placeAt (programIn (t .sizes) (now heads) (now starts) (now bodies)) (t .sizes .w) (c .number)) × (c .number ≤ t .clauses) ⌝ }
     ensures { λ r. ⌜ r ≡ length (lineOf (programIn (t .sizes) (now (heads .entry)) (now (starts .entry)) (now (bodies .entry))) (c .number)) ⌝ }
 {
     if c.number == 0 {
@@ -75,8 +76,12 @@ pub fn put_line<'a>(
     c: Place,
     buf: &mut [u8],
 ) -> usize
-    requires { ⌜ (Ready t (now heads) (now starts) (now bodies) (now before) (now partners) (now owners)) × (c ≡ placeAt (programIn (t .sizes) (now heads) (now starts) (now bodies)) (t .sizes .w) (c .number)) × (c .number ≤ t .clauses) × (length (lineOf (programIn (t .sizes) (now heads) (now starts) (now bodies)) (c .number)) ≤ length (now buf)) ⌝ }
-    ensures { λ r. ⌜ (r ≡ length (lineOf (programIn (t .sizes) (now (heads .entry)) (now (starts .entry)) (now (bodies .entry))) (c .number))) × (now (buf .exit) ≡ lineOf (programIn (t .sizes) (now (heads .entry)) (now (starts .entry)) (now (bodies .entry))) (c .number) ++ drop r (now (buf .entry))) ⌝ }
+    requires { ⌜ (Ready t (now heads) (now starts) (now bodies) (now before) (now partners) (now owners))
+        × (c ≡ placeAt (programIn (t .sizes) (now heads) (now starts) (now bodies)) (t .sizes .w) (c .number)) × (c .number ≤ t .clauses)
+        × (length (lineOf (programIn (t .sizes) (now heads) (now starts) (now bodies)) (c .number)) ≤ length (now buf)) ⌝ }
+    ensures { λ r. ⌜ (r ≡ length (lineOf (programIn (t .sizes) (now (heads .entry)) (now (starts .entry)) (now (bodies .entry))) (c .number)))
+        × (now (buf .exit)
+        ≡ lineOf (programIn (t .sizes) (now (heads .entry)) (now (starts .entry)) (now (bodies .entry))) (c .number) ++ drop r (now (buf .entry))) ⌝ }
 {
     if c.number == 0 {
         return put_header(t.vars, t.clauses, &mut *buf);
@@ -110,7 +115,8 @@ fn fits<'a>(
     c: Place,
     room: usize,
 ) -> bool
-    requires { ⌜ (Ready t (now heads) (now starts) (now bodies) (now before) (now partners) (now owners)) × (c ≡ placeAt (programIn (t .sizes) (now heads) (now starts) (now bodies)) (t .sizes .w) (c .number)) × (c .number ≤ t .clauses) ⌝ }
+    requires { ⌜ (Ready t (now heads) (now starts) (now bodies) (now before) (now partners) (now owners))
+        × (c ≡ placeAt (programIn (t .sizes) (now heads) (now starts) (now bodies)) (t .sizes .w) (c .number)) × (c .number ≤ t .clauses) ⌝ }
     ensures { λ r. ⌜ r ≡ leb (length (lineOf (programIn (t .sizes) (now (heads .entry)) (now (starts .entry)) (now (bodies .entry))) (c .number))) room ⌝ }
 {
     if 3008 <= room {
@@ -130,8 +136,11 @@ fn after_block<'a>(
     owners: &'a [u16],
     c: Place,
 ) -> Place
-    requires { ⌜ (Ready t (now heads) (now starts) (now bodies) (now before) (now partners) (now owners)) × (c ≡ placeAt (programIn (t .sizes) (now heads) (now starts) (now bodies)) (t .sizes .w) (c .number)) × (c .number ≤ t .clauses) ⌝ }
-    ensures { λ r. ⌜ (r ≡ placeAt (programIn (t .sizes) (now (heads .entry)) (now (starts .entry)) (now (bodies .entry))) (t .sizes .w) (suc (c .number + c .coordinates .clauses))) × (c .number + c .coordinates .clauses ≤ t .clauses) ⌝ }
+    requires { ⌜ (Ready t (now heads) (now starts) (now bodies) (now before) (now partners) (now owners))
+        × (c ≡ placeAt (programIn (t .sizes) (now heads) (now starts) (now bodies)) (t .sizes .w) (c .number)) × (c .number ≤ t .clauses) ⌝ }
+    ensures { λ r. ⌜ (r
+        ≡ placeAt (programIn (t .sizes) (now (heads .entry)) (now (starts .entry)) (now (bodies .entry))) (t .sizes .w)
+        (suc (c .number + c .coordinates .clauses))) × (c .number + c .coordinates .clauses ≤ t .clauses) ⌝ }
 {
     let s = c.coordinates;
     if 0 < s.blocks {
@@ -166,8 +175,11 @@ fn put_whole_block<'a>(
     c: Place,
     buf: &mut [u8],
 ) -> RunPart
-    requires { ⌜ (Ready t (now heads) (now starts) (now bodies) (now before) (now partners) (now owners)) × (c ≡ placeAt (programIn (t .sizes) (now heads) (now starts) (now bodies)) (t .sizes .w) (c .number)) × (c .number ≤ t .clauses) × (isBlockwise (c .coordinates .group) ≡ true) × (c .coordinates .clause ≡ 1) × (3008 ≤ length (now buf)) ⌝ }
-    ensures { λ r. ⌜ Taken (programIn (t .sizes) (now (heads .entry)) (now (starts .entry)) (now (bodies .entry))) (t .sizes .w) (c .number) r (now (buf .entry)) (now (buf .exit)) ⌝ }
+    requires { ⌜ (Ready t (now heads) (now starts) (now bodies) (now before) (now partners) (now owners))
+        × (c ≡ placeAt (programIn (t .sizes) (now heads) (now starts) (now bodies)) (t .sizes .w) (c .number)) × (c .number ≤ t .clauses)
+        × (isBlockwise (c .coordinates .group) ≡ true) × (c .coordinates .clause ≡ 1) × (3008 ≤ length (now buf)) ⌝ }
+    ensures { λ r. ⌜ Taken (programIn (t .sizes) (now (heads .entry)) (now (starts .entry)) (now (bodies .entry))) (t .sizes .w) (c .number) r
+        (now (buf .entry)) (now (buf .exit)) ⌝ }
 {
     let s = c.coordinates;
     let bytes = put_block(
@@ -202,8 +214,11 @@ fn put_one<'a>(
     c: Place,
     buf: &mut [u8],
 ) -> RunPart
-    requires { ⌜ (Ready t (now heads) (now starts) (now bodies) (now before) (now partners) (now owners)) × (c ≡ placeAt (programIn (t .sizes) (now heads) (now starts) (now bodies)) (t .sizes .w) (c .number)) × (c .number ≤ t .clauses) × (length (lineOf (programIn (t .sizes) (now heads) (now starts) (now bodies)) (c .number)) ≤ length (now buf)) ⌝ }
-    ensures { λ r. ⌜ Taken (programIn (t .sizes) (now (heads .entry)) (now (starts .entry)) (now (bodies .entry))) (t .sizes .w) (c .number) r (now (buf .entry)) (now (buf .exit)) ⌝ }
+    requires { ⌜ (Ready t (now heads) (now starts) (now bodies) (now before) (now partners) (now owners))
+        × (c ≡ placeAt (programIn (t .sizes) (now heads) (now starts) (now bodies)) (t .sizes .w) (c .number)) × (c .number ≤ t .clauses)
+        × (length (lineOf (programIn (t .sizes) (now heads) (now starts) (now bodies)) (c .number)) ≤ length (now buf)) ⌝ }
+    ensures { λ r. ⌜ Taken (programIn (t .sizes) (now (heads .entry)) (now (starts .entry)) (now (bodies .entry))) (t .sizes .w) (c .number) r
+        (now (buf .entry)) (now (buf .exit)) ⌝ }
 {
     let bytes = put_line(
         t,
@@ -235,8 +250,11 @@ fn put_some<'a>(
     c: Place,
     buf: &mut [u8],
 ) -> RunPart
-    requires { ⌜ (Ready t (now heads) (now starts) (now bodies) (now before) (now partners) (now owners)) × (c ≡ placeAt (programIn (t .sizes) (now heads) (now starts) (now bodies)) (t .sizes .w) (c .number)) × (c .number ≤ t .clauses) × (length (lineOf (programIn (t .sizes) (now heads) (now starts) (now bodies)) (c .number)) ≤ length (now buf)) ⌝ }
-    ensures { λ r. ⌜ Taken (programIn (t .sizes) (now (heads .entry)) (now (starts .entry)) (now (bodies .entry))) (t .sizes .w) (c .number) r (now (buf .entry)) (now (buf .exit)) ⌝ }
+    requires { ⌜ (Ready t (now heads) (now starts) (now bodies) (now before) (now partners) (now owners))
+        × (c ≡ placeAt (programIn (t .sizes) (now heads) (now starts) (now bodies)) (t .sizes .w) (c .number)) × (c .number ≤ t .clauses)
+        × (length (lineOf (programIn (t .sizes) (now heads) (now starts) (now bodies)) (c .number)) ≤ length (now buf)) ⌝ }
+    ensures { λ r. ⌜ Taken (programIn (t .sizes) (now (heads .entry)) (now (starts .entry)) (now (bodies .entry))) (t .sizes .w) (c .number) r
+        (now (buf .entry)) (now (buf .exit)) ⌝ }
 {
     if 3008 <= buf.len() {
         if c.coordinates.clause == 1 {
@@ -280,8 +298,13 @@ pub fn put_lines<'a>(
     c: Place,
     buf: &mut [u8],
 ) -> RunPart
-    requires { ⌜ (Ready t (now heads) (now starts) (now bodies) (now before) (now partners) (now owners)) × (c ≡ placeAt (programIn (t .sizes) (now heads) (now starts) (now bodies)) (t .sizes .w) (c .number)) × (c .number ≤ suc (t .clauses)) ⌝ }
-    ensures { λ r. ⌜ (r ≡ partIn (programIn (t .sizes) (now (heads .entry)) (now (starts .entry)) (now (bodies .entry))) (t .sizes .w) (c .number) (length (now (buf .entry)))) × (now (buf .exit) ≡ runBytesIn (programIn (t .sizes) (now (heads .entry)) (now (starts .entry)) (now (bodies .entry))) (c .number) (now (buf .entry))) ⌝ }
+    requires { ⌜ (Ready t (now heads) (now starts) (now bodies) (now before) (now partners) (now owners))
+        × (c ≡ placeAt (programIn (t .sizes) (now heads) (now starts) (now bodies)) (t .sizes .w) (c .number)) × (c .number ≤ suc (t .clauses)) ⌝ }
+    ensures { λ r. ⌜ (r
+        ≡ partIn (programIn (t .sizes) (now (heads .entry)) (now (starts .entry)) (now (bodies .entry))) (t .sizes .w) (c .number)
+        (length (now (buf .entry))))
+        × (now (buf .exit)
+        ≡ runBytesIn (programIn (t .sizes) (now (heads .entry)) (now (starts .entry)) (now (bodies .entry))) (c .number) (now (buf .entry))) ⌝ }
 {
     let mut at = c;
     let mut lines: usize = 0;

@@ -18,7 +18,8 @@ ghost use lib.ListN.{length};
 ghost use Rattle.encoding.specs.Literal.{var, −_};
 ghost use Rattle.encoding.specs.Variables.{bodyVar, foundsVar, belowVar, nextBelowVar};
 ghost use Rattle.clause_literals.specs.Sizes.{sizesOf, Bounded};
-ghost use Rattle.clause_walk.specs.Walk.{signed, chainFirst, chainNext, chainSlot, slot3, slots4, slot4, chainSize, chainSlots, chainBit, slot5, size6, slots6, slot6};
+ghost use Rattle.clause_walk.specs.Walk.{signed, chainFirst, chainNext, chainSlot, slot3, slots4, slot4};
+ghost use Rattle.clause_walk.specs.Walk.{chainSize, chainSlots, chainBit, slot5, size6, slots6, slot6};
 ghost use Rattle.clause_walk.specs.Walk.{atomAt, slots1, slot1, impliedSlot, ofHead};
 ghost use Rattle.clause_walk.specs.Walk.{two as twoOf, three as threeOf};
 ghost use Rattle.clause_slots.specs.Signed.{literalIn, slotLiteral};
@@ -206,7 +207,8 @@ pub fn pair_slot(s: Sizes, k: u16, b: Atom, h: Atom, i: u16, y: u16, l: u16) -> 
 // Group 6, rule r: slot l of its long clause, where k pairs stand before those of r.
 fn founded_slot(s: Sizes, r: Rule, k: u16, l: u16) -> Signed
     requires { ⌜ (Bounded s) × (r .0 ≤ 500) × (0 < l) × (k + l ≤ 502) ⌝ }
-    ensures { λ x. ⌜ literalIn x ≡ threeOf (var (foundsVar (sizesOf s) (r .0))) (− bodyVar (sizesOf s) (r .0)) (− belowVar (sizesOf s) (k + (l - 2)) (s .w)) l ⌝ }
+    ensures { λ x. ⌜ literalIn x
+        ≡ threeOf (var (foundsVar (sizesOf s) (r .0))) (− bodyVar (sizesOf s) (r .0)) (− belowVar (sizesOf s) (k + (l - 2)) (s .w)) l ⌝ }
 {
     if l == 1 {
         return yes(founds_var(s, r));

@@ -47,7 +47,8 @@ fn store(
     heads: &mut [u16; 500],
 )
     requires { ⌜ (a + size ≤ length (now from)) × (at + size ≤ 500) ⌝ }
-    ensures { λ u. ⌜ (now (bodies .exit) ≡ sets (now (bodies .entry)) at (take size (drop a (now (from .entry))))) × (now (heads .exit) ≡ sets (now (heads .entry)) at (replicate size h)) ⌝ }
+    ensures { λ u. ⌜ (now (bodies .exit) ≡ sets (now (bodies .entry)) at (take size (drop a (now (from .entry)))))
+        × (now (heads .exit) ≡ sets (now (heads .entry)) at (replicate size h)) ⌝ }
 {
     let mut i: usize = 0;
     while i < size {

@@ -117,8 +117,10 @@ pub fn clause_length<'a>(
     i: u16,
     y: u16,
 ) -> usize
-    requires { ⌜ (Ready t (now heads) (now starts) (now bodies) (now before) (now partners) (now owners)) × (At (programIn (t .sizes) (now heads) (now starts) (now bodies)) (t .sizes .w) g a i y) ⌝ }
-    ensures { λ r. ⌜ r ≡ length (lineText (clauseAt (programIn (t .sizes) (now (heads .entry)) (now (starts .entry)) (now (bodies .entry))) (t .sizes .w) g a i y)) ⌝ }
+    requires { ⌜ (Ready t (now heads) (now starts) (now bodies) (now before) (now partners) (now owners))
+        × (At (programIn (t .sizes) (now heads) (now starts) (now bodies)) (t .sizes .w) g a i y) ⌝ }
+    ensures { λ r. ⌜ r
+        ≡ length (lineText (clauseAt (programIn (t .sizes) (now (heads .entry)) (now (starts .entry)) (now (bodies .entry))) (t .sizes .w) g a i y)) ⌝ }
 {
     let k = slots(
         t,
@@ -189,8 +191,14 @@ pub fn put_clause<'a>(
     y: u16,
     buf: &mut [u8],
 ) -> usize
-    requires { ⌜ (Ready t (now heads) (now starts) (now bodies) (now before) (now partners) (now owners)) × (At (programIn (t .sizes) (now heads) (now starts) (now bodies)) (t .sizes .w) g a i y) × (length (lineText (clauseAt (programIn (t .sizes) (now heads) (now starts) (now bodies)) (t .sizes .w) g a i y)) ≤ length (now buf)) ⌝ }
-    ensures { λ r. ⌜ (r ≡ length (lineText (clauseAt (programIn (t .sizes) (now (heads .entry)) (now (starts .entry)) (now (bodies .entry))) (t .sizes .w) g a i y))) × (now (buf .exit) ≡ lineText (clauseAt (programIn (t .sizes) (now (heads .entry)) (now (starts .entry)) (now (bodies .entry))) (t .sizes .w) g a i y) ++ drop r (now (buf .entry))) ⌝ }
+    requires { ⌜ (Ready t (now heads) (now starts) (now bodies) (now before) (now partners) (now owners))
+        × (At (programIn (t .sizes) (now heads) (now starts) (now bodies)) (t .sizes .w) g a i y)
+        × (length (lineText (clauseAt (programIn (t .sizes) (now heads) (now starts) (now bodies)) (t .sizes .w) g a i y)) ≤ length (now buf)) ⌝ }
+    ensures { λ r. ⌜ (r
+        ≡ length (lineText (clauseAt (programIn (t .sizes) (now (heads .entry)) (now (starts .entry)) (now (bodies .entry))) (t .sizes .w) g a i y)))
+        × (now (buf .exit)
+        ≡ lineText (clauseAt (programIn (t .sizes) (now (heads .entry)) (now (starts .entry)) (now (bodies .entry))) (t .sizes .w) g a i y)
+        ++ drop r (now (buf .entry))) ⌝ }
 {
     if g == 5 {
         let c = chain_of_block(t, heads, starts, bodies, before, partners, owners, g, a, i);

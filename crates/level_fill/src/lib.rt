@@ -100,7 +100,8 @@ fn put_pair_values(w: usize, x: u16, y: u16, buf: &mut [u8]) -> usize
 // The values of the atoms.
 fn put_atom_values(n: u16, set: &[u8], buf: &mut [u8]) -> usize
     requires { ⌜ (n ≤ length (now set)) × (length (atomBytes n (setIn n (now set))) ≤ length (now buf)) ⌝ }
-    ensures { λ r. ⌜ (r ≡ length (atomBytes n (setIn n (now (set .entry))))) × (now (buf .exit) ≡ atomBytes n (setIn n (now (set .entry))) ++ drop r (now (buf .entry))) ⌝ }
+    ensures { λ r. ⌜ (r ≡ length (atomBytes n (setIn n (now (set .entry)))))
+        × (now (buf .exit) ≡ atomBytes n (setIn n (now (set .entry))) ++ drop r (now (buf .entry))) ⌝ }
 {
     let mut a: usize = 0;
     while a < wide(n) {
@@ -113,7 +114,8 @@ fn put_atom_values(n: u16, set: &[u8], buf: &mut [u8]) -> usize
 // The bits of the level of each atom with d more: its level, or its next.
 fn put_level_values(n: u16, w: usize, d: u16, levels: &[u8], buf: &mut [u8]) -> usize
     requires { ⌜ (n ≤ length (now levels)) × (d ≤ 1) × (length (levelBytes n w d (levelByte (now levels))) ≤ length (now buf)) ⌝ }
-    ensures { λ r. ⌜ (r ≡ length (levelBytes n w d (levelByte (now (levels .entry))))) × (now (buf .exit) ≡ levelBytes n w d (levelByte (now (levels .entry))) ++ drop r (now (buf .entry))) ⌝ }
+    ensures { λ r. ⌜ (r ≡ length (levelBytes n w d (levelByte (now (levels .entry)))))
+        × (now (buf .exit) ≡ levelBytes n w d (levelByte (now (levels .entry))) ++ drop r (now (buf .entry))) ⌝ }
 {
     let mut to: usize = 0;
     let mut a: u16 = 0;
@@ -137,8 +139,11 @@ fn body_true<'a>(
     r: u16,
     set: &'a [u8],
 ) -> bool
-    requires { ⌜ (Ready t (now heads) (now starts) (now bodies) (now before) (now partners) (now owners)) × (0 < r) × (r ≤ t .sizes .m) × (t .sizes .n ≤ length (now set)) ⌝ }
-    ensures { λ x. ⌜ x ≡ bodyTrue (setIn (t .sizes .n) (now (set .entry))) (ruleAt (programIn (t .sizes) (now (heads .entry)) (now (starts .entry)) (now (bodies .entry)) .rules) r) ⌝ }
+    requires { ⌜ (Ready t (now heads) (now starts) (now bodies) (now before) (now partners) (now owners)) × (0 < r) × (r ≤ t .sizes .m)
+        × (t .sizes .n ≤ length (now set)) ⌝ }
+    ensures { λ x. ⌜ x
+        ≡ bodyTrue (setIn (t .sizes .n) (now (set .entry)))
+        (ruleAt (programIn (t .sizes) (now (heads .entry)) (now (starts .entry)) (now (bodies .entry)) .rules) r) ⌝ }
 {
     if !positives_in(t, heads, starts, bodies, before, partners, owners, r, set) {
         return false;
@@ -159,8 +164,12 @@ fn rule_founds<'a>(
     set: &'a [u8],
     levels: &'a [u8],
 ) -> bool
-    requires { ⌜ (Ready t (now heads) (now starts) (now bodies) (now before) (now partners) (now owners)) × (0 < r) × (r ≤ t .sizes .m) × (t .sizes .n ≤ length (now set)) × (t .sizes .n ≤ length (now levels)) ⌝ }
-    ensures { λ x. ⌜ x ≡ founds (setIn (t .sizes .n) (now (set .entry))) (levelByte (now (levels .entry))) (ruleAt (programIn (t .sizes) (now (heads .entry)) (now (starts .entry)) (now (bodies .entry)) .rules) r) (ruleAt (programIn (t .sizes) (now (heads .entry)) (now (starts .entry)) (now (bodies .entry)) .rules) r .positive) ⌝ }
+    requires { ⌜ (Ready t (now heads) (now starts) (now bodies) (now before) (now partners) (now owners)) × (0 < r) × (r ≤ t .sizes .m)
+        × (t .sizes .n ≤ length (now set)) × (t .sizes .n ≤ length (now levels)) ⌝ }
+    ensures { λ x. ⌜ x
+        ≡ founds (setIn (t .sizes .n) (now (set .entry))) (levelByte (now (levels .entry)))
+        (ruleAt (programIn (t .sizes) (now (heads .entry)) (now (starts .entry)) (now (bodies .entry)) .rules) r)
+        (ruleAt (programIn (t .sizes) (now (heads .entry)) (now (starts .entry)) (now (bodies .entry)) .rules) r .positive) ⌝ }
 {
     if !body_true(t, heads, starts, bodies, before, partners, owners, r, set) {
         return false;
@@ -193,8 +202,15 @@ fn put_bodies<'a>(
     set: &'a [u8],
     buf: &mut [u8],
 ) -> usize
-    requires { ⌜ (Ready t (now heads) (now starts) (now bodies) (now before) (now partners) (now owners)) × (t .sizes .n ≤ length (now set)) × (length (bodyBytes (programIn (t .sizes) (now heads) (now starts) (now bodies)) (setIn (t .sizes .n) (now set))) ≤ length (now buf)) ⌝ }
-    ensures { λ r. ⌜ (r ≡ length (bodyBytes (programIn (t .sizes) (now (heads .entry)) (now (starts .entry)) (now (bodies .entry))) (setIn (t .sizes .n) (now (set .entry))))) × (now (buf .exit) ≡ bodyBytes (programIn (t .sizes) (now (heads .entry)) (now (starts .entry)) (now (bodies .entry))) (setIn (t .sizes .n) (now (set .entry))) ++ drop r (now (buf .entry))) ⌝ }
+    requires { ⌜ (Ready t (now heads) (now starts) (now bodies) (now before) (now partners) (now owners)) × (t .sizes .n ≤ length (now set))
+        × (length (bodyBytes (programIn (t .sizes) (now heads) (now starts) (now bodies)) (setIn (t .sizes .n) (now set))) ≤ length (now buf)) ⌝ }
+    ensures { λ r. ⌜ (r
+        ≡ length
+        (bodyBytes (programIn (t .sizes) (now (heads .entry)) (now (starts .entry)) (now (bodies .entry)))
+        (setIn (t .sizes .n) (now (set .entry)))))
+        × (now (buf .exit)
+        ≡ bodyBytes (programIn (t .sizes) (now (heads .entry)) (now (starts .entry)) (now (bodies .entry))) (setIn (t .sizes .n) (now (set .entry)))
+        ++ drop r (now (buf .entry))) ⌝ }
 {
     let mut r: u16 = 0;
     while r < t.sizes.m {
@@ -229,8 +245,17 @@ fn put_founds<'a>(
     levels: &'a [u8],
     buf: &mut [u8],
 ) -> usize
-    requires { ⌜ (Ready t (now heads) (now starts) (now bodies) (now before) (now partners) (now owners)) × (t .sizes .n ≤ length (now set)) × (t .sizes .n ≤ length (now levels)) × (length (foundsBytes (programIn (t .sizes) (now heads) (now starts) (now bodies)) (setIn (t .sizes .n) (now set)) (levelByte (now levels))) ≤ length (now buf)) ⌝ }
-    ensures { λ r. ⌜ (r ≡ length (foundsBytes (programIn (t .sizes) (now (heads .entry)) (now (starts .entry)) (now (bodies .entry))) (setIn (t .sizes .n) (now (set .entry))) (levelByte (now (levels .entry))))) × (now (buf .exit) ≡ foundsBytes (programIn (t .sizes) (now (heads .entry)) (now (starts .entry)) (now (bodies .entry))) (setIn (t .sizes .n) (now (set .entry))) (levelByte (now (levels .entry))) ++ drop r (now (buf .entry))) ⌝ }
+    requires { ⌜ (Ready t (now heads) (now starts) (now bodies) (now before) (now partners) (now owners)) × (t .sizes .n ≤ length (now set))
+        × (t .sizes .n ≤ length (now levels))
+        × (length (foundsBytes (programIn (t .sizes) (now heads) (now starts) (now bodies)) (setIn (t .sizes .n) (now set)) (levelByte (now levels)))
+        ≤ length (now buf)) ⌝ }
+    ensures { λ r. ⌜ (r
+        ≡ length
+        (foundsBytes (programIn (t .sizes) (now (heads .entry)) (now (starts .entry)) (now (bodies .entry)))
+        (setIn (t .sizes .n) (now (set .entry))) (levelByte (now (levels .entry)))))
+        × (now (buf .exit)
+        ≡ foundsBytes (programIn (t .sizes) (now (heads .entry)) (now (starts .entry)) (now (bodies .entry)))
+        (setIn (t .sizes .n) (now (set .entry))) (levelByte (now (levels .entry))) ++ drop r (now (buf .entry))) ⌝ }
 {
     let mut r: u16 = 0;
     while r < t.sizes.m {
@@ -266,8 +291,14 @@ fn put_chains<'a>(
     levels: &'a [u8],
     buf: &mut [u8],
 ) -> usize
-    requires { ⌜ (Ready t (now heads) (now starts) (now bodies) (now before) (now partners) (now owners)) × (t .sizes .n ≤ length (now levels)) × (length (chainBytes (programIn (t .sizes) (now heads) (now starts) (now bodies)) w (levelByte (now levels))) ≤ length (now buf)) ⌝ }
-    ensures { λ r. ⌜ (r ≡ length (chainBytes (programIn (t .sizes) (now (heads .entry)) (now (starts .entry)) (now (bodies .entry))) w (levelByte (now (levels .entry))))) × (now (buf .exit) ≡ chainBytes (programIn (t .sizes) (now (heads .entry)) (now (starts .entry)) (now (bodies .entry))) w (levelByte (now (levels .entry))) ++ drop r (now (buf .entry))) ⌝ }
+    requires { ⌜ (Ready t (now heads) (now starts) (now bodies) (now before) (now partners) (now owners)) × (t .sizes .n ≤ length (now levels))
+        × (length (chainBytes (programIn (t .sizes) (now heads) (now starts) (now bodies)) w (levelByte (now levels))) ≤ length (now buf)) ⌝ }
+    ensures { λ r. ⌜ (r
+        ≡ length
+        (chainBytes (programIn (t .sizes) (now (heads .entry)) (now (starts .entry)) (now (bodies .entry))) w (levelByte (now (levels .entry)))))
+        × (now (buf .exit)
+        ≡ chainBytes (programIn (t .sizes) (now (heads .entry)) (now (starts .entry)) (now (bodies .entry))) w (levelByte (now (levels .entry)))
+        ++ drop r (now (buf .entry))) ⌝ }
 {
     let mut to: usize = 0;
     let mut k: u16 = 0;
@@ -293,8 +324,13 @@ fn put_values<'a>(
     levels: &'a [u8],
     buf: &mut [u8],
 ) -> usize
-    requires { ⌜ (Ready t (now heads) (now starts) (now bodies) (now before) (now partners) (now owners)) × (t .sizes .n ≤ length (now set)) × (t .sizes .n ≤ length (now levels)) × (t .vars ≤ length (now buf)) ⌝ }
-    ensures { λ r. ⌜ (r ≡ t .vars) × (now (buf .exit) ≡ valueBytes (filledWith (programIn (t .sizes) (now (heads .entry)) (now (starts .entry)) (now (bodies .entry))) (t .sizes .w) (setIn (t .sizes .n) (now (set .entry))) (levelByte (now (levels .entry)))) ++ drop (t .vars) (now (buf .entry))) ⌝ }
+    requires { ⌜ (Ready t (now heads) (now starts) (now bodies) (now before) (now partners) (now owners)) × (t .sizes .n ≤ length (now set))
+        × (t .sizes .n ≤ length (now levels)) × (t .vars ≤ length (now buf)) ⌝ }
+    ensures { λ r. ⌜ (r ≡ t .vars)
+        × (now (buf .exit)
+        ≡ valueBytes
+        (filledWith (programIn (t .sizes) (now (heads .entry)) (now (starts .entry)) (now (bodies .entry))) (t .sizes .w)
+        (setIn (t .sizes .n) (now (set .entry))) (levelByte (now (levels .entry)))) ++ drop (t .vars) (now (buf .entry))) ⌝ }
 {
     let n = t.sizes.n;
     let w = wide(t.sizes.w);
@@ -352,8 +388,14 @@ pub fn put_filled<'a>(
     levels: &'a [u8],
     assignment: &mut [u8],
 )
-    requires { ⌜ (Ready t (now heads) (now starts) (now bodies) (now before) (now partners) (now owners)) × (t .sizes .n ≤ length (now set)) × (now levels ≡ tab (t .sizes .n) (level (programIn (t .sizes) (now heads) (now starts) (now bodies)) (setIn (t .sizes .n) (now set))) ++ drop (t .sizes .n) (now levels)) × (t .vars ≤ length (now assignment)) ⌝ }
-    ensures { λ r. ⌜ now (assignment .exit) ≡ valueBytes (fill (programIn (t .sizes) (now (heads .entry)) (now (starts .entry)) (now (bodies .entry))) (t .sizes .w) (setIn (t .sizes .n) (now (set .entry)))) ++ drop (t .vars) (now (assignment .entry)) ⌝ }
+    requires { ⌜ (Ready t (now heads) (now starts) (now bodies) (now before) (now partners) (now owners)) × (t .sizes .n ≤ length (now set))
+        × (now levels
+        ≡ tab (t .sizes .n) (level (programIn (t .sizes) (now heads) (now starts) (now bodies)) (setIn (t .sizes .n) (now set)))
+        ++ drop (t .sizes .n) (now levels)) × (t .vars ≤ length (now assignment)) ⌝ }
+    ensures { λ r. ⌜ now (assignment .exit)
+        ≡ valueBytes
+        (fill (programIn (t .sizes) (now (heads .entry)) (now (starts .entry)) (now (bodies .entry))) (t .sizes .w)
+        (setIn (t .sizes .n) (now (set .entry)))) ++ drop (t .vars) (now (assignment .entry)) ⌝ }
 {
     put_values(
         t,

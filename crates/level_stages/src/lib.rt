@@ -97,8 +97,11 @@ pub fn negatives_out<'a>(
     r: u16,
     bytes: &'a [u8],
 ) -> bool
-    requires { ⌜ (Ready t (now heads) (now starts) (now bodies) (now before) (now partners) (now owners)) × (0 < r) × (r ≤ t .sizes .m) × (t .sizes .n ≤ length (now bytes)) ⌝ }
-    ensures { λ x. ⌜ x ≡ noneIn (valueIn (now (bytes .entry))) (ruleAt (programIn (t .sizes) (now (heads .entry)) (now (starts .entry)) (now (bodies .entry)) .rules) r .negative) ⌝ }
+    requires { ⌜ (Ready t (now heads) (now starts) (now bodies) (now before) (now partners) (now owners)) × (0 < r) × (r ≤ t .sizes .m)
+        × (t .sizes .n ≤ length (now bytes)) ⌝ }
+    ensures { λ x. ⌜ x
+        ≡ noneIn (valueIn (now (bytes .entry)))
+        (ruleAt (programIn (t .sizes) (now (heads .entry)) (now (starts .entry)) (now (bodies .entry)) .rules) r .negative) ⌝ }
 {
     let first = list_start(starts, r, 1);
     let end = list_start(starts, r, 2);
@@ -116,8 +119,11 @@ pub fn positives_in<'a>(
     r: u16,
     bytes: &'a [u8],
 ) -> bool
-    requires { ⌜ (Ready t (now heads) (now starts) (now bodies) (now before) (now partners) (now owners)) × (0 < r) × (r ≤ t .sizes .m) × (t .sizes .n ≤ length (now bytes)) ⌝ }
-    ensures { λ x. ⌜ x ≡ all (valueIn (now (bytes .entry))) (ruleAt (programIn (t .sizes) (now (heads .entry)) (now (starts .entry)) (now (bodies .entry)) .rules) r .positive) ⌝ }
+    requires { ⌜ (Ready t (now heads) (now starts) (now bodies) (now before) (now partners) (now owners)) × (0 < r) × (r ≤ t .sizes .m)
+        × (t .sizes .n ≤ length (now bytes)) ⌝ }
+    ensures { λ x. ⌜ x
+        ≡ all (valueIn (now (bytes .entry)))
+        (ruleAt (programIn (t .sizes) (now (heads .entry)) (now (starts .entry)) (now (bodies .entry)) .rules) r .positive) ⌝ }
 {
     let first = list_start(starts, r, 0);
     let end = list_start(starts, r, 1);
@@ -136,8 +142,11 @@ pub fn positives_below<'a>(
     bytes: &'a [u8],
     y: u8,
 ) -> bool
-    requires { ⌜ (Ready t (now heads) (now starts) (now bodies) (now before) (now partners) (now owners)) × (0 < r) × (r ≤ t .sizes .m) × (t .sizes .n ≤ length (now bytes)) ⌝ }
-    ensures { λ x. ⌜ x ≡ all (λ b. ltb (levelByte (now (bytes .entry)) b) y) (ruleAt (programIn (t .sizes) (now (heads .entry)) (now (starts .entry)) (now (bodies .entry)) .rules) r .positive) ⌝ }
+    requires { ⌜ (Ready t (now heads) (now starts) (now bodies) (now before) (now partners) (now owners)) × (0 < r) × (r ≤ t .sizes .m)
+        × (t .sizes .n ≤ length (now bytes)) ⌝ }
+    ensures { λ x. ⌜ x
+        ≡ all (λ b. ltb (levelByte (now (bytes .entry)) b) y)
+        (ruleAt (programIn (t .sizes) (now (heads .entry)) (now (starts .entry)) (now (bodies .entry)) .rules) r .positive) ⌝ }
 {
     let first = list_start(starts, r, 0);
     let end = list_start(starts, r, 1);
@@ -158,8 +167,11 @@ fn rule_enters<'a>(
     set: &'a [u8],
     levels: &'a [u8],
 ) -> bool
-    requires { ⌜ (Ready t (now heads) (now starts) (now bodies) (now before) (now partners) (now owners)) × (0 < r) × (r ≤ t .sizes .m) × (t .sizes .n ≤ length (now set)) × (t .sizes .n ≤ length (now levels)) ⌝ }
-    ensures { λ x. ⌜ x ≡ enters (setIn (t .sizes .n) (now (set .entry))) (now (levels .entry)) i (ruleAt (programIn (t .sizes) (now (heads .entry)) (now (starts .entry)) (now (bodies .entry)) .rules) r) ⌝ }
+    requires { ⌜ (Ready t (now heads) (now starts) (now bodies) (now before) (now partners) (now owners)) × (0 < r) × (r ≤ t .sizes .m)
+        × (t .sizes .n ≤ length (now set)) × (t .sizes .n ≤ length (now levels)) ⌝ }
+    ensures { λ x. ⌜ x
+        ≡ enters (setIn (t .sizes .n) (now (set .entry))) (now (levels .entry)) i
+        (ruleAt (programIn (t .sizes) (now (heads .entry)) (now (starts .entry)) (now (bodies .entry)) .rules) r) ⌝ }
 {
     if !negatives_out(t, heads, starts, bodies, before, partners, owners, r, set) {
         return false;
@@ -205,8 +217,14 @@ fn put_rule<'a>(
     set: &'a [u8],
     levels: &mut [u8],
 ) -> bool
-    requires { ⌜ (Ready t (now heads) (now starts) (now bodies) (now before) (now partners) (now owners)) × (0 < r) × (r ≤ t .sizes .m) × (t .sizes .n ≤ length (now set)) × (t .sizes .n ≤ length (now levels)) ⌝ }
-    ensures { λ x. ⌜ (x ≡ fires (setIn (t .sizes .n) (now (set .entry))) (now (levels .entry)) i (ruleAt (programIn (t .sizes) (now (heads .entry)) (now (starts .entry)) (now (bodies .entry)) .rules) r)) × (now (levels .exit) ≡ firedBytes (setIn (t .sizes .n) (now (set .entry))) i (ruleAt (programIn (t .sizes) (now (heads .entry)) (now (starts .entry)) (now (bodies .entry)) .rules) r) (now (levels .entry))) ⌝ }
+    requires { ⌜ (Ready t (now heads) (now starts) (now bodies) (now before) (now partners) (now owners)) × (0 < r) × (r ≤ t .sizes .m)
+        × (t .sizes .n ≤ length (now set)) × (t .sizes .n ≤ length (now levels)) ⌝ }
+    ensures { λ x. ⌜ (x
+        ≡ fires (setIn (t .sizes .n) (now (set .entry))) (now (levels .entry)) i
+        (ruleAt (programIn (t .sizes) (now (heads .entry)) (now (starts .entry)) (now (bodies .entry)) .rules) r))
+        × (now (levels .exit)
+        ≡ firedBytes (setIn (t .sizes .n) (now (set .entry))) i
+        (ruleAt (programIn (t .sizes) (now (heads .entry)) (now (starts .entry)) (now (bodies .entry)) .rules) r) (now (levels .entry))) ⌝ }
 {
     let h = head(heads, Rule(r)).0;
     if byte_of(&levels[..], h) != 0 {
@@ -253,8 +271,16 @@ fn round<'a>(
     set: &'a [u8],
     levels: &mut [u8],
 ) -> bool
-    requires { ⌜ (Ready t (now heads) (now starts) (now bodies) (now before) (now partners) (now owners)) × (0 < i) × (t .sizes .n ≤ length (now set)) × (t .sizes .n ≤ length (now levels)) ⌝ }
-    ensures { λ x. ⌜ (x ≡ any (fires (setIn (t .sizes .n) (now (set .entry))) (now (levels .entry)) i) (programIn (t .sizes) (now (heads .entry)) (now (starts .entry)) (now (bodies .entry)) .rules)) × (now (levels .exit) ≡ tab (t .sizes .n) (levelAfter (setIn (t .sizes .n) (now (set .entry))) (now (levels .entry)) i (programIn (t .sizes) (now (heads .entry)) (now (starts .entry)) (now (bodies .entry)) .rules)) ++ drop (t .sizes .n) (now (levels .entry))) ⌝ }
+    requires { ⌜ (Ready t (now heads) (now starts) (now bodies) (now before) (now partners) (now owners)) × (0 < i) × (t .sizes .n ≤ length (now set))
+        × (t .sizes .n ≤ length (now levels)) ⌝ }
+    ensures { λ x. ⌜ (x
+        ≡ any (fires (setIn (t .sizes .n) (now (set .entry))) (now (levels .entry)) i)
+        (programIn (t .sizes) (now (heads .entry)) (now (starts .entry)) (now (bodies .entry)) .rules))
+        × (now (levels .exit)
+        ≡ tab (t .sizes .n)
+        (levelAfter (setIn (t .sizes .n) (now (set .entry))) (now (levels .entry)) i
+        (programIn (t .sizes) (now (heads .entry)) (now (starts .entry)) (now (bodies .entry)) .rules))
+        ++ drop (t .sizes .n) (now (levels .entry))) ⌝ }
 {
     let mut given = false;
     let mut r: u16 = 0;
@@ -301,8 +327,12 @@ fn rounds<'a>(
     set: &'a [u8],
     levels: &mut [u8],
 )
-    requires { ⌜ (Ready t (now heads) (now starts) (now bodies) (now before) (now partners) (now owners)) × (t .sizes .n ≤ length (now set)) × (t .sizes .n ≤ length (now levels)) × (now levels ≡ tab (t .sizes .n) (λ a. 0) ++ drop (t .sizes .n) (now levels)) ⌝ }
-    ensures { λ r. ⌜ now (levels .exit) ≡ tab (t .sizes .n) (level (programIn (t .sizes) (now (heads .entry)) (now (starts .entry)) (now (bodies .entry))) (setIn (t .sizes .n) (now (set .entry)))) ++ drop (t .sizes .n) (now (levels .entry)) ⌝ }
+    requires { ⌜ (Ready t (now heads) (now starts) (now bodies) (now before) (now partners) (now owners)) × (t .sizes .n ≤ length (now set))
+        × (t .sizes .n ≤ length (now levels)) × (now levels ≡ tab (t .sizes .n) (λ a. 0) ++ drop (t .sizes .n) (now levels)) ⌝ }
+    ensures { λ r. ⌜ now (levels .exit)
+        ≡ tab (t .sizes .n)
+        (level (programIn (t .sizes) (now (heads .entry)) (now (starts .entry)) (now (bodies .entry))) (setIn (t .sizes .n) (now (set .entry))))
+        ++ drop (t .sizes .n) (now (levels .entry)) ⌝ }
 {
     let mut i: u8 = 0;
     while (i as u16) < t.sizes.n {
@@ -336,8 +366,12 @@ pub fn stage_levels<'a>(
     set: &'a [u8],
     levels: &mut [u8],
 )
-    requires { ⌜ (Ready t (now heads) (now starts) (now bodies) (now before) (now partners) (now owners)) × (t .sizes .n ≤ length (now set)) × (t .sizes .n ≤ length (now levels)) ⌝ }
-    ensures { λ r. ⌜ now (levels .exit) ≡ tab (t .sizes .n) (level (programIn (t .sizes) (now (heads .entry)) (now (starts .entry)) (now (bodies .entry))) (setIn (t .sizes .n) (now (set .entry)))) ++ drop (t .sizes .n) (now (levels .entry)) ⌝ }
+    requires { ⌜ (Ready t (now heads) (now starts) (now bodies) (now before) (now partners) (now owners)) × (t .sizes .n ≤ length (now set))
+        × (t .sizes .n ≤ length (now levels)) ⌝ }
+    ensures { λ r. ⌜ now (levels .exit)
+        ≡ tab (t .sizes .n)
+        (level (programIn (t .sizes) (now (heads .entry)) (now (starts .entry)) (now (bodies .entry))) (setIn (t .sizes .n) (now (set .entry))))
+        ++ drop (t .sizes .n) (now (levels .entry)) ⌝ }
 {
     zero_bytes(t.sizes.n, &mut *levels);
     rounds(

@@ -45,7 +45,8 @@ fn finish(
     starts: &mut [u16; STARTS],
     bodies: &mut [u16; BODIES],
 ) -> Counts
-    ensures { λ r. ⌜ Ends r (now (heads .exit)) (now (starts .exit)) (now (bodies .exit)) (readRest s (now (heads .entry)) (now (starts .entry)) (now (bodies .entry)) (now (text .entry))) ⌝ }
+    ensures { λ r. ⌜ Ends r (now (heads .exit)) (now (starts .exit)) (now (bodies .exit))
+        (readRest s (now (heads .entry)) (now (starts .entry)) (now (bodies .entry)) (now (text .entry))) ⌝ }
 {
     let mut k = s.k;
     let mut mode = s.mode;
@@ -100,7 +101,8 @@ fn read_into(
     starts: &mut [u16; STARTS],
     bodies: &mut [u16; BODIES],
 ) -> Counts
-    ensures { λ r. ⌜ Ends r (now (heads .exit)) (now (starts .exit)) (now (bodies .exit)) (readFrom (started (now (heads .entry)) (now (starts .entry)) (now (bodies .entry))) 0 (now (text .entry))) ⌝ }
+    ensures { λ r. ⌜ Ends r (now (heads .exit)) (now (starts .exit)) (now (bodies .exit))
+        (readFrom (started (now (heads .entry)) (now (starts .entry)) (now (bodies .entry))) 0 (now (text .entry))) ⌝ }
 {
     let s = Stand {
         k: 0,

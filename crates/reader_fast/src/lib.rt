@@ -380,7 +380,8 @@ fn take_rule(
     starts: &mut [u16; STARTS],
     bodies: &mut [u16; BODIES],
 ) -> Stand
-    ensures { λ r. ⌜ readRest r (now (heads .exit)) (now (starts .exit)) (now (bodies .exit)) (now (text .entry)) ≡ readRest s (now (heads .entry)) (now (starts .entry)) (now (bodies .entry)) (now (text .entry)) ⌝ }
+    ensures { λ r. ⌜ readRest r (now (heads .exit)) (now (starts .exit)) (now (bodies .exit)) (now (text .entry))
+        ≡ readRest s (now (heads .entry)) (now (starts .entry)) (now (bodies .entry)) (now (text .entry)) ⌝ }
 {
     let a = take_rule_word(text, s);
     if a.k != FORM_HEAD {
@@ -412,7 +413,8 @@ pub fn take_lines(
     starts: &mut [u16; STARTS],
     bodies: &mut [u16; BODIES],
 ) -> Stand
-    ensures { λ r. ⌜ readRest r (now (heads .exit)) (now (starts .exit)) (now (bodies .exit)) (now (text .entry)) ≡ readRest s (now (heads .entry)) (now (starts .entry)) (now (bodies .entry)) (now (text .entry)) ⌝ }
+    ensures { λ r. ⌜ readRest r (now (heads .exit)) (now (starts .exit)) (now (bodies .exit)) (now (text .entry))
+        ≡ readRest s (now (heads .entry)) (now (starts .entry)) (now (bodies .entry)) (now (text .entry)) ⌝ }
 {
     let mut p = take_atoms_line(text, s);
     while p.at < text.len() {

@@ -234,7 +234,8 @@ fn end_number(
     heads: &mut [u16; HEADS],
     bodies: &mut [u16; BODIES],
 ) -> Counts
-    ensures { λ r. ⌜ (r ≡ endedOf k value begin c) × ((now (heads .exit) ≡ endedHeads k value c (now (heads .entry))) × (now (bodies .exit) ≡ endedBodies k value c (now (bodies .entry)))) ⌝ }
+    ensures { λ r. ⌜ (r ≡ endedOf k value begin c)
+        × ((now (heads .exit) ≡ endedHeads k value c (now (heads .entry))) × (now (bodies .exit) ≡ endedBodies k value c (now (bodies .entry)))) ⌝ }
 {
     if k == FORM_ATOMS {
         return end_atoms(value, begin, c);
@@ -272,7 +273,9 @@ pub fn work(
     starts: &mut [u16; STARTS],
     bodies: &mut [u16; BODIES],
 ) -> Counts
-    ensures { λ r. ⌜ (r ≡ workOf act k value begin i c) × ((now (heads .exit) ≡ workHeads act k value c (now (heads .entry))) × ((now (starts .exit) ≡ workStarts act c (now (starts .entry))) × (now (bodies .exit) ≡ workBodies act k value c (now (bodies .entry))))) ⌝ }
+    ensures { λ r. ⌜ (r ≡ workOf act k value begin i c)
+        × ((now (heads .exit) ≡ workHeads act k value c (now (heads .entry)))
+        × ((now (starts .exit) ≡ workStarts act c (now (starts .entry))) × (now (bodies .exit) ≡ workBodies act k value c (now (bodies .entry))))) ⌝ }
 {
     if act < ACT_END {
         return c;

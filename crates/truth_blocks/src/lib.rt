@@ -30,7 +30,8 @@ ghost use Rattle.clause_literals.specs.Sizes.{sizesOf, Bounded};
 ghost use Rattle.clause_walk.specs.Walk.{signed, BlockAt};
 ghost use Rattle.clause_tables.specs.Tables.{programIn, Ready};
 ghost use Rattle.truth_blocks.specs.Values.{valueIn, numberTrue};
-ghost use Rattle.truth_blocks.specs.Blocks.{Has, twoTrue, threeTrue, BitIn, bitTrue, nextTrue, zeroTrue, foundsTrue, factTrue, boundTrue, ruleTrue, blockPasses};
+ghost use Rattle.truth_blocks.specs.Blocks.{Has, twoTrue, threeTrue, BitIn, bitTrue, nextTrue};
+ghost use Rattle.truth_blocks.specs.Blocks.{zeroTrue, foundsTrue, factTrue, boundTrue, ruleTrue, blockPasses};
 
 // Whether variable v has 1.
 pub fn is_true(assignment: &[u8], v: usize) -> bool
@@ -121,7 +122,9 @@ fn bit_holds(c: Chain, i: u16, assignment: &[u8]) -> bool
 // Group 4, with bit i of a next, u, and of its level, v: whether both clauses of a lower bit x are true.
 fn lower_holds(x: Var, u: Var, v: Var, assignment: &[u8]) -> bool
     requires { ⌜ (Has (now assignment) (x .0)) × (Has (now assignment) (u .0)) × (Has (now assignment) (v .0)) ⌝ }
-    ensures { λ r. ⌜ r ≡ (threeTrue (valueIn (now (assignment .entry))) true (x .0) false (u .0) true (v .0) && threeTrue (valueIn (now (assignment .entry))) true (x .0) true (u .0) false (v .0)) ⌝ }
+    ensures { λ r. ⌜ r
+        ≡ (threeTrue (valueIn (now (assignment .entry))) true (x .0) false (u .0) true (v .0) && threeTrue (valueIn (now (assignment .entry))) true
+        (x .0) true (u .0) false (v .0)) ⌝ }
 {
     three_hold(true, x, false, u, true, v, assignment)
         & three_hold(true, x, true, u, false, v, assignment)
@@ -130,7 +133,9 @@ fn lower_holds(x: Var, u: Var, v: Var, assignment: &[u8]) -> bool
 // Whether both long clauses are true, where `low` says that some lower bit has 0.
 fn long_hold(low: bool, u: Var, v: Var, assignment: &[u8]) -> bool
     requires { ⌜ (Has (now assignment) (u .0)) × (Has (now assignment) (v .0)) ⌝ }
-    ensures { λ r. ⌜ r ≡ ((low || twoTrue (valueIn (now (assignment .entry))) false (u .0) false (v .0)) && (low || twoTrue (valueIn (now (assignment .entry))) true (u .0) true (v .0))) ⌝ }
+    ensures { λ r. ⌜ r
+        ≡ ((low || twoTrue (valueIn (now (assignment .entry))) false (u .0) false (v .0)) &&
+        (low || twoTrue (valueIn (now (assignment .entry))) true (u .0) true (v .0))) ⌝ }
 {
     (low | two_hold(false, u, false, v, assignment))
         & (low | two_hold(true, u, true, v, assignment))
@@ -138,7 +143,8 @@ fn long_hold(low: bool, u: Var, v: Var, assignment: &[u8]) -> bool
 
 // Group 4, atom a: whether every clause of block i is true.
 fn next_block_holds(s: Sizes, a: Atom, i: u16, assignment: &[u8]) -> bool
-    requires { ⌜ (Bounded s) × (0 < a .0) × (a .0 ≤ 126) × (0 < i) × (i ≤ 7) × (levelVar (sizesOf s) (a .0) i ≤ length (now assignment)) × (nextVar (sizesOf s) (a .0) i ≤ length (now assignment)) ⌝ }
+    requires { ⌜ (Bounded s) × (0 < a .0) × (a .0 ≤ 126) × (0 < i) × (i ≤ 7) × (levelVar (sizesOf s) (a .0) i ≤ length (now assignment))
+        × (nextVar (sizesOf s) (a .0) i ≤ length (now assignment)) ⌝ }
     ensures { λ r. ⌜ r ≡ nextTrue (valueIn (now (assignment .entry))) (sizesOf s) (a .0) i ⌝ }
 {
     let u = next_var(s, a, i);
@@ -230,7 +236,8 @@ fn bound_holds(s: Sizes, r: Rule, k: u16, b: u16, assignment: &[u8]) -> bool
 
 // Group 6, rule r with head h and b pairs after k others: whether every clause is true.
 fn rule_block_holds(s: Sizes, r: Rule, h: Atom, k: u16, b: u16, assignment: &[u8]) -> bool
-    requires { ⌜ (Bounded s) × (0 < r .0) × (r .0 ≤ s .m) × (0 < h .0) × (h .0 ≤ s .n) × (k + b ≤ 500) × (varCount (sizesOf s) (k + b) ≤ length (now assignment)) ⌝ }
+    requires { ⌜ (Bounded s) × (0 < r .0) × (r .0 ≤ s .m) × (0 < h .0) × (h .0 ≤ s .n) × (k + b ≤ 500)
+        × (varCount (sizesOf s) (k + b) ≤ length (now assignment)) ⌝ }
     ensures { λ x. ⌜ x ≡ ruleTrue (valueIn (now (assignment .entry))) (sizesOf s) (r .0) (h .0) k b ⌝ }
 {
     if !founds_hold(s, r, k, b, assignment) {
@@ -265,8 +272,11 @@ pub fn block_passes<'a>(
     i: u16,
     assignment: &'a [u8],
 ) -> bool
-    requires { ⌜ (Ready t (now heads) (now starts) (now bodies) (now before) (now partners) (now owners)) × (BlockAt (programIn (t .sizes) (now heads) (now starts) (now bodies)) (t .sizes .w) g a i) × (t .vars ≤ length (now assignment)) ⌝ }
-    ensures { λ r. ⌜ r ≡ blockPasses (programIn (t .sizes) (now (heads .entry)) (now (starts .entry)) (now (bodies .entry))) (t .sizes .w) (valueIn (now (assignment .entry))) g a i ⌝ }
+    requires { ⌜ (Ready t (now heads) (now starts) (now bodies) (now before) (now partners) (now owners))
+        × (BlockAt (programIn (t .sizes) (now heads) (now starts) (now bodies)) (t .sizes .w) g a i) × (t .vars ≤ length (now assignment)) ⌝ }
+    ensures { λ r. ⌜ r
+        ≡ blockPasses (programIn (t .sizes) (now (heads .entry)) (now (starts .entry)) (now (bodies .entry))) (t .sizes .w)
+        (valueIn (now (assignment .entry))) g a i ⌝ }
 {
     if g == 5 {
         let c = chain_of_block(t, heads, starts, bodies, before, partners, owners, g, a, i);

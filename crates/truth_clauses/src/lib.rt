@@ -51,8 +51,11 @@ pub fn clause_holds<'a>(
     y: u16,
     assignment: &'a [u8],
 ) -> bool
-    requires { ⌜ (Ready t (now heads) (now starts) (now bodies) (now before) (now partners) (now owners)) × (At (programIn (t .sizes) (now heads) (now starts) (now bodies)) (t .sizes .w) g a i y) × (t .vars ≤ length (now assignment)) ⌝ }
-    ensures { λ r. ⌜ r ≡ clauseTrue (valueIn (now (assignment .entry))) (clauseAt (programIn (t .sizes) (now (heads .entry)) (now (starts .entry)) (now (bodies .entry))) (t .sizes .w) g a i y) ⌝ }
+    requires { ⌜ (Ready t (now heads) (now starts) (now bodies) (now before) (now partners) (now owners))
+        × (At (programIn (t .sizes) (now heads) (now starts) (now bodies)) (t .sizes .w) g a i y) × (t .vars ≤ length (now assignment)) ⌝ }
+    ensures { λ r. ⌜ r
+        ≡ clauseTrue (valueIn (now (assignment .entry)))
+        (clauseAt (programIn (t .sizes) (now (heads .entry)) (now (starts .entry)) (now (bodies .entry))) (t .sizes .w) g a i y) ⌝ }
 {
     let k = slots(
         t,
@@ -105,8 +108,11 @@ fn through_blocks<'a>(
     c: Place,
     assignment: &'a [u8],
 ) -> Place
-    requires { ⌜ (Ready t (now heads) (now starts) (now bodies) (now before) (now partners) (now owners)) × (Standing (programIn (t .sizes) (now heads) (now starts) (now bodies)) t (now assignment) c) × (c .number ≤ t .clauses) × (t .vars ≤ length (now assignment)) ⌝ }
-    ensures { λ r. ⌜ (Standing (programIn (t .sizes) (now (heads .entry)) (now (starts .entry)) (now (bodies .entry))) t (now (assignment .entry)) r) × (c .number ≤ r .number) × (r .number ≤ t .clauses) ⌝ }
+    requires { ⌜ (Ready t (now heads) (now starts) (now bodies) (now before) (now partners) (now owners))
+        × (Standing (programIn (t .sizes) (now heads) (now starts) (now bodies)) t (now assignment) c) × (c .number ≤ t .clauses)
+        × (t .vars ≤ length (now assignment)) ⌝ }
+    ensures { λ r. ⌜ (Standing (programIn (t .sizes) (now (heads .entry)) (now (starts .entry)) (now (bodies .entry))) t (now (assignment .entry)) r)
+        × (c .number ≤ r .number) × (r .number ≤ t .clauses) ⌝ }
 {
     let mut at = c;
     while 0 < at.coordinates.blocks {
