@@ -31,7 +31,7 @@ use Rattle.call_results.specs.Results.{Result, programRead}
 use Rattle.refusals.specs.declared.CheckRefusal.{CheckRefusal}
 use Rattle.call_check_rows.specs.declared.CheckVerdict.{CheckVerdict}
 use Rattle.call_check_rows.specs.declared.CheckVerdict.the-variants.{Model, Refused}
-use Rattle.call_check.proofs.CheckVerdict.{the-type}
+use Rattle.call_check_rows.proofs.CheckVerdict.{the-type}
 use Rattle.call_check_rows.specs.Check.{checkAfterReading, checkResult, callResult, checkVerdictOf, CheckGives}
 use Rattle.checker_model.specs.Model.{shownModel}
 use Rattle.checker_output.specs.Output.{checkerRefusalLine, checkerVerdictText, resultText, checkerOutputOf, checkerOutput, checkerText}

@@ -27,6 +27,7 @@ use Rattle.clause_walk.proofs.Walked.{walked-clauses}
 use Rattle.clause_places.specs.Places.{placeAt, clauseIn}
 use Rattle.clause_runs.specs.Lines.{clauseTotal}
 use Rattle.call_lines.proofs as call-lines
+use Rattle.call_lines_rows.proofs.File as File
 use Rattle.answer_form.specs.Answer.{Status, AnswerMalformed, OfStatus}
 use Rattle.answer_form.specs.Pieces.{OffersModel}
 use Rattle.answer_reader.specs.declared.Formed.the-variants.{Model, NoModel, Malformed as LeftForm}
@@ -167,7 +168,7 @@ pub record Working : Type 0 where
   pub walk : (P : Program) → walked P (width (P .atoms)) ≡ clauses P (width (P .atoms))
   -- code finds clause j at place j of the walk
   pub placed : (P : Program) → Limits P → (j : ℕ) → zero < j → j ≤ clauseTotal P
-      → clauseIn P (width (P .atoms)) (placeAt P (width (P .atoms)) j .spot) ≡ getD (clauses P (width (P .atoms))) (pred j) []
+      → clauseIn P (width (P .atoms)) (placeAt P (width (P .atoms)) j .coordinates) ≡ getD (clauses P (width (P .atoms))) (pred j) []
   -- the theory's definitions are document 01's
   pub general : (P : Program) (w : ℕ) → General P w
   -- an answer is read by its form, then literal by literal into a buffer of bytes, and completed
@@ -214,7 +215,7 @@ pub working : Working
 working =
     record {
       walk = λ P. walked-clauses P (width (P .atoms)) (width-some (P .atoms));
-      placed = call-lines.File.placed;
+      placed = File.placed;
       general = general;
       answer-form = answer-form;
       assigning = assigning;

@@ -341,7 +341,7 @@ proved =
       successors = successor-iff;
       chains = chain-iff;
       group-meanings = group-meanings;
-      pair-list = λ P. record { of-rule = pairs-are P 0 (λ v. false); counted = pairs-counted P 0 (λ v. false) };
+      pair-list = λ P. record { of-rule = pairs-are P; counted = pairs-counted P };
       clause-list-at = clause-list-at;
       clause-list = λ P form. clause-list-at P (width (P .atoms)) form (width-enough (P .atoms));
       demand3-at = demand3-at;
