@@ -1,1 +1,2 @@
+-- Model: the lines that the checker prints of a model
 pub mod Model

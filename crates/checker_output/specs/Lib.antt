@@ -1,1 +1,2 @@
+-- Output: all that the checker prints
 pub mod Output

@@ -1,1 +1,2 @@
+-- Formula: the number of clauses over plain numbers
 pub mod Formula

@@ -1,1 +1,2 @@
+-- Walk: the clause list by group, item, block, clause and slot
 pub mod Walk

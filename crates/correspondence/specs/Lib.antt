@@ -1,1 +1,2 @@
+-- Accepted: accepted assignments, and sets as bytes
 pub mod Accepted

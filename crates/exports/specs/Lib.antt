@@ -1,1 +1,2 @@
+-- Replies: the replies of the calls for other languages
 pub mod Replies

@@ -1,2 +1,4 @@
+-- Lists: tests, tables and sums, counted from 1
+-- Ascii: the bytes of a text in ASCII
 pub mod Lists
 pub mod Ascii

@@ -1,1 +1,2 @@
+-- Automaton: one byte of a program text, from a place in the form
 pub mod Automaton

@@ -1,3 +1,8 @@
+-- Bytes: lists of bytes, and what stands where in a text
+-- Spot: where a text leaves a form, for any form
+-- Decimal: a number in decimal digits
+-- Text: program texts, and the texts that have the form
+-- Limits: the limits of a program text
 pub mod Bytes
 pub mod Spot
 pub mod Decimal
