@@ -31,7 +31,7 @@ use Rattle.answer_values.specs.Assign.{Outcome, literalsFrom, assignedOf, assig
 use Rattle.answer_form.specs.Pieces.{Spotted}
 use Rattle.answer_values.proofs.Steps.{rest-kept}
 use Rattle.answer_values.proofs.Rows.{literals-named}
-use Rattle.answer_values.proofs.Reading.{read-formed}
+use Rattle.answer_values.proofs.OnePass.{read-formed}
 use Rattle.answer_offers.proofs.Values.{any-outcome, any-bytes}
 use Rattle.clause_tables.specs.declared.Totals.{Totals}
 use Rattle.clause_tables.specs.Tables.{countersOf, totalsOf, Tabled}

@@ -1,4 +1,4 @@
-use Rattle.answer_values.proofs.Reading.{assumed-model}
+use Rattle.answer_values.proofs.OnePass.{assumed-model}
 use borrow.Author.Needs.{needs}
 use Rattle.answer_values.proofs.assumed_of.Statement.{statement}
 use Rattle.answer_values.proofs.assumed_of.Tie as tie

@@ -2,7 +2,7 @@ use mir.Facts.{toZ-ofZ}
 use mathlib.Core.Path.{sym, subst}
 use lib.IntN.{ℤ, natAbs}
 use Prim.Native.Nat.{_^_, _<_}
-use Rattle.answer_values.proofs.Reading.{next-stays, next-put}
+use Rattle.answer_values.proofs.OnePass.{next-stays, next-put}
 use Rattle.answer_values.proofs.Taking.{not-done}
 use borrow.Author.Needs.{needs}
 use Rattle.answer_values.proofs.put_next_value.Statement.{statement}

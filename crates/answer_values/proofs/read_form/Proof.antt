@@ -1,4 +1,4 @@
-use Rattle.answer_values.proofs.Reading.{read-model, read-other, read-left}
+use Rattle.answer_values.proofs.OnePass.{read-model, read-other, read-left}
 use Rattle.answer_reader.proofs.Whole.{form-satisfiable, form-other, form-left, status-end-within}
 use mathlib.Core.Path.{refl, sym, _∙_}
 use denote.Ref.{now}

@@ -1,5 +1,5 @@
 use Rattle.answer_values.proofs.Taking.{given-took, last-none, left-none, took-positive, took-small}
-use Rattle.answer_values.proofs.Reading.{pass-goes, pass-ends}
+use Rattle.answer_values.proofs.OnePass.{pass-goes, pass-ends}
 use Rattle.answer_values.specs.Assign.{literalsFrom, assignedOf, assignedBytes, assignedFor, nextAnswer, nextBytes}
 use Rattle.answer_reader.specs.Results.{modelFrom}
 use Rattle.answer_reader.proofs.Whole.{model-goes, model-ends, model-breaks}
