@@ -11,9 +11,10 @@ use lib.ListN.{length, take, drop, getD}
 use Rattle.lists.specs.Ascii.{ascii}
 use Rattle.encoding.specs.Literal.{Literal, literalNumber}
 use Literal.{var, −_}
-use Rattle.text.specs.Bytes.{separates, WholeAt}
+use Rattle.text.specs.Standing.{separates}
 use Rattle.text.specs.Decimal.{decimal}
-use Rattle.text.proofs.Standing.{behind, next, fresh, whole, Each, none, also, each-append, each-at}
+use Rattle.text.proofs.Standing.{behind, next, fresh, whole}
+use Rattle.text.proofs.Each.{Each, none, also, each-append, each-at}
 use Rattle.digits.specs.Bytes.{literalText}
 use Rattle.answer_form.specs.Answer.{Comment, Line, Answer, commentText, commentsText, spacedText, linesText, satisfiableText, answerText}
 use Rattle.answer_form.specs.Pieces.{Spotted, spacedSpots, lineSpots, statusEnd, spotsOf, LiteralAt}

@@ -25,7 +25,7 @@ use Rattle.reader_form.specs.Automaton.{digitTest}
 use Rattle.encoding.specs.Literal.{Literal, literalNumber}
 use Literal.{var, −_}
 use Rattle.digits.specs.Bytes.{literalText}
-use Rattle.text.specs.Bytes.{WholeAt}
+use Rattle.text.specs.Standing.{WholeAt}
 use Rattle.answer_form.specs.Answer.{Comment, Line, Status, Answer, proper, answerText, commentText, commentsText, spacedText, linesText, satisfiableText, statusText}
 use Rattle.answer_form.specs.Automaton.{seekStep, endStep}
 

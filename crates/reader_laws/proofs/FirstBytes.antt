@@ -11,11 +11,12 @@ use mathlib.Core.List.{List, [], _∷_, _++_, map, append-assoc}
 use lib.ListN.{length, take, drop, getD}
 use Rattle.lists.specs.Ascii.{ascii}
 use Rattle.meaning.specs.Program.{Rule, Program, noRule}
-use Rattle.text.specs.Bytes.{separates, WholeAt}
+use Rattle.text.specs.Standing.{separates, WholeAt}
 use Rattle.text.specs.Decimal.{decimal}
 use Rattle.text.specs.Text.{moreText, listText, ruleText, rulesText, textOf}
 use Rattle.text.specs.Limits.{bodiesOf}
-use Rattle.text.proofs.Standing.{behind, next, element, inside, stands, FreshAt, fresh, whole, Each, none, also, each-append, each-at}
+use Rattle.text.proofs.Standing.{behind, next, element, inside, stands, FreshAt, fresh, whole}
+use Rattle.text.proofs.Each.{Each, none, also, each-append, each-at}
 use Rattle.reader_laws.specs.Judge.{positiveSpot, negativeSpot, ruleEnd}
 use Rattle.reader_laws.specs.Breach.{Event, spotOf, moreEvents, listEvents, ruleEvents, rulesEvents, events, Breached, noEvent, Breach}
 use Rattle.reader_laws.specs.Breach as Met

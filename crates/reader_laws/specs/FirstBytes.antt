@@ -9,7 +9,7 @@ use mathlib.Core.Logic.{_⊎_}
 use mathlib.Core.List.{List, [], _∷_}
 use lib.ListN.{length, getD}
 use Rattle.meaning.specs.Program.{Program, ruleAt}
-use Rattle.text.specs.Bytes.{StandsAt, WholeAt}
+use Rattle.text.specs.Standing.{StandsAt, WholeAt}
 use Rattle.text.specs.Decimal.{decimal}
 use Rattle.text.specs.Text.{ruleText, textOf}
 use Rattle.text.specs.Limits.{bodiesOf}

@@ -1,14 +1,12 @@
--- What stands where in a text, by what is left of it from a place on (`drop`); and what holds of each element of a list.
+-- What stands where in a text, by what is left of it from a place on (`drop`).
 --   behind, next, element, inside   where a list from place s on is known: what is left further on, and the element at s
 --   stands                          where the text from s on begins with u, u stands at s
 --   FreshAt t s v                   the text from s on is v, and the byte before it parts numbers
 --   fresh                           after a byte that parts numbers
 --   whole                           what then comes up to the next such byte stands whole
---   Each Q xs                       Q holds of each element of xs
---   each-append, each-at            of two lists, one after the other; by place
 -- Assumes nothing.
-use Prim.Native.Nat.{ℕ, zero, suc, pred, _+_, _<_}
-use native.Mathlib.Nat.{not-suc-le-zero, le-of-suc-le-suc, add-zero}
+use Prim.Native.Nat.{ℕ, zero, pred, _+_, _<_}
+use native.Mathlib.Nat.{add-zero}
 use native.Mathlib.Numerals.{add-one}
 use native.Mathlib.Omega.{arith}
 use mathlib.Core.Path.{_≡_, sym, _∙_, ap}
@@ -16,7 +14,7 @@ use mathlib.Core.Bool.{So}
 use mathlib.Core.List.{List, [], _∷_, _++_}
 use lib.ListN.{length, take, drop, getD, length-drop}
 use lib.Seq.{take-append-seam, drop-append-seam, drop-drop, getD-drop}
-use Rattle.text.specs.Bytes.{StandsAt, separates, WholeAt}
+use Rattle.text.specs.Standing.{StandsAt, separates, WholeAt}
 
 module _ {A : Type 0} (t : List A) (s : ℕ) where
   pub behind : (u v : List A) → drop s t ≡ u ++ v → drop (s + length u) t ≡ v
@@ -60,19 +58,3 @@ module _ (t : List ℕ) where
         before = f .before;
         behind = ap separates (from t (s + length u) 0 ∙ ap (λ (l : List ℕ). getD l 0 0) (behind t s u v (f .rest))) ∙ p;
       }
-
--- ---- each element of a list
-
-pub data Each {A : Type 0} (Q : A → Type 0) : List A → Type 0 where
-  none : Each Q []
-  also : {x : A} {xs : List A} → Q x → Each Q xs → Each Q (x ∷ xs)
-
-module _ {A : Type 0} (Q : A → Type 0) where
-  pub each-append : {xs ys : List A} → Each Q xs → Each Q ys → Each Q (xs ++ ys)
-  each-append none f = f
-  each-append (also q e) f = also q (each-append e f)
-
-  pub each-at : (d : A) {xs : List A} → Each Q xs → (j : ℕ) → j < length xs → Q (getD xs j d)
-  each-at d none j h = absurd (not-suc-le-zero h)
-  each-at d (also q e) zero h = q
-  each-at d (also q e) (suc j) h = each-at d e j (le-of-suc-le-suc h)

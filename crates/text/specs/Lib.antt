@@ -5,6 +5,7 @@
 -- Limits: the limits of a program text
 pub mod Bytes
 pub mod Spot
+pub mod Standing
 pub mod Decimal
 pub mod Text
 pub mod Limits
