@@ -12,7 +12,7 @@ use Rattle.meaning.specs.Program.{Program, ruleAt}
 use Rattle.text.specs.Standing.{StandsAt, WholeAt}
 use Rattle.text.specs.Decimal.{decimal}
 use Rattle.text.specs.Text.{ruleText, textOf}
-use Rattle.text.specs.Limits.{bodiesOf}
+use Rattle.text.specs.Limits.{maxAtoms, maxRules, maxBodyAtoms, bodiesOf}
 use Rattle.reader_laws.specs.Breach.{Event, atomsRead, ruleOpened, headRead, bodyRead}
 
 pub record NeighbourAt (t : List ℕ) (s y : ℕ) : Type 0 where
@@ -35,12 +35,13 @@ pub data EventAt (P : Program) : Event → Type 0 where
 -- the rows in the table's words
 pub data BreachAt (P : Program) : (row spot : ℕ) → Type 0 where
   -- N above 126; the number's first byte
-  too-many-atoms : {s : ℕ} → 126 < P .atoms → WholeAt (textOf P) s (decimal (P .atoms)) → BreachAt P 3 s
+  too-many-atoms : {s : ℕ} → maxAtoms < P .atoms → WholeAt (textOf P) s (decimal (P .atoms)) → BreachAt P 3 s
   -- 0 or above N; its first byte
   unknown-atom : {s : ℕ} (x : ℕ) → (x ≡ 0) ⊎ (P .atoms < x) → WholeAt (textOf P) s (decimal x) → BreachAt P 4 s
   -- not above its list neighbour before; its first byte
   unordered : {s : ℕ} (x y : ℕ) → x ≤ y → NeighbourAt (textOf P) s y → WholeAt (textOf P) s (decimal x) → BreachAt P 5 s
-  -- rule 501; its first byte
-  too-many-rules : {s : ℕ} → 500 < length (P .rules) → StandsAt (textOf P) s (ruleText (ruleAt (P .rules) 501)) → BreachAt P 6 s
-  -- body atom 501; its first byte
-  bodies-full : {s : ℕ} → 500 < length (bodiesOf (P .rules)) → WholeAt (textOf P) s (decimal (getD (bodiesOf (P .rules)) 500 0)) → BreachAt P 7 s
+  -- rule 501, with 500 before it; its first byte
+  too-many-rules : {s : ℕ} → maxRules < length (P .rules) → StandsAt (textOf P) s (ruleText (ruleAt (P .rules) (suc maxRules))) → BreachAt P 6 s
+  -- body atom 501, with 500 before it; its first byte
+  bodies-full : {s : ℕ} → maxBodyAtoms < length (bodiesOf (P .rules)) → WholeAt (textOf P) s (decimal (getD (bodiesOf (P .rules)) maxBodyAtoms 0))
+      → BreachAt P 7 s
