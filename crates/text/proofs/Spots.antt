@@ -1,5 +1,5 @@
 -- Spots where texts leave a form, for any form.
---   left-malformed       a text that a test of the form does not accept is malformed where no ending is accepted any more
+--   left-malformed       a text that a test of the form rejects is malformed at the byte from which on the test rejects every ending
 --   spot-unique          no text has two malformed spots
 --   form-not-malformed   a text of the form is not malformed
 -- Assumes nothing.
@@ -15,7 +15,7 @@ use lib.Seq.{take-add}
 use Rattle.lists.proofs.Tests.{le-or-lt}
 use Rattle.text.specs.Spot.{ViableIn, MalformedIn}
 
--- a test that accepts the texts of the form and no others
+-- a test that accepts every text of the form
 module _ (Form : List ℕ → Type 0) (accepts : List ℕ → Bool) (complete : (t : List ℕ) → Form t → accepts t ≡ true) where
   pub left-malformed : (t : List ℕ) (n : ℕ) → accepts t ≡ false → n ≤ length t → ViableIn Form (take n t)
       → (n < length t → (e : List ℕ) → accepts (take (n + 1) t ++ e) ≡ false) → MalformedIn Form t n

@@ -1,5 +1,5 @@
 -- What each group of clauses says, for document 01's own definitions: all clauses of the group are true exactly if the statement holds of each rule, atom or
--- pair. P is any program, A any assignment, and the counters have w bits, at least one.
+-- pair. P is any program, A any assignment and w any width; group 6 asks that it is not 0.
 --   group1-iff to group7-iff   the groups
 --   pairs-are, pairs-counted   which pairs are those of a rule, and how many there are in all
 -- Assumes nothing.
