@@ -2,7 +2,7 @@
 --   model-small     it has at most 1,100 bytes
 --   model-whole, model-levels, model-middle, model-atoms, model-word    so in m bytes there is room for it and for its first four, three, two and one parts
 -- Assumes nothing.
-use Prim.Native.Nat.{ℕ, suc, _+_, _≤_, _<_}
+use Prim.Native.Nat.{ℕ, suc, _≤_, _<_}
 use native.Mathlib.Omega.{arith}
 use mathlib.Core.Path.{ap}
 use mathlib.Core.List.{List, _++_, map}

@@ -4,7 +4,7 @@
 --   clause-is       line n, from the place of clause n
 --   line-short      no line passes 3,008 bytes
 -- Assumes nothing.
-use Prim.Native.Nat.{ℕ, zero, suc, pred, _+_, _≤_, _<_, _^_}
+use Prim.Native.Nat.{ℕ, zero, suc, pred, _≤_, _<_, _^_}
 use native.Mathlib.Nat.{not-suc-le-zero, le-trans, pos-of-ne-zero}
 use native.Mathlib.Omega.{arith}
 use mathlib.Core.Path.{_≡_, sym, _∙_, ap, ap₂, subst}

@@ -1,6 +1,6 @@
 -- A buffer that begins with a text counts its bytes.
 -- Assumes nothing.
-use Prim.Native.Nat.{ℕ, _+_, _≤_}
+use Prim.Native.Nat.{ℕ, _≤_}
 use native.Mathlib.Omega.{arith}
 use mathlib.Core.Path.{_≡_, sym, ap}
 use mathlib.Core.List.{List, _++_}

@@ -1,12 +1,11 @@
 -- What the reads of an input come to.
 -- Assumes nothing.
-use Prim.Native.Nat.{ℕ, zero, suc, _+_, _-_, _*_, _≤_, _<_}
+use Prim.Native.Nat.{ℕ, suc, _+_, _-_, _≤_, _<_}
 use native.Mathlib.Omega.{arith}
 use mathlib.Core.Path.{_≡_, refl, sym, _∙_, ap, subst}
 use mathlib.Core.Bool.{Bool, true, false, cond, So}
 use mathlib.Core.List.{List, [], _∷_, _++_}
 use lib.Dec.{eqb, ltb}
-use lib.ListN.{length}
 use borrow.Author.Tests.{ltb-true, ltb-false, eqb-false, eq-eqb, ne-eqb, lt-ltb, le-ltb}
 use Rattle.io.specs.Counts.{Counts}
 use Rattle.lists.specs.Lists.{all}

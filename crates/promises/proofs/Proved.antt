@@ -1,11 +1,11 @@
 -- What is promised is proved: `proved` is the one term of the record `Promised` (specs/Promised.antt). Where a field takes more than the name of a law of
 -- another crate, its proof stands above it, section by section.
-use Prim.Native.Nat.{ℕ, zero, suc, pred, _+_, _-_, _^_, _≤_, _<_}
+use Prim.Native.Nat.{ℕ, suc, pred, _+_, _^_, _≤_, _<_}
 use native.Mathlib.Omega.{arith}
 use mathlib.Core.Path.{_≡_, refl, sym, _∙_, ap, subst}
 use mathlib.Core.Logic.{_⊎_, inl, inr}
 use mathlib.Core.Bool.{Bool, true, false, So, false≢true}
-use mathlib.Core.List.{List, [], _∷_}
+use mathlib.Core.List.{List, []}
 use lib.ListN.{length, take, drop}
 use lib.Seq.{ext-getD, take-add, take-all}
 use Rattle.lists.specs.Lists.{tab, joined}

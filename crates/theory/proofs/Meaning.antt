@@ -8,7 +8,7 @@ use mathlib.Core.List.{List, [], _∷_}
 use lib.Dec.{eqb}
 use lib.ListN.{length}
 use borrow.Author.Tests.{eq-eqb, eqb-true, not-true}
-use Rattle.lists.specs.Lists.{all, any, allTo, each}
+use Rattle.lists.specs.Lists.{all, any, allTo}
 use Rattle.lists.proofs.Bools.{and-in, and-left, and-right, or-cases, beq-eq, eq-beq, not-So, So-not}
 use lib.Dec.{lit<}
 use Rattle.lists.proofs.Tests.{all-at, allTo-at, allTo-in, anyTo-at, anyTo-in, all-joined, all-select, any-select}

@@ -7,7 +7,6 @@ use mathlib.Core.List.{List, _++_}
 use lib.ListN.{length, take, drop, length-append, length-drop}
 use lib.Seq.{length-take-le, take-add, take-all}
 use Rattle.lists.specs.Lists.{joined}
-use Rattle.io.specs.Counts.{Counts}
 use Rattle.meaning.specs.Program.{Program}
 use Rattle.program.specs.declared.Program.{Program as Arrays}
 use Rattle.program.specs.Arrays.{decoded}

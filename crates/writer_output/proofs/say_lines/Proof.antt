@@ -7,7 +7,7 @@ use Rattle.program.specs.Arrays.{decoded}
 use native.Mathlib.Omega.{arith}
 use lib.ListN.{length}
 use mathlib.Core.Path.{_≡_}
-use Prim.Native.Nat.{suc, _-_, _≤_}
+use Prim.Native.Nat.{suc, _-_}
 use Rattle.writer_output.proofs.say_lines.Statement.{statement}
 use Rattle.writer_output.proofs.say_lines.Tie as tie
 use Rattle.writer_output.proofs.say_lines.Reads as reads
