@@ -19,7 +19,7 @@ use borrow.Author.Tests.{eq-eqb, ne-eqb, le-leb, lt-leb}
 use Rattle.lists.specs.Lists.{sum}
 use Rattle.lists.proofs.Tests.{le-or-lt}
 use Rattle.lists.proofs.Growing.{one}
-use Rattle.lists.proofs.Tables.{sum-ext, sum-add, sum-const, sum-zero, length-tab, length-each}
+use Rattle.lists.proofs.Tables.{sum-ext, sum-add, sum-const, sum-zero, length-tab, length-each, sum-twice}
 use Rattle.meaning.specs.Program.{Program}
 use Rattle.clause_walk.specs.Walk.{itemCount, blockCount, size, size2, headOf, bodyCount, chainSize, chainBit}
 use Rattle.program.specs.Arrays.{kept}
@@ -72,10 +72,6 @@ module _ (P : Program) (w : ℕ) where
 
 -- ---- items
 
-next-sum : (w : ℕ) → sum w (λ i. 2 * i) ≡ w * (w + 1)
-next-sum zero = refl
-next-sum (suc w) = omega (arith, next-sum w)
-
 chain-sum : (k : ℕ) → sum (suc k) chainSize ≡ 3 + 6 * k
 chain-sum zero = refl
 chain-sum (suc k) = omega (arith, chain-sum k, ap {B = ℕ} (λ (b : Bool). cond b 3 6) (ne-eqb (suc (suc k)) 1 (λ e. omega arith)))
@@ -101,7 +97,7 @@ module _ (P : Program) (w : ℕ) where
   fixed-item p (suc zero) h k e a = absurd (false≢true e)
   fixed-item p (suc (suc zero)) h k e a = absurd (false≢true e)
   fixed-item p (suc (suc (suc zero))) h k e a = zero-add w
-  fixed-item p (suc (suc (suc (suc zero)))) h k e a = next-sum w
+  fixed-item p (suc (suc (suc (suc zero)))) h k e a = sum-twice w
   fixed-item p (suc (suc (suc (suc (suc zero))))) h k e a = pair-sum w p
   fixed-item p (suc (suc (suc (suc (suc (suc zero)))))) h k e a = absurd (false≢true e)
   fixed-item p (suc (suc (suc (suc (suc (suc (suc zero))))))) h k e a = refl

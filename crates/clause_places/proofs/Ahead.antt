@@ -11,7 +11,7 @@ use native.Mathlib.Omega.{arith}
 use mathlib.Core.Path.{_≡_, refl, sym, _∙_, ap, ap₂, subst}
 use mathlib.Core.List.{List, [], _∷_, _++_, append-assoc}
 use Rattle.lists.specs.Lists.{tab, each}
-use Rattle.lists.proofs.Tables.{each-front}
+use Rattle.lists.proofs.Tables.{each-front, tab-each}
 use Rattle.meaning.specs.Program.{Program}
 use Rattle.clause_walk.specs.Walk.{itemCount, blockCount, size, At}
 use Rattle.clause_places.specs.declared.Coordinates.{Coordinates}
@@ -26,10 +26,6 @@ module _ {A : Type 0} where
   pub each-after : (n : ℕ) (f : ℕ → List A) → each n f ≡ after n 1 f
   each-after zero f = refl
   each-after (suc n) f = each-front n f ∙ ap (λ (xs : List A). f 1 ++ xs) (each-after n (λ i. f (suc i)) ∙ sym (after-shift n 1 f))
-
-  tab-each : (n : ℕ) (f : ℕ → A) → tab n f ≡ each n (λ i. f i ∷ [])
-  tab-each zero f = refl
-  tab-each (suc n) f = ap (λ (xs : List A). xs ++ (f (suc n) ∷ [])) (tab-each n f)
 
   pub tab-after : (n : ℕ) (f : ℕ → A) → tab n f ≡ after n 1 (λ i. f i ∷ [])
   tab-after n f = tab-each n f ∙ each-after n (λ i. f i ∷ [])

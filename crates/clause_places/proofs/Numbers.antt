@@ -10,10 +10,10 @@ use Prim.Native.Nat.{ℕ, zero, suc, pred, _+_, _-_, _≤_, _<_}
 use native.Mathlib.Nat.{not-suc-le-zero, zero-add}
 use native.Mathlib.Omega.{arith}
 use mathlib.Core.Path.{_≡_, refl, sym, _∙_, ap, ap₂, subst}
-use mathlib.Core.List.{List, [], _∷_, _++_, map}
+use mathlib.Core.List.{List, [], _∷_, _++_, map, map-append}
 use lib.ListN.{length, getD, length-map}
-use Rattle.lists.specs.Lists.{tab, each}
-use Rattle.lists.proofs.Tables.{each-ext, getD-map}
+use Rattle.lists.specs.Lists.{each}
+use Rattle.lists.proofs.Tables.{each-ext, getD-map, map-tab}
 use Rattle.meaning.specs.Program.{Program}
 use Rattle.encoding.specs.Width.{width}
 use Rattle.encoding.specs.Literal.{Clause}
@@ -36,17 +36,9 @@ use Rattle.clause_places.proofs.Ahead.{Stands, Chained, link, all-coord
 -- ---- lists
 
 module _ {A B : Type 0} (f : A → B) where
-  map-append : (xs ys : List A) → map f (xs ++ ys) ≡ map f xs ++ map f ys
-  map-append [] ys = refl
-  map-append (x ∷ xs) ys = ap (λ (zs : List B). f x ∷ zs) (map-append xs ys)
-
   map-each : (n : ℕ) (g : ℕ → List A) → map f (each n g) ≡ each n (λ i. map f (g i))
   map-each zero g = refl
-  map-each (suc n) g = map-append (each n g) (g (suc n)) ∙ ap (λ (xs : List B). xs ++ map f (g (suc n))) (map-each n g)
-
-  map-tab : (n : ℕ) (g : ℕ → A) → map f (tab n g) ≡ tab n (λ i. f (g i))
-  map-tab zero g = refl
-  map-tab (suc n) g = map-append (tab n g) (g (suc n) ∷ []) ∙ ap (λ (xs : List B). xs ++ (f (g (suc n)) ∷ [])) (map-tab n g)
+  map-each (suc n) g = map-append f (each n g) (g (suc n)) ∙ ap (λ (xs : List B). xs ++ map f (g (suc n))) (map-each n g)
 
 module _ (P : Program) (w : ℕ) where
   all-coordinates-walked : map (clauseIn P w) (allCoordinates P w) ≡ walked P w

@@ -9,14 +9,14 @@ use mathlib.Core.List.{List, [], _∷_, _++_, append-assoc}
 use lib.Dec.{eqb, ltb}
 use borrow.Author.Tests.{eq-eqb, ne-eqb, lt-ltb, le-ltb, le-leb, lt-leb}
 use Rattle.lists.specs.Lists.{tab, each}
-use Rattle.lists.proofs.Tables.{each-ext}
+use Rattle.lists.proofs.Tables.{each-ext, tab-each}
 use Rattle.meaning.specs.Program.{Program}
 use Rattle.encoding.specs.Literal.{var, −_, Clause}
 use Rattle.encoding.specs.Variables.{Sizes, levelVar, nextVar, belowVar, nextBelowVar}
 use Rattle.encoding.specs.Counter.{keepsClauses, flipsClauses, successorAt, successor, chainAt, chain}
 use Rattle.encoding.specs.Clauses.{sizes, pairs, pairCount, pairAt, pairClauses, group4, group5}
 use Rattle.clause_walk.specs.Walk.{signed, three, chainSize, chainSlots, chainFirst, chainNext, chainSlot, itemCount, blockCount, size, slots, slot, clauseAt, block, group}
-use Rattle.clause_walk.proofs.Tabs.{tab-each, each-add, tab-pairs}
+use Rattle.clause_walk.proofs.Tabs.{each-add, tab-pairs}
 
 module _ (P : Program) (w : ℕ) where
   abbrev S : Sizes

@@ -12,13 +12,13 @@ use lib.ListN.{length}
 use borrow.Author.Tests.{ne-eqb, lt-ltb, le-ltb, le-leb, lt-leb}
 use Rattle.lists.specs.Lists.{tab, each, select}
 use Rattle.lists.proofs.Tests.{le-or-lt}
-use Rattle.lists.proofs.Tables.{tab-ext, each-ext, each-front}
+use Rattle.lists.proofs.Tables.{tab-ext, each-ext, each-front, tab-each}
 use Rattle.meaning.specs.Program.{Program, ruleAt}
 use Rattle.encoding.specs.Literal.{var, −_, Clause}
 use Rattle.encoding.specs.Variables.{Sizes, bodyVar, foundsVar}
 use Rattle.encoding.specs.Clauses.{sizes, rulesOf, bodyClauses, impliedClauses, supportedClause, foundedClause, group1, group2, group3, group7}
 use Rattle.clause_walk.specs.Walk.{ruleCount, headsOf, headOf, positives, bodyOf, bodyCount, atomAt, signed, two, bodyLiteral, bodyOpposite, ofHead, itemCount, blockCount, size, slots, slot, clauseAt, block, group}
-use Rattle.clause_walk.proofs.Tabs.{head-is, tab-each, tab-two, map-select}
+use Rattle.clause_walk.proofs.Tabs.{head-is, tab-two, map-select}
 
 module _ (P : Program) (w : ℕ) where
   abbrev S : Sizes

@@ -9,13 +9,13 @@ use mathlib.Core.List.{List, [], _∷_, _++_, map}
 use lib.Dec.{eqb}
 use borrow.Author.Tests.{eq-eqb, ne-eqb, le-leb, lt-leb}
 use Rattle.lists.specs.Lists.{tab, each}
-use Rattle.lists.proofs.Tables.{tab-ext, each-ext, each-front}
+use Rattle.lists.proofs.Tables.{tab-ext, each-ext, each-front, tab-each, map-tab}
 use Rattle.meaning.specs.Program.{Program, ruleAt}
 use Rattle.encoding.specs.Literal.{var, −_, Clause}
 use Rattle.encoding.specs.Variables.{Sizes, bodyVar, foundsVar, levelVar, belowVar, nextBelowVar}
 use Rattle.encoding.specs.Clauses.{sizes, pairsBefore, pairsOf, foundsClauses, lowestClauses, group6}
 use Rattle.clause_walk.specs.Walk.{ruleCount, headOf, positives, signed, two, three, size6, slots6, slot6, itemCount, blockCount, size, slots, slot, block, group}
-use Rattle.clause_walk.proofs.Tabs.{head-is, tab-each, tab-front, map-tab}
+use Rattle.clause_walk.proofs.Tabs.{head-is, tab-front}
 
 module _ (P : Program) (w : ℕ) where
   abbrev S : Sizes

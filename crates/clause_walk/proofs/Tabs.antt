@@ -17,10 +17,6 @@ use Rattle.clause_walk.specs.Walk.{headAt}
 use Rattle.lists.proofs.Tables.{tab-ext}
 
 module _ {A : Type 0} where
-  pub tab-each : (n : ℕ) (f : ℕ → A) → tab n f ≡ each n (λ i. f i ∷ [])
-  tab-each zero f = refl
-  tab-each (suc n) f = ap (λ (xs : List A). xs ++ (f (suc n) ∷ [])) (tab-each n f)
-
   pub tab-front : (n : ℕ) (f : ℕ → A) → tab (suc n) f ≡ f 1 ∷ tab n (λ i. f (suc i))
   tab-front zero f = refl
   tab-front (suc n) f = ap (λ (xs : List A). xs ++ (f (suc (suc n)) ∷ [])) (tab-front n f)
@@ -70,10 +66,6 @@ module _ {A : Type 0} where
       same : (i : ℕ) → (suc i ≤ length xs) ⊎ (length xs < suc i) → F (suc (suc i)) ≡ G (suc i)
       same i (inl h) = rw (le-leb (suc (suc i)) (suc (length xs)) (suc-le-suc h), le-leb (suc i) (length xs) h)
       same i (inr h) = rw (lt-leb (suc (suc i)) (suc (length xs)) (suc-le-suc h), lt-leb (suc i) (length xs) h)
-
-pub map-tab : {A B : Type 0} (f : A → B) (n : ℕ) (g : ℕ → A) → map f (tab n g) ≡ tab n (λ i. f (g i))
-map-tab f zero g = refl
-map-tab f (suc n) g = map-append f (tab n g) (g (suc n) ∷ []) ∙ ap (λ xs. xs ++ (f (g (suc n)) ∷ [])) (map-tab f n g)
 
 pub map-select : {A : Type 0} (f : ℕ → A) (n : ℕ) (p : ℕ → Bool) → map f (select n p) ≡ each n (λ i. cond (p i) (f i ∷ []) [])
 map-select f zero p = refl

@@ -7,7 +7,7 @@ use native.Mathlib.Omega.{arith}
 use mathlib.Core.Path.{_≡_, refl, sym, _∙_, ap, ap₂, subst}
 use mathlib.Core.Logic.{⊎-elim}
 use mathlib.Core.Bool.{Bool, true, false, not, _&&_, _||_, So, cond}
-use mathlib.Core.List.{List, [], _∷_, _++_, map, append-assoc, append-nil}
+use mathlib.Core.List.{List, [], _∷_, _++_, map, append-assoc, append-nil, map-append}
 use lib.ListN.{length, getD, length-append, List·getD-append}
 use lib.Seq.{getD-append-add, getD-at}
 use Rattle.lists.specs.Lists.{tab, each, joined, keep, sum, all, allTo}
@@ -33,6 +33,11 @@ sum-const (suc n) k = ap (λ s. s + k) (sum-const n k) ∙ sym (suc-mul n k)
 pub sum-zero : (n : ℕ) → sum n (λ i. 0) ≡ 0
 sum-zero zero = refl
 sum-zero (suc n) = omega (arith, sum-zero n)
+
+-- twice the numbers 1 to n
+pub sum-twice : (n : ℕ) → sum n (λ i. 2 * i) ≡ n * (n + 1)
+sum-twice zero = refl
+sum-twice (suc n) = omega (arith, sum-twice n)
 
 -- a sum may be taken in either order
 pub sum-swap : (n m : ℕ) (f : ℕ → ℕ → ℕ) → sum n (λ i. sum m (λ j. f i j)) ≡ sum m (λ j. sum n (λ i. f i j))
@@ -87,6 +92,11 @@ module _ {A : Type 0} where
   pub each-ext : (n : ℕ) (f g : ℕ → List A) → ((i : ℕ) → i < n → f (suc i) ≡ g (suc i)) → each n f ≡ each n g
   each-ext zero f g e = refl
   each-ext (suc n) f g e = ap₂ _++_ (each-ext n f g (λ i h. e i (omega arith))) (e n (omega arith))
+
+  -- a table is joined rows of one element
+  pub tab-each : (n : ℕ) (f : ℕ → A) → tab n f ≡ each n (λ i. f i ∷ [])
+  tab-each zero f = refl
+  tab-each (suc n) f = ap (λ (xs : List A). xs ++ (f (suc n) ∷ [])) (tab-each n f)
 
   pub getD-tab : (n : ℕ) (f : ℕ → A) (d : A) (i : ℕ) → i < n → getD (tab n f) i d ≡ f (suc i)
   getD-tab zero f d i h = absurd (not-suc-le-zero h)
@@ -158,6 +168,10 @@ module _ {A : Type 0} where
       go : (b : Bool) → all q (cond b (x ∷ keep p xs) (keep p xs)) ≡ ((not b || q x) && all q (keep p xs))
       go true = refl
       go false = refl
+
+pub map-tab : {A B : Type 0} (f : A → B) (n : ℕ) (g : ℕ → A) → map f (tab n g) ≡ tab n (λ i. f (g i))
+map-tab f zero g = refl
+map-tab f (suc n) g = map-append f (tab n g) (g (suc n) ∷ []) ∙ ap (λ xs. xs ++ (f (g (suc n)) ∷ [])) (map-tab f n g)
 
 pub getD-map : {A B : Type 0} (f : A → B) (xs : List A) (d : A) (e : B) (j : ℕ) → j < length xs → getD (map f xs) j e ≡ f (getD xs j d)
 getD-map f [] d e j h = absurd (not-suc-le-zero h)

@@ -9,7 +9,7 @@ use mathlib.Core.List.{List, [], _∷_, _++_, map}
 use lib.Dec.{eqb, eqb·suc-zero}
 use lib.ListN.{length, length-append, length-map}
 use Rattle.lists.specs.Lists.{sum, each, select}
-use Rattle.lists.proofs.Tables.{sum-ext, sum-add, sum-mul, sum-const, sum-zero, sum-swap, length-tab, length-each}
+use Rattle.lists.proofs.Tables.{sum-ext, sum-add, sum-mul, sum-const, sum-zero, sum-swap, length-tab, length-each, sum-twice}
 use Rattle.lists.proofs.Growing.{one, count-le}
 use Rattle.lists.proofs.Counting.{sum-with, one-of}
 use Rattle.meaning.specs.Program.{Rule, Program, ruleAt, wellFormed}
@@ -39,16 +39,12 @@ length-select n p = length-each n (λ i. cond (p i) (i ∷ []) []) ∙ sum-ext n
 
 successor-count : (w : ℕ) (u v : ℕ → ℕ) → length (successor w u v) ≡ w * (w + 1)
 unfolding successor
-successor-count w u v = length-each w (successorAt u v) ∙ sum-ext w _ (λ i. 2 * i) (λ i h. bit-count i) ∙ twice w
+successor-count w u v = length-each w (successorAt u v) ∙ sum-ext w _ (λ i. 2 * i) (λ i h. bit-count i) ∙ sum-twice w
   where
     bit-count : (i : ℕ) → length (successorAt u v (suc i)) ≡ 2 * suc i
     bit-count i =
         length-append (each i (keepsClauses u v (suc i))) (flipsClauses u v (suc i))
         ∙ ap (λ (x : ℕ). x + 2) (length-each i (keepsClauses u v (suc i)) ∙ sum-const i 2) ∙ omega arith
-
-    twice : (w : ℕ) → sum w (λ i. 2 * i) ≡ w * (w + 1)
-    twice zero = refl
-    twice (suc w) = omega (arith, twice w)
 
 chain-count : (w : ℕ) (z x y : ℕ → ℕ) → length (chain (suc w) z x y) ≡ 3 + 6 * w
 unfolding chain
