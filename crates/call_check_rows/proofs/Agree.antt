@@ -1,5 +1,4 @@
 -- What is computed of the values of the variables 1 to V depends on these alone.
---   first-same                    the first number that passes, of tests that agree on 1 to n
 --   value-front                   the values in the first n bytes of a buffer
 --   unset-front, false-front, true-front, counters-front   so the number of variables without a value, the first false clause, the number of true atoms and
 --                                 the counters are those of the first V bytes
@@ -13,10 +12,11 @@ use mathlib.Core.List.{List, [], _∷_}
 use lib.Dec.{eqb}
 use lib.ListN.{length, getD, take}
 use lib.Seq.{getD-take}
-use Rattle.lists.specs.Lists.{all, first, orLast}
+use Rattle.lists.specs.Lists.{all}
 use Rattle.lists.proofs.Bools.{and-left, and-right}
 use Rattle.lists.proofs.Tests.{all-at}
 use Rattle.lists.proofs.Tables.{tab-ext, sum-ext}
+use Rattle.lists.proofs.First.{first-ext}
 use Rattle.meaning.specs.Program.{Program, isAtom}
 use Rattle.encoding.specs.Width.{width}
 use Rattle.encoding.specs.Literal.{Literal, var, −_, variable, Clause, literalTrue, clauseTrue}
@@ -31,10 +31,6 @@ use Rattle.answer_values.specs.Assign.{unsetCount}
 use Rattle.truth_clauses.specs.Truth.{valueIn, falseAt, firstFalse}
 use Rattle.call_results.specs.Results.{trueCount, counters}
 use Rattle.call_results.proofs.ValueBytes.{atoms-within}
-
-pub first-same : (n : ℕ) (p q : ℕ → Bool) → ((i : ℕ) → i < n → p (suc i) ≡ q (suc i)) → first n p ≡ first n q
-first-same zero p q e = refl
-first-same (suc n) p q e = ap₂ (λ (f : ℕ) (b : Bool). orLast f b (suc n)) (first-same n p q (λ i h. e i (omega (arith, h)))) (e n (omega arith))
 
 -- ---- values that agree on the variables of a clause
 
@@ -73,7 +69,7 @@ module _ (P : Program) (L : Limits P) (b : List ℕ) where
   pub false-front : firstFalse P (take V′ b) ≡ firstFalse P b
   unfolding firstFalse
   false-front =
-      first-same (length cs) (falseAt P (take V′ b)) (falseAt P b)
+      first-ext (length cs) (falseAt P (take V′ b)) (falseAt P b)
       (λ j h. ap not
       (clause-same (valueIn (take V′ b)) (valueIn b) V′ (value-front b V′) (getD cs j [])
       (all-at (λ c. all (λ l. isAtom V′ (variable l)) c) cs [] (clauses-within P (width (P .atoms)) (L .all-atoms) (width-enough (P .atoms))) j h)))

@@ -21,7 +21,7 @@ use Rattle.lists.specs.Lists.{all, any, keep, tab, orLast, first}
 use Rattle.lists.proofs.Bools.{and-in, and-left, and-right, not-So, same}
 use Rattle.lists.proofs.Tests.{all-at, all-ext, any-at, any-in, any-is, any-map}
 use Rattle.lists.proofs.Tables.{length-tab, tab-ext}
-use Rattle.lists.proofs.First.{first-is, first-pos}
+use Rattle.lists.proofs.First.{first-is, first-pos, first-ext}
 use Rattle.meaning.specs.Program.{Rule, Program, Atoms, noRule, isAtom, ruleFits, noneIn}
 use Rattle.meaning.specs.Stage.{Definite, definite, reduct, stage, leastModel, levelIn, level, differ}
 use Rattle.theory.proofs.Atoms.{RuleIn, rule-in, is-atom}
@@ -46,10 +46,6 @@ module _ {A : Type 0} where
   any-ext : (p q : A → Bool) (xs : List A) (d : A) → ((j : ℕ) → j < length xs → p (getD xs j d) ≡ q (getD xs j d)) → any p xs ≡ any q xs
   any-ext p q xs d f =
       any-is p xs ∙ ap not (all-ext (λ x. not (p x)) (λ x. not (q x)) xs d (λ j h. ap not (f j h))) ∙ sym (any-is q xs)
-
-first-ext : (n : ℕ) (p q : ℕ → Bool) → ((i : ℕ) → i < n → p (suc i) ≡ q (suc i)) → first n p ≡ first n q
-first-ext zero p q f = refl
-first-ext (suc n) p q f = ap₂ (λ (x : ℕ) (b : Bool). orLast x b (suc n)) (first-ext n p q (λ i h. f i (omega (arith, h)))) (f n (omega arith))
 
 -- ---- stages and levels of definite rules
 

@@ -3,7 +3,7 @@
 use Prim.Native.Nat.{ℕ, zero, suc, _≤_, _<_}
 use native.Mathlib.Nat.{not-suc-le-zero, le-of-suc-le-suc, suc-ne-zero, le-refl, le-trans, le-of-lt}
 use native.Mathlib.Omega.{arith}
-use mathlib.Core.Path.{_≡_, refl, sym, _∙_, subst}
+use mathlib.Core.Path.{_≡_, refl, sym, _∙_, ap₂, subst}
 use mathlib.Core.Logic.{⊎-elim}
 use mathlib.Core.Bool.{Bool, true, false, So, false≢true}
 use mathlib.Core.List.{List, [], _∷_}
@@ -45,6 +45,11 @@ first-le n p i h t =
     (λ (l : suc i < first n p). absurd (false≢true (sym (first-is n p .none-before i l) ∙ t))) (le-or-lt (first n p) (suc i))
 
 -- none passes
+-- tests that agree on 1 to n
+pub first-ext : (n : ℕ) (p q : ℕ → Bool) → ((i : ℕ) → i < n → p (suc i) ≡ q (suc i)) → first n p ≡ first n q
+first-ext zero p q e = refl
+first-ext (suc n) p q e = ap₂ (λ (f : ℕ) (b : Bool). orLast f b (suc n)) (first-ext n p q (λ i h. e i (omega (arith, h)))) (e n (omega arith))
+
 pub first-none : (n : ℕ) (p : ℕ → Bool) → ((i : ℕ) → i < n → p (suc i) ≡ false) → first n p ≡ zero
 first-none n p f = go (first n p) refl
   where
