@@ -20,6 +20,7 @@ use lib.Dec.{eqb, ltb}
 use lib.ListN.{length, getD, set, drop, length-set}
 use lib.Seq.{getD-set-same, getD-set-other, drop-set-lt}
 use borrow.Author.Tests.{eqb-true, eqb-false, ltb-true, ltb-false}
+use Rattle.lists.proofs.Bools.{or-neither}
 use Rattle.encoding.specs.Literal.{Literal, variable}
 use Literal.{var, −_}
 use Rattle.answer_form.specs.Pieces.{Spotted}
@@ -75,10 +76,6 @@ other-byte b v u x h g d = getD-set-other b (v - 1) (u - 1) x 0 (λ e. d (omega 
 abbrev also : ℕ → (ℕ → Bool) → ℕ → Bool
 also v seen u = eqb v u || seen u
 
-not-either : (a b : Bool) → (a || b) ≡ false → (a ≡ false) × (b ≡ false)
-not-either true b e = absurd (true≢false e)
-not-either false b e = (refl, e)
-
 one-of : (a b : Bool) → (a || b) ≡ true → (a ≡ true) ⊎ (b ≡ true)
 one-of true b e = inl refl
 one-of false b e = inr e
@@ -88,7 +85,7 @@ state-more n seen b v x st p h d =
     record {
       room = subst (λ (k : ℕ). n ≤ k) (sym (length-set b (v - 1) x)) (st .room);
       unseen = λ u q g e.
-          let s = not-either (eqb v u) (seen u) e in
+          let s = or-neither (eqb v u) (seen u) e in
           other-byte b v u x p q (eqb-false v u (s .0)) ∙ st .unseen u q g (s .1);
       taken = λ u q g e f. go u q g f (eqb v u) refl (one-of (eqb v u) (seen u) e);
     }
@@ -108,7 +105,7 @@ module _ (n : ℕ) (seen : ℕ → Bool) (x : Spotted) (xs : List Spotted) where
 
   good-later : (j : ℕ) → Good n (also (variable (x .literal)) seen) xs j → Good n seen (x ∷ xs) (suc j)
   good-later j g =
-      let s = not-either (eqb (variable (x .literal)) (variableAt xs j)) (seen (variableAt xs j)) (g .1) in
+      let s = or-neither (eqb (variable (x .literal)) (variableAt xs j)) (seen (variableAt xs j)) (g .1) in
       (g .0, s .1, new-later j (eqb-false (variable (x .literal)) (variableAt xs j) (s .0)) (g .2))
 
   good-to : variable (x .literal) ≤ n → seen (variable (x .literal)) ≡ false → (k : ℕ) → ((j : ℕ) → j < k → Good n (also (variable (x .literal)) seen) xs j)

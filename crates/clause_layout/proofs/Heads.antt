@@ -10,12 +10,13 @@ use native.Mathlib.Nat.{le-of-eq, not-suc-le-zero, le-of-suc-le-suc, add-zero}
 use native.Mathlib.Numerals.{add-one}
 use native.Mathlib.Omega.{arith}
 use mathlib.Core.Path.{_≡_, refl, sym, _∙_, ap}
-use mathlib.Core.Bool.{Bool, true, false, _||_, cond, false≢true}
+use mathlib.Core.Bool.{Bool, true, false, cond}
 use mathlib.Core.List.{List, [], _∷_}
 use lib.Dec.{eqb}
 use lib.ListN.{length, getD, take, drop, length-drop, drop-of-length-le}
 use lib.Seq.{drop-cons, getD-drop, length-take-le}
 use borrow.Author.Tests.{eq-eqb, ne-eqb, eqb-true, eqb-false}
+use Rattle.lists.proofs.Bools.{or-neither}
 use Rattle.clause_layout.specs.Numbers.{others, isAt, amongEight, nextHead}
 
 -- ---- the first a of a list
@@ -99,10 +100,6 @@ module _ (hs : List ℕ) (m a i : ℕ) (h : m ≤ length hs) where
 
 -- ---- eight indexes at once
 
-neither : (x y : Bool) → (x || y) ≡ false → (x ≡ false) × (y ≡ false)
-neither true y e = absurd (false≢true (sym e))
-neither false y e = (refl, e)
-
 next-more : (hs : List ℕ) (a i k : ℕ) → i + k < length hs → isAt hs a (i + k) ≡ false → nextHead hs a (i + suc k) ≡ nextHead hs a (i + k)
 next-more hs a i k h e = ap (nextHead hs a) (shift i k) ∙ next-on hs a (i + k) h (eqb-false (getD hs (i + k) 0) a e)
   where
@@ -112,13 +109,13 @@ next-more hs a i k h e = ap (nextHead hs a) (shift i k) ∙ next-on hs a (i + k)
 pub next-eight : (hs : List ℕ) (a i : ℕ) → i + 8 ≤ length hs → amongEight hs a i ≡ false → nextHead hs a (i + 8) ≡ nextHead hs a i
 unfolding amongEight
 next-eight hs a i h e7 =
-    let p7 = neither _ _ e7 in
-    let p6 = neither _ _ (p7 .0) in
-    let p5 = neither _ _ (p6 .0) in
-    let p4 = neither _ _ (p5 .0) in
-    let p3 = neither _ _ (p4 .0) in
-    let p2 = neither _ _ (p3 .0) in
-    let p1 = neither _ _ (p2 .0) in
+    let p7 = or-neither _ _ e7 in
+    let p6 = or-neither _ _ (p7 .0) in
+    let p5 = or-neither _ _ (p6 .0) in
+    let p4 = or-neither _ _ (p5 .0) in
+    let p3 = or-neither _ _ (p4 .0) in
+    let p2 = or-neither _ _ (p3 .0) in
+    let p1 = or-neither _ _ (p2 .0) in
     next-more hs a i 7 (omega (arith, h)) (p7 .1) ∙ next-more hs a i 6 (omega (arith, h)) (p6 .1) ∙ next-more hs a i 5 (omega (arith, h)) (p5 .1)
     ∙ next-more hs a i 4 (omega (arith, h)) (p4 .1) ∙ next-more hs a i 3 (omega (arith, h)) (p3 .1) ∙ next-more hs a i 2 (omega (arith, h)) (p2 .1)
     ∙ next-more hs a i 1 (omega (arith, h)) (p1 .1) ∙ next-on hs a i (omega (arith, h)) (eqb-false (getD hs i 0) a (p1 .0))

@@ -28,6 +28,10 @@ pub or-cases : (a b : Bool) → So (a || b) → So a ⊎ So b
 or-cases true b t = inl refl
 or-cases false b t = inr t
 
+pub or-neither : (a b : Bool) → (a || b) ≡ false → (a ≡ false) × (b ≡ false)
+or-neither true b e = absurd (true≢false e)
+or-neither false b e = (refl, e)
+
 pub and-assoc : (a b c : Bool) → ((a && b) && c) ≡ (a && (b && c))
 and-assoc true b c = refl
 and-assoc false b c = refl
