@@ -12,7 +12,6 @@ use native.Mathlib.Omega.{arith}
 use mathlib.Core.Path.{_≡_, refl, sym, _∙_, ap, subst}
 use mathlib.Core.Bool.{Bool, true, false, not, So}
 use mathlib.Core.List.{List, [], _∷_, _++_, append-nil}
-use lib.IntN.{natAbs}
 use lib.ListN.{length, getD, length-append, length-map}
 use borrow.Author.Tests.{lt-ltb}
 use Rattle.lists.specs.Ascii.{ascii}
@@ -20,7 +19,8 @@ use Rattle.lists.proofs.Bools.{and-in}
 use Rattle.lists.proofs.Tests.{all-in}
 use Rattle.lists.proofs.Tables.{length-tab, getD-tab, getD-map}
 use Rattle.encoding.specs.Literal.{Literal, literalNumber, variable, Assignment, valueOf, literalTrue}
-use Literal.{var, −_}
+use Rattle.encoding.proofs.Literals.{number-size}
+use Literal.{var}
 use Rattle.digits.specs.Bytes.{literalText, literalsText}
 use Rattle.digits.proofs.Lengths.{word-length, literal-fits, literals-fit}
 use Rattle.answer_form.specs.Answer.{named, proper, spacedText, satisfiableText, answerText, literalsOf, HasAnswerForm}
@@ -49,11 +49,6 @@ literal-true A v = go (A v) refl
     go : (x : Bool) → A v ≡ x → So (literalTrue A (valueLiteral x v))
     go true e = e
     go false e = ap not e
-
-number-is : (l : Literal) → natAbs (literalNumber l) ≡ variable l
-number-is (var v) = refl
-number-is (− zero) = refl
-number-is (− (suc v)) = refl
 
 -- one space before each literal, or after it
 spaced-length : (ls : List Literal) → length (spacedText ls) ≡ length (literalsText ls)
@@ -106,7 +101,7 @@ module _ (bs : List Bool) where
         literals-fit 6 (var 0) (literalsFor bs)
             (λ k h.
             let x = getD (literalsFor bs) k (var 0) in
-            omega (arith, literal-fits 3 (literalNumber x) (omega (arith, number-is x, for-variable k h, for-length, l, h)))),
+            omega (arith, literal-fits 3 (literalNumber x) (omega (arith, number-size x, for-variable k h, for-length, l, h)))),
       )
 
   pub offered-fits : length bs ≤ 9890 → length (offeredText bs) ≤ 65536

@@ -19,6 +19,7 @@ use Rattle.lists.specs.Lists.{each}
 use Rattle.lists.proofs.Tables.{each-ext}
 use Rattle.meaning.specs.Program.{Program}
 use Rattle.encoding.specs.Literal.{Literal, literalNumber, variable}
+use Rattle.encoding.proofs.Literals.{number-size}
 use Rattle.clause_literals.specs.Sizes.{sizesOf, Bounded}
 use Rattle.digits.specs.Bytes.{literalText, literalsText, lineText}
 use Rattle.digits.proofs.Lengths.{literal-fits, literals-append-length, line-length}
@@ -38,7 +39,6 @@ use Rattle.clause_blocks.specs.Texts.{bitText, Short, ShortBit, nextBloc
 use Rattle.clause_blocks.proofs.NextBlocks.{nextClause, next-blocks}
 use Rattle.clause_text.proofs.Clause.{slotted}
 use Rattle.clause_text.proofs.ChainLine.{shown-held, chain-clause}
-use Rattle.clause_text.proofs.Held.{number-is}
 
 -- a text, and the lines that it stands for
 pub block-put : (b : List ℕ) {s t : List ℕ} {r : ℕ} {d : List ℕ} → s ≡ t → (r ≡ length s) × (d ≡ s ++ drop r b) → (r ≡ length t) × (d ≡ t ++ drop r b)
@@ -61,7 +61,7 @@ slot-short ls (holds x q p h) =
       literals-append-length (x ∷ []) [],
       length-append (literalText (literalNumber x) ++ (32 ∷ [])) [],
       length-append (literalText (literalNumber x)) (32 ∷ []),
-      literal-fits 3 (literalNumber x) (omega (arith, number-is x, h)),
+      literal-fits 3 (literalNumber x) (omega (arith, number-size x, h)),
     ))
 
 module _ {P : Program} {t : Totals} {hs ss bs ks xs ys : List ℕ} (T : Tabled P t hs ss bs ks xs ys) where

@@ -17,7 +17,6 @@ use mathlib.Core.Path.{_≡_, refl, sym, _∙_, ap, subst}
 use mathlib.Core.Bool.{Bool, true, false, So, cond}
 use mathlib.Core.List.{List, [], _∷_, _++_, map, append-assoc}
 use lib.Dec.{eqb, ltb, leb}
-use lib.IntN.{natAbs}
 use lib.ListN.{length, getD, length-append}
 use borrow.Author.Tests.{ltb-true, leb-true, le-leb}
 use Rattle.lists.specs.Lists.{all, tab, each, joined}
@@ -30,6 +29,7 @@ use Rattle.encoding.specs.Width.{width}
 use Rattle.encoding.specs.Literal.{Literal, var, −_, variable, literalNumber, Clause}
 use Rattle.encoding.specs.Variables.{Sizes, bodyVar, foundsVar}
 use Rattle.encoding.specs.Clauses.{sizes, pairs, pairAt, pairsBefore, pairCount, clauses, variables, bodyAtoms, emptyBodies, clauseCount}
+use Rattle.encoding.proofs.Literals.{number-size}
 use Rattle.theory.proofs.Atoms.{atom-pos, atom-le, rule-in}
 use Rattle.theory.proofs.Widths.{width-some, width-enough}
 use Rattle.theory.proofs.Base.{clauses-within}
@@ -81,13 +81,8 @@ few n (x ∷ xs) a t = omega (arith, room n x xs a t, atom-pos n x (and-left (is
 
 -- ---- texts
 
-number-is : (x : Literal) → natAbs (literalNumber x) ≡ variable x
-number-is (var v) = refl
-number-is (− zero) = refl
-number-is (− (suc v)) = refl
-
 word-fits : (x : Literal) → variable x ≤ 9890 → length (literalText (literalNumber x)) + 1 ≤ 6
-word-fits x h = omega (arith, literal-fits 3 (literalNumber x) (omega (arith, number-is x, h)))
+word-fits x h = omega (arith, literal-fits 3 (literalNumber x) (omega (arith, number-size x, h)))
 
 text-fits : (n : ℕ) (c : Clause) → n ≤ 9890 → So (all (λ x. isAtom n (variable x)) c) → length c ≤ 501 → length (lineText c) ≤ 3008
 text-fits n c l t h =

@@ -5,7 +5,7 @@
 --   put-none, put-asks, put-some        what is asked before it is written, and what stands in the buffer
 --   held-is                             the literals of a slot, from the one that code has of it
 -- Assumes nothing.
-use Prim.Native.Nat.{ℕ, zero, suc, _+_, _^_, _≤_, _<_}
+use Prim.Native.Nat.{ℕ, _+_, _^_, _≤_, _<_}
 use native.Mathlib.Omega.{arith}
 use mathlib.Core.Path.{_≡_, refl, sym, _∙_, ap, subst}
 use mathlib.Core.Bool.{Bool, true, false, cond}
@@ -14,6 +14,7 @@ use lib.IntN.{ℤ, natAbs}
 use lib.ListN.{length, drop}
 use borrow.Author.Tests.{eq-eqb, ne-eqb}
 use Rattle.encoding.specs.Literal.{Literal, var, −_, variable, literalNumber}
+use Rattle.encoding.proofs.Literals.{number-size}
 use Rattle.digits.specs.Bytes.{literalText, literalsText}
 use Rattle.digits.proofs.Lengths.{word-length}
 use Rattle.clause_walk.specs.Walk.{signed}
@@ -30,17 +31,12 @@ number-positive b v e = ap (λ (b : Bool). literalNumber (signed b v)) (sym e)
 pub number-negative : (b : Bool) (v : ℕ) → b ≡ false → literalNumber (− v) ≡ literalNumber (signed b v)
 number-negative b v e = ap (λ (b : Bool). literalNumber (signed b v)) (sym e)
 
-pub number-is : (x : Literal) → natAbs (literalNumber x) ≡ variable x
-number-is (var v) = refl
-number-is (− zero) = refl
-number-is (− (suc v)) = refl
-
 variable-is : (b : Bool) (v : ℕ) → variable (signed b v) ≡ v
 variable-is true v = refl
 variable-is false v = refl
 
 number-fits : (b : Bool) (v : ℕ) → v < 2 ^ 16 → natAbs (literalNumber (signed b v)) < 2 ^ 31
-number-fits b v h = omega (arith, number-is (signed b v), variable-is b v, h)
+number-fits b v h = omega (arith, number-size (signed b v), variable-is b v, h)
 
 -- ---- the text
 

@@ -9,6 +9,7 @@ use lib.Dec.{eqb}
 use lib.IntN.{ℤ, pos, negsuc, natAbs}
 use lib.ListN.{length, getD}
 use Rattle.encoding.specs.Literal.{Literal, var, −_, literalNumber, literalTrue, variable}
+use Rattle.encoding.proofs.Literals.{number-size}
 use Rattle.clause_literals.specs.Signed.{isNegative}
 use Rattle.clause_literals.proofs.Products.{one-before}
 use Rattle.truth_blocks.specs.Values.{valueIn, numberTrue}
@@ -38,18 +39,13 @@ number-true bs (var v) h = refl
 number-true bs (− zero) h = absurd (omega (arith, h))
 number-true bs (− suc v) h = refl
 
-abs-number : (l : Literal) → natAbs (literalNumber l) ≡ variable l
-abs-number (var v) = refl
-abs-number (− zero) = refl
-abs-number (− suc v) = refl
-
 -- z is the number of the literal l, whose variable has a byte
 module _ (bs : List ℕ) (l : Literal) {z : ℤ} (p : z ≡ literalNumber l) (h : 0 < variable l) where
   pub literal-asks : variable l < 2 ^ 16 → variable l ≤ length bs → (natAbs z < 2 ^ 31) × (0 < natAbs z) × (natAbs z ≤ length bs)
   literal-asks b k = (omega (arith, size, b), omega (arith, size, h), subst (λ (n : ℕ). n ≤ length bs) (sym size) k)
     where
       size : natAbs z ≡ variable l
-      size = ap natAbs p ∙ abs-number l
+      size = ap natAbs p ∙ number-size l
 
   pub literal-true : {r : Bool} → r ≡ numberTrue bs z → r ≡ literalTrue (valueIn bs) l
   literal-true q = q ∙ ap (numberTrue bs) p ∙ number-true bs l h
