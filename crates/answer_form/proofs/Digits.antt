@@ -10,18 +10,19 @@ use native.Mathlib.Omega.{arith}
 use mathlib.Core.Path.{_≡_, refl, sym, _∙_, ap}
 use mathlib.Core.Bool.{Bool, true, false, So, cond}
 use mathlib.Core.List.{List, [], _∷_, _++_, append-assoc}
-use lib.ListN.{length, length-append, getD, drop}
+use lib.ListN.{length, length-append, drop}
 use lib.Seq.{drop-append-seam}
 use borrow.Author.Tests.{ltb-true}
+use Rattle.lists.proofs.Cons.{cons-head, cons-tail}
 use Rattle.text.specs.Decimal.{decimal}
 use Rattle.text.proofs.Decimals.{decimal-small, decimal-large, digits-ind}
 use Rattle.encoding.specs.Literal.{Literal, literalNumber}
 use Literal.{var, −_}
 use Rattle.digits.specs.Bytes.{literalText}
 use Rattle.reader_form.specs.Automaton.{digitTest}
+use Rattle.reader_form.proofs.Digits.{is-digit}
 use Rattle.answer_form.specs.Answer.{named}
 use Rattle.answer_form.specs.Pieces.{digitsValue, cappedValue, behindDigits}
-use Rattle.answer_form.proofs.Steps.{digit-is}
 
 pub data Stops : List ℕ → Type 0 where
   nothing : Stops []
@@ -39,11 +40,11 @@ behind-stops i u (byte n) = rw n
 
 value-digit : (v d : ℕ) (u : List ℕ) → d < 10 → digitsValue v ((48 + d) ∷ u) ≡ digitsValue (v * 10 + d) u
 unfolding digitsValue
-value-digit v d u h = rw (digit-is d h) (ap (λ (x : ℕ). digitsValue x u) (omega arith))
+value-digit v d u h = rw (is-digit d h) (ap (λ (x : ℕ). digitsValue x u) (omega arith))
 
 behind-digit : (i d : ℕ) (u : List ℕ) → d < 10 → behindDigits i ((48 + d) ∷ u) ≡ behindDigits (i + 1) u
 unfolding behindDigits
-behind-digit i d u h = rw (digit-is d h)
+behind-digit i d u h = rw (is-digit d h)
 
 value-front : (n : ℕ) (u : List ℕ) → digitsValue 0 (decimal n ++ u) ≡ digitsValue n u
 value-front = digits-ind (λ n. (u : List ℕ) → digitsValue 0 (decimal n ++ u) ≡ digitsValue n u)
@@ -78,12 +79,6 @@ capped-value m v (b ∷ u) = go (digitTest b) (capped-value m (v * 10 + (b - 48)
     go false ih = refl
 
 -- ---- cancelling
-
-pub cons-tail : {b c : ℕ} {u v : List ℕ} → b ∷ u ≡ c ∷ v → u ≡ v
-cons-tail e = ap (λ (l : List ℕ). drop 1 l) e
-
-pub cons-head : {b c : ℕ} {u v : List ℕ} → b ∷ u ≡ c ∷ v → b ≡ c
-cons-head {b} e = ap (λ (l : List ℕ). getD l 0 b) e
 
 -- the same bytes before two texts
 pub front-cancel : (ds u v : List ℕ) → ds ++ u ≡ ds ++ v → u ≡ v

@@ -25,10 +25,10 @@ use Rattle.digits.specs.Bytes.{literalText}
 use Rattle.text.specs.Decimal.{decimal}
 use Rattle.text.proofs.Decimals.{decimal-small, decimal-large, digits-ind}
 use Rattle.reader_form.specs.Automaton.{digitTest}
+use Rattle.reader_form.proofs.Digits.{is-digit}
 use Rattle.answer_form.specs.Answer.{Comment, Line, Answer, oneLine, named, lineProper, proper, commentText, commentsText, spacedText, linesText, satisfiableText, answerText, lineLiterals, literalsOf}
 use Rattle.answer_form.specs.Automaton.{seekStep, answerStep, endStep, answerAccepts}
 use Rattle.answer_form.specs.Pieces.{Next, digitsValue, behindDigits, minusFrom, literalFrom, seekFrom, nextLiteral, Close, closeOf, Spotted, Reads, spacedSpots, lineSpots, statusEnd, spotsOf}
-use Rattle.answer_form.proofs.Steps.{digit-is}
 use Rattle.answer_form.proofs.Accepted.{byte, comments-end}
 use Rattle.answer_form.proofs.Digits.{Stops, value-decimal, behind-decimal}
 use Rattle.answer_form.proofs.Unique.{note-then, values-then, lastText, last-then, Tail, tail-stops, spaced-then}
@@ -157,7 +157,7 @@ begins = digits-ind (λ n. 0 < n → Begins n)
       head = 48 + n;
       tail = [];
       is = decimal-small n h;
-      digit = digit-is n h;
+      digit = is-digit n h;
       not-zero = ne-eqb (48 + n) 48 (λ e. omega (arith, e, z));
       not-minus = ne-eqb (48 + n) 45 (λ e. omega (arith, e));
     })

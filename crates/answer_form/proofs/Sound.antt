@@ -6,14 +6,14 @@
 --   Rests t           what t is, for each state from which it is accepted
 --   sound             an accepted text has the form
 -- Assumes nothing.
-use Prim.Native.Nat.{ℕ, zero, suc, _+_, _*_, _-_, _<_}
+use Prim.Native.Nat.{ℕ, zero, suc, _+_, _*_, _<_}
 use native.Mathlib.Nat.{not-suc-le-zero}
 use native.Mathlib.Omega.{arith}
 use mathlib.Core.Path.{_≡_, refl, sym, _∙_, ap, ap₂, subst}
 use mathlib.Core.Bool.{Bool, true, false, So, cond, false≢true}
 use mathlib.Core.List.{List, [], _∷_, _++_, append-assoc, append-nil}
-use lib.Dec.{ltb, eqb}
-use borrow.Author.Tests.{eqb-true, eqb-false, ltb-true, ltb-false, lt-ltb, ne-eqb}
+use lib.Dec.{eqb}
+use borrow.Author.Tests.{eqb-true, eqb-false, lt-ltb, ne-eqb}
 use Rattle.lists.specs.Lists.{all}
 use Rattle.lists.specs.Ascii.{ascii}
 use Rattle.lists.proofs.Bools.{and-in, and-left, and-right}
@@ -21,8 +21,9 @@ use Rattle.encoding.specs.Literal.{Literal, literalNumber, variable}
 use Literal.{var, −_}
 use Rattle.digits.specs.Bytes.{literalText}
 use Rattle.text.specs.Decimal.{decimal}
-use Rattle.text.proofs.Decimals.{decimal-small, decimal-large}
+use Rattle.text.proofs.Decimals.{decimal-small, decimal-snoc}
 use Rattle.reader_form.specs.Automaton.{digitTest}
+use Rattle.reader_form.proofs.Digits.{digit-of}
 use Rattle.answer_form.specs.Machine.{acceptedBy}
 use Rattle.answer_form.specs.Answer.{Comment, Line, Status, Answer, oneLine, named, lineProper, proper, commentText, commentsText, spacedText, linesText, satisfiableText, statusText, answerText, HasAnswerForm}
 use Rattle.answer_form.specs.Automaton.{statusBytes, statusAt, statusNext, statusTurn, statusStep, answerStep, mayEnd, answerAccepts}
@@ -168,18 +169,6 @@ between-back b t f g a = go (eqb b 32) refl (eqb b 10) refl a
     go false e false h a = absurd (dead t a)
 
 -- ---- numbers
-
-digit-of : (b : ℕ) → digitTest b ≡ true → (d : ℕ) × (b ≡ 48 + d) × (d < 10)
-unfolding digitTest
-digit-of b e = go (ltb b 48) refl e
-  where
-    go : (x : Bool) → ltb b 48 ≡ x → cond x false (ltb b 58) ≡ true → (d : ℕ) × (b ≡ 48 + d) × (d < 10)
-    go true q e = absurd (false≢true e)
-    go false q e = (b - 48, omega (arith, ltb-false b 48 q), omega (arith, ltb-true b 58 e, ltb-false b 48 q))
-
-decimal-snoc : (x e : ℕ) → 0 < x → e < 10 → decimal (x * 10 + e) ≡ decimal x ++ ((48 + e) ∷ [])
-decimal-snoc x e z h =
-    decimal-large (x * 10 + e) (omega arith) ∙ ap₂ (λ (y d : ℕ). decimal y ++ ((48 + d) ∷ [])) (omega arith) (omega arith)
 
 -- a number and further digits are one number
 more-digits : (x : ℕ) → 0 < x → (ds : List ℕ) → So (all digitTest ds) → (y : ℕ) × (decimal x ++ ds ≡ decimal y) × (0 < y)

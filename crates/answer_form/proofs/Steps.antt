@@ -10,8 +10,9 @@ use native.Mathlib.Omega.{arith}
 use mathlib.Core.Path.{_≡_, refl, _∙_}
 use mathlib.Core.Bool.{Bool, true, false, cond}
 use lib.Dec.{ltb, eqb}
-use borrow.Author.Tests.{lt-ltb, le-ltb, ne-eqb, ltb-true}
+use borrow.Author.Tests.{lt-ltb, ne-eqb, ltb-true}
 use Rattle.reader_form.specs.Automaton.{digitTest}
+use Rattle.reader_form.proofs.Digits.{is-digit}
 use Rattle.answer_form.specs.Automaton.{statusAt, statusNext, statusTurn, statusStep, seekStep, literalStep, endStep, answerStep}
 
 pub step-status : (q b : ℕ) → q < 32 → answerStep q b ≡ statusStep q b
@@ -77,22 +78,18 @@ step-behind b n = rw n
 
 -- ---- digits
 
-pub digit-is : (d : ℕ) → d < 10 → digitTest (48 + d) ≡ true
-unfolding digitTest
-digit-is d h = rw (le-ltb (48 + d) 48 (omega arith), lt-ltb (48 + d) 58 (omega arith))
-
 pub step-digit : (d : ℕ) → d < 10 → answerStep 38 (48 + d) ≡ 38
-step-digit d h = step-digits (48 + d) ∙ rw (digit-is d h)
+step-digit d h = step-digits (48 + d) ∙ rw (is-digit d h)
 
 -- the first digit of a literal that is not 0, after a space or a minus
 pub record Opens (q : ℕ) : Type 0 where
   pub opens : (d : ℕ) → 0 < d → d < 10 → answerStep q (48 + d) ≡ 38
 
 pub space-opens : Opens 36
-space-opens = record { opens = λ d z h. step-space (48 + d) ∙ rw (ne-eqb (48 + d) 45 (λ e. omega (arith, e)), ne-eqb (48 + d) 48 (λ e. omega (arith, e, z)), digit-is d h) }
+space-opens = record { opens = λ d z h. step-space (48 + d) ∙ rw (ne-eqb (48 + d) 45 (λ e. omega (arith, e)), ne-eqb (48 + d) 48 (λ e. omega (arith, e, z)), is-digit d h) }
 
 pub minus-opens : Opens 37
-minus-opens = record { opens = λ d z h. step-minus (48 + d) ∙ rw (ne-eqb (48 + d) 48 (λ e. omega (arith, e, z)), digit-is d h) }
+minus-opens = record { opens = λ d z h. step-minus (48 + d) ∙ rw (ne-eqb (48 + d) 48 (λ e. omega (arith, e, z)), is-digit d h) }
 
 -- ---- the states that there are
 

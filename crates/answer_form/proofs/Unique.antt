@@ -13,12 +13,13 @@ use borrow.Author.Tests.{not-true, eqb-false}
 use Rattle.lists.specs.Lists.{all}
 use Rattle.lists.specs.Ascii.{ascii}
 use Rattle.lists.proofs.Bools.{and-left, and-right}
+use Rattle.lists.proofs.Cons.{cons-head, cons-tail}
 use Rattle.encoding.specs.Literal.{Literal, literalNumber}
 use Rattle.digits.specs.Bytes.{literalText}
 use Rattle.reader_form.specs.Automaton.{digitTest}
 use Rattle.answer_form.specs.Answer.{Comment, Line, Status, Answer, oneLine, named, lineProper, proper, commentText, commentsText, spacedText, linesText, satisfiableText, statusText, answerText, literalsOf}
 use Rattle.answer_form.proofs.Accepted.{comment-then}
-use Rattle.answer_form.proofs.Digits.{Stops, cons-head, cons-tail, front-cancel, literal-cancel, literal-not-zero}
+use Rattle.answer_form.proofs.Digits.{Stops, front-cancel, literal-cancel, literal-not-zero}
 
 -- ---- comments
 

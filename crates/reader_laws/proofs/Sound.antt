@@ -1,21 +1,23 @@
 -- A text that the automaton accepts has the form: its words, numbers and lists are taken off, line by line.
 -- Assumes nothing.
-use Prim.Native.Nat.{ℕ, zero, suc, _+_, _*_, _-_, _≤_, _<_}
+use Prim.Native.Nat.{ℕ, zero, suc, _+_, _*_, _≤_, _<_}
 use native.Mathlib.Nat.{not-suc-le-zero, le-of-suc-le-suc, suc-ne-zero, le-refl}
 use native.Mathlib.Omega.{arith}
-use mathlib.Core.Path.{_≡_, refl, sym, _∙_, ap, ap₂, subst}
+use mathlib.Core.Path.{_≡_, refl, sym, _∙_, ap, subst}
 use mathlib.Core.Logic.{_⊎_, inl, inr}
 use mathlib.Core.Bool.{Bool, true, false, _&&_, cond, false≢true}
 use mathlib.Core.List.{List, [], _∷_, _++_, append-assoc}
-use lib.Dec.{ltb, eqb}
-use lib.ListN.{length, length-append, getD}
-use borrow.Author.Tests.{eqb-true, ltb-true, ltb-false}
+use lib.Dec.{eqb}
+use lib.ListN.{length, length-append}
+use borrow.Author.Tests.{eqb-true}
+use Rattle.lists.proofs.Cons.{cons-head}
 use Rattle.meaning.specs.Program.{Rule}
 use Rattle.text.specs.Decimal.{decimal}
 use Rattle.text.specs.Text.{moreText, listText, ruleText, rulesText, textOf, HasForm}
-use Rattle.text.proofs.Decimals.{decimal-small, decimal-large}
+use Rattle.text.proofs.Decimals.{decimal-small, decimal-snoc}
 use Rattle.reader_form.specs.declared.FormState.{FormState}
 use Rattle.reader_form.specs.Automaton.{placed, formAt, digitTest, literalOf, leaveOf, digitOf, actAt, itemOf, formStep}
+use Rattle.reader_form.proofs.Digits.{digit-of}
 use Rattle.reader_laws.specs.Scan.{textAccepts}
 use Rattle.reader_laws.proofs.Values.{Item, atoms, head, Fresh, now, after, inNumber, in-number-pos, digit-step, first-digit, further-digit, ListAt, item-of, rule-then}
 
@@ -79,28 +81,13 @@ word (then {k = k} {c = c} {k′ = k′} l s) t a =
 
 -- ---- numbers
 
-digit-of : (b : ℕ) → digitTest b ≡ true → (d : ℕ) × (b ≡ 48 + d) × (d < 10)
-unfolding digitTest
-digit-of b e = go (ltb b 48) refl e
-  where
-    go : (x : Bool) → ltb b 48 ≡ x → cond x false (ltb b 58) ≡ true → (d : ℕ) × (b ≡ 48 + d) × (d < 10)
-    go true q e = absurd (false≢true e)
-    go false q e = (b - 48, omega (arith, ltb-false b 48 q), omega (arith, ltb-true b 58 e, ltb-false b 48 q))
-
 -- no digit comes first
 pub record Stops (u : List ℕ) : Type 0 where
   pub stops : (b : ℕ) (v : List ℕ) → u ≡ b ∷ v → digitTest b ≡ false
 
-decimal-snoc : (x e : ℕ) → 0 < x → e < 10 → decimal (x * 10 + e) ≡ decimal x ++ ((48 + e) ∷ [])
-decimal-snoc x e z h =
-    decimal-large (x * 10 + e) (omega arith) ∙ ap₂ (λ (y d : ℕ). decimal y ++ ((48 + d) ∷ [])) (omega arith) (omega arith)
-
 -- a number x and further digits are one number
 abbrev Number : ℕ → ℕ → List ℕ → Type 0
 Number k x u = (y : ℕ) × (v : List ℕ) × (decimal x ++ u ≡ decimal y ++ v) × (textAccepts k 2 v ≡ true) × Stops v × (0 < y)
-
-cons-head : {b c : ℕ} {u v : List ℕ} → b ∷ u ≡ c ∷ v → b ≡ c
-cons-head {b} e = ap (λ (l : List ℕ). getD l 0 b) e
 
 digits : (k : ℕ) → Item k → (u : List ℕ) (x : ℕ) → 0 < x → textAccepts k 2 u ≡ true → Number k x u
 digits k it [] x z a = (x, [], refl, a, record { stops = λ b v e. absurd (suc-ne-zero (length v) (sym (ap length e))) }, z)

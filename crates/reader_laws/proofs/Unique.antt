@@ -3,18 +3,19 @@
 use Prim.Native.Nat.{ℕ, _+_, _*_, _-_, _/_, _%_, _<_}
 use native.Mathlib.Omega.{arith}
 use mathlib.Core.Path.{_≡_, refl, sym, _∙_, ap, ap₂}
-use mathlib.Core.Bool.{true, false, So, cond}
+use mathlib.Core.Bool.{false, So, cond}
 use mathlib.Core.List.{List, [], _∷_, _++_, append-assoc}
-use lib.ListN.{length, length-append, getD, drop}
-use borrow.Author.Tests.{lt-ltb, le-ltb}
+use lib.ListN.{length, length-append, drop}
 use Rattle.lists.specs.Lists.{all}
 use Rattle.lists.proofs.Bools.{and-in, and-left, and-right}
 use Rattle.lists.proofs.Tests.{all-append}
+use Rattle.lists.proofs.Cons.{cons-head, cons-tail}
 use Rattle.meaning.specs.Program.{Rule, Program}
 use Rattle.text.specs.Decimal.{decimal}
 use Rattle.text.specs.Text.{moreText, listText, ruleText, rulesText, textOf}
 use Rattle.text.proofs.Decimals.{decimal-small, decimal-large, digits-ind}
 use Rattle.reader_form.specs.Automaton.{digitTest}
+use Rattle.reader_form.proofs.Digits.{is-digit}
 use Rattle.reader_laws.proofs.Values.{rule-then}
 
 -- ---- leading digits
@@ -26,10 +27,6 @@ lead (b ∷ t) = cond (digitTest b) (b ∷ lead t) []
 abbrev rest : List ℕ → List ℕ
 rest [] = []
 rest (b ∷ t) = cond (digitTest b) (rest t) (b ∷ t)
-
-is-digit : (d : ℕ) → d < 10 → digitTest (48 + d) ≡ true
-unfolding digitTest
-is-digit d h = rw (le-ltb (48 + d) 48 (omega arith), lt-ltb (48 + d) 58 (omega arith))
 
 decimal-digits : (n : ℕ) → So (all digitTest (decimal n))
 decimal-digits = digits-ind (λ n. So (all digitTest (decimal n))) (λ n h. rw (decimal-small n h) (and-in (is-digit n h) refl))
@@ -59,12 +56,6 @@ decimal-value = digits-ind (λ n. valueFrom 0 (decimal n) ≡ n) (λ n h. rw (de
     (λ n h ih. rw (decimal-large n h) (value-append 0 (decimal (n / 10)) ((48 + n % 10) ∷ []) ∙ ap (λ (v : ℕ). v * 10 + (48 + n % 10 - 48)) ih ∙ omega arith))
 
 -- ---- cancelling
-
-cons-tail : {b c : ℕ} {u v : List ℕ} → b ∷ u ≡ c ∷ v → u ≡ v
-cons-tail e = ap (λ (l : List ℕ). drop 1 l) e
-
-cons-head : {b c : ℕ} {u v : List ℕ} → b ∷ u ≡ c ∷ v → b ≡ c
-cons-head {b} e = ap (λ (l : List ℕ). getD l 0 b) e
 
 number-cancel : (x y c d : ℕ) (u v : List ℕ) → digitTest c ≡ false → digitTest d ≡ false → decimal x ++ (c ∷ u) ≡ decimal y ++ (d ∷ v) → (x ≡ y) × (c ∷ u ≡ d ∷ v)
 number-cancel x y c d u v p q e = (

@@ -1,9 +1,9 @@
 -- The digits of a number: below ten one digit, otherwise those of a tenth and one more. Induction over them, and reading them back.
 -- Assumes nothing.
-use Prim.Native.Nat.{ℕ, zero, suc, _+_, _/_, _%_, _≤_, _<_}
+use Prim.Native.Nat.{ℕ, zero, suc, _+_, _*_, _/_, _%_, _≤_, _<_}
 use native.Mathlib.Nat.{not-suc-le-zero}
 use native.Mathlib.Omega.{arith}
-use mathlib.Core.Path.{_≡_, refl, sym, _∙_, ap}
+use mathlib.Core.Path.{_≡_, refl, sym, _∙_, ap, ap₂}
 use mathlib.Core.Logic.{⊎-elim}
 use mathlib.Core.List.{List, [], _∷_, _++_}
 use borrow.Author.Tests.{lt-ltb, le-ltb}
@@ -36,6 +36,10 @@ unfolding decimal
 decimal-large zero h = absurd (not-suc-le-zero h)
 decimal-large (suc n) h =
     digits-large n (suc n) h ∙ ap (λ (ds : List ℕ). ds ++ ((48 + suc n % 10) ∷ [])) (digits-fuel n (suc n / 10) (suc n / 10) (omega arith) (omega arith))
+
+pub decimal-snoc : (x e : ℕ) → 0 < x → e < 10 → decimal (x * 10 + e) ≡ decimal x ++ ((48 + e) ∷ [])
+decimal-snoc x e z h =
+    decimal-large (x * 10 + e) (omega arith) ∙ ap₂ (λ (y d : ℕ). decimal y ++ ((48 + d) ∷ [])) (omega arith) (omega arith)
 
 pub digits-ind {ℓ} : (Q : ℕ → Type ℓ) → ((n : ℕ) → n < 10 → Q n) → ((n : ℕ) → 10 ≤ n → Q (n / 10) → Q n) → (n : ℕ) → Q n
 digits-ind Q small large n = go n n (omega arith)
