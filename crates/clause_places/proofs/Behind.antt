@@ -9,8 +9,7 @@ use native.Mathlib.Nat.{le-trans}
 use native.Mathlib.Omega.{arith}
 use mathlib.Core.Path.{_≡_, refl, sym, ap, subst}
 use mathlib.Core.Logic.{_⊎_, inl, inr}
-use mathlib.Core.List.{List, _∷_}
-use lib.ListN.{length, List·getD-eq-default}
+use mathlib.Core.List.{List}
 use Rattle.lists.proofs.Tests.{le-or-lt}
 use Rattle.meaning.specs.Program.{Program}
 use Rattle.clause_walk.specs.Walk.{size, BlockAt}
@@ -18,14 +17,9 @@ use Rattle.clause_tables.specs.declared.Totals.{Totals}
 use Rattle.clause_tables.specs.Tables.{Tabled}
 use Rattle.clause_places.specs.declared.Place.{Place}
 use Rattle.clause_places.specs.declared.Coordinates.{Coordinates}
-use Rattle.clause_places.specs.Places.{allCoordinates, groupStart, past, coordinatesAt, placeAt}
+use Rattle.clause_places.specs.Places.{placeAt}
 use Rattle.clause_places.proofs.Numbers.{count-is, number-fits}
-use Rattle.clause_places.proofs.BlockPlaces.{last-is, behind, further-adds, further-at, further-block}
-
--- after the last clause
-coordinates-past : (P : Program) (w j : ℕ) → length (allCoordinates P w) < j → coordinatesAt P w j ≡ past
-unfolding coordinatesAt
-coordinates-past P w j h = List·getD-eq-default (groupStart P 1 ∷ allCoordinates P w) past h
+use Rattle.clause_places.proofs.BlockPlaces.{last-is, behind, further-adds, further-at, further-block, coordinates-past}
 
 pub place-listed : {P : Program} {t : Totals} {hs ss bs ks xs ys : List ℕ} (T : Tabled P t hs ss bs ks xs ys) {c : Place} → c ≡ placeAt P (t .sizes .w) (c .number) → 0 < c .coordinates .clause → c .number ≤ t .clauses
 place-listed {P} {t} T {c} e p = go (le-or-lt (c .number) (t .clauses))

@@ -27,7 +27,7 @@ use Rattle.clause_places.proofs.Numbers.{count-is, stands-at, in-at, ne
 use Rattle.clause_places.proofs.Steps.{block-adds, block-at, block-onward, clause-adds, clause-follows}
 
 -- after the last clause
-coordinates-past : (P : Program) (w j : ℕ) → length (allCoordinates P w) < j → coordinatesAt P w j ≡ past
+pub coordinates-past : (P : Program) (w j : ℕ) → length (allCoordinates P w) < j → coordinatesAt P w j ≡ past
 unfolding coordinatesAt
 coordinates-past P w j h = List·getD-eq-default (groupStart P 1 ∷ allCoordinates P w) past h
 
