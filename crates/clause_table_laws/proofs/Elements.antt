@@ -24,7 +24,7 @@ use native.Mathlib.Omega.{arith}
 use mathlib.Core.Path.{_≡_, refl, sym, _∙_, ap, ap₂, subst}
 use mathlib.Core.Bool.{Bool, _&&_, So}
 use mathlib.Core.List.{List, [], _∷_, _++_, map, append-assoc}
-use lib.ListN.{length, getD, take, drop, replicate, length-append, length-map, length-replicate}
+use lib.ListN.{length, getD, take, drop, replicate, length-append, length-map}
 use lib.Seq.{take-at, drop-at}
 use Rattle.lists.specs.Lists.{all, tab, joined, sum}
 use Rattle.lists.proofs.Bools.{and-in, and-left, and-right}
@@ -44,6 +44,7 @@ use Rattle.text.specs.Limits.{bodiesOf}
 use Rattle.program.specs.Arrays.{ruleIn, rulesFrom, decoded}
 use Rattle.text.specs.Limits.{Limits}
 use Rattle.program.proofs.Decode.{decoded-kept}
+use Rattle.program.proofs.Pads.{length-pad}
 use Rattle.clause_tables.specs.declared.Totals.{Totals}
 use Rattle.clause_tables.specs.Tables.{Stored, Tabled, Ready, programIn, pairTable, totalsOf}
 
@@ -61,9 +62,6 @@ behind-zeros (x ∷ xs) m (suc k) = behind-zeros xs m k
 
 pub getD-pad : (n : ℕ) (xs : List ℕ) (k : ℕ) → getD (pad n xs) k 0 ≡ getD xs k 0
 getD-pad n xs k = behind-zeros xs (n - length xs) k
-
-pub length-pad : (n : ℕ) (xs : List ℕ) → length xs ≤ n → length (pad n xs) ≡ n
-length-pad n xs h = length-append xs (replicate (n - length xs) 0) ∙ omega (arith, length-replicate {A = ℕ} (n - length xs) 0)
 
 -- the number before
 less-one : (r : ℕ) → r - 1 ≡ pred r

@@ -10,13 +10,14 @@ use native.Mathlib.Nat.{not-suc-le-zero, le-of-suc-le-suc, add-zero}
 use native.Mathlib.Omega.{arith}
 use mathlib.Core.Path.{_≡_, refl, sym, _∙_, ap, subst}
 use mathlib.Core.List.{List, [], _∷_, _++_}
-use lib.ListN.{length, getD, take, drop, replicate, length-append, length-replicate, length-drop}
+use lib.ListN.{length, getD, take, drop, replicate, length-append, length-drop}
 use lib.Seq.{length-take-le}
 use Rattle.meaning.specs.Program.{Rule, Program, noRule, ruleAt}
 use Rattle.program.specs.declared.Program.{Program as Arrays}
-use Rattle.program.specs.Arrays.{pad, kept, endsOf}
+use Rattle.program.specs.Arrays.{kept, endsOf}
 use Rattle.text.specs.Limits.{bodiesOf}
 use Rattle.program.specs.Arrays.{startOf, ruleIn, rulesFrom, decoded}
+use Rattle.program.proofs.Pads.{length-pad}
 use Rattle.text.specs.Limits.{Limits}
 use Rattle.clause_tables.specs.Tables.{Stored}
 
@@ -82,9 +83,6 @@ unfolding kept
 kept-ordered P i h = ends-ordered (P .rules) 0 (replicate (1001 - length (0 ∷ endsOf 0 (P .rules))) 0) i h
 
 -- ---- lengths
-
-length-pad : (n : ℕ) (xs : List ℕ) → length xs ≤ n → length (pad n xs) ≡ n
-length-pad n xs h = length-append xs (replicate (n - length xs) 0) ∙ omega (arith, h, length-replicate {A = ℕ} (n - length xs) 0)
 
 kept-bodies : (P : Program) → Limits P → length (kept P .bodies) ≡ 500
 unfolding kept
