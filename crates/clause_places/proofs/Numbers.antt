@@ -9,6 +9,7 @@
 use Prim.Native.Nat.{ℕ, zero, suc, pred, _+_, _-_, _≤_, _<_}
 use native.Mathlib.Nat.{not-suc-le-zero, zero-add}
 use native.Mathlib.Omega.{arith}
+use native.Mathlib.Numerals.{add-one}
 use mathlib.Core.Path.{_≡_, refl, sym, _∙_, ap, ap₂, subst}
 use mathlib.Core.List.{List, [], _∷_, _++_, map, map-append}
 use lib.ListN.{length, getD, length-map}
@@ -137,11 +138,8 @@ module _ {P : Program} {t : Totals} {hs ss bs ks xs ys : List ℕ} (T : Tabled P
 
     pub follows : {d : Coordinates} → d ≡ firstOf (ahead P v (c .coordinates)) → record { number = c .number + 1; coordinates = d } ≡ placeAt P v (suc (c .number))
     follows {d} u =
-        ap₂ (λ (n : ℕ) (x : Coordinates). record { number = n; coordinates = x }) (more (c .number))
+        ap₂ (λ (n : ℕ) (x : Coordinates). record { number = n; coordinates = x }) (add-one (c .number))
         (u ∙ ap (λ (x : Place). firstOf (ahead P v (x .coordinates))) e ∙ sym (next-is P v (c .number) listed))
-      where
-        more : (n : ℕ) → n + 1 ≡ suc n
-        more n = omega arith
 
   -- ---- places by their numbers
 

@@ -3,6 +3,7 @@
 use Prim.Native.Nat.{ℕ, suc, _+_, _-_, _≤_, _<_}
 use native.Mathlib.Nat.{not-suc-le-zero, pos-of-ne-zero, zero-add}
 use native.Mathlib.Omega.{arith}
+use native.Mathlib.Numerals.{add-one}
 use mathlib.Core.Path.{_≡_, refl, sym, _∙_, ap, ap₂, subst}
 use mathlib.Core.Bool.{true, false, cond}
 use mathlib.Core.Logic.{_⊎_, inl, inr}
@@ -26,9 +27,6 @@ use Rattle.clause_places.specs.Ahead.{after, groupsAhead, itemsAhead, bl
 use Rattle.clause_places.proofs.Ahead.{each-after, tab-after}
 
 -- ---- numbers
-
-one-more : (i : ℕ) → i + 1 ≡ suc i
-one-more i = omega arith
 
 one-less : (k : ℕ) → 0 < k → suc (k - 1) ≡ k
 one-less k h = omega (arith, h)
@@ -146,7 +144,7 @@ module _ {P : Program} {t : Totals} {hs ss bs ks xs ys : List ℕ} (T : Tabled P
           record {
             same =
                 ap (λ (k : ℕ). clausesAhead P w (c .group) (c .item) (c .block + 1) 0 (c .items) (c .blocks - 1) k) e
-                ∙ ap (λ (i : ℕ). clausesAhead P w (c .group) (c .item) i 0 (c .items) (c .blocks - 1) (size P w (c .group) (c .item) i)) (one-more (c .block))
+                ∙ ap (λ (i : ℕ). clausesAhead P w (c .group) (c .item) i 0 (c .items) (c .blocks - 1) (size P w (c .group) (c .item) i)) (add-one (c .block))
                 ∙ into-block P w (c .group) (c .item) (c .block) (c .clause) (c .items) (c .blocks - 1)
                 ∙ ap₂ (λ (k d : ℕ). clausesAhead P w (c .group) (c .item) (c .block) (c .clause) (c .items) k d) (one-less (c .blocks) h) (sym z);
             within =
@@ -170,7 +168,7 @@ module _ {P : Program} {t : Totals} {hs ss bs ks xs ys : List ℕ} (T : Tabled P
       item-onward {x} e =
           record {
             same =
-                ap₂ (λ (k a : ℕ). clausesAhead P w (c .group) a 0 0 (c .items - 1) k 0) (e ∙ blocks-is (c .group)) (one-more (c .item))
+                ap₂ (λ (k a : ℕ). clausesAhead P w (c .group) a 0 0 (c .items - 1) k 0) (e ∙ blocks-is (c .group)) (add-one (c .item))
                 ∙ into-item P w (c .group) (c .item) (c .block) (c .clause) (c .items - 1)
                 ∙ ap (λ (k : ℕ). clausesAhead P w (c .group) (c .item) (c .block) (c .clause) k 0 0) (one-less (c .items) h)
                 ∙ ap₂ (λ (k d : ℕ). clausesAhead P w (c .group) (c .item) (c .block) (c .clause) (c .items) k d) (sym none) (sym z);
@@ -195,7 +193,7 @@ module _ {P : Program} {t : Totals} {hs ss bs ks xs ys : List ℕ} (T : Tabled P
 
       pub group-onward : {x : ℕ} {d : Coordinates} → x ≡ itemsOf t (c .group + 1)
           → d ≡ record { group = c .group + 1; item = 0; block = 0; clause = 0; clauses = 0; blocks = 0; items = x } → Onward P w c d
-      group-onward {x} {d} e u = subst (λ (d : Coordinates). Onward P w c d) (sym (u ∙ ap₂ group-begun (one-more (c .group)) (e ∙ items-is (c .group + 1) ∙ ap (itemCount P) (one-more (c .group))))) onward
+      group-onward {x} {d} e u = subst (λ (d : Coordinates). Onward P w c d) (sym (u ∙ ap₂ group-begun (add-one (c .group)) (e ∙ items-is (c .group + 1) ∙ ap (itemCount P) (add-one (c .group))))) onward
         where
           group-begun : ℕ → ℕ → Coordinates
           group-begun g k = record { group = g; item = 0; block = 0; clause = 0; clauses = 0; blocks = 0; items = k }
@@ -267,7 +265,7 @@ module _ {P : Program} {t : Totals} {hs ss bs ks xs ys : List ℕ} (T : Tabled P
           group = c .group;
           item = c .item;
           block = c .block;
-          clause = one-more (c .clause) i;
+          clause = add-one (c .clause) i;
           clauses = less (size P w (c .group) (c .item) (c .block)) (c .clause) (c .clauses) (I .clauses-are some .1) i;
           blocks = rest (blockCount P w (c .group)) (c .block) (c .blocks) (I .blocks-are more-clauses .1) i;
           items = rest (itemCount P (c .group)) (c .item) (c .items) (I .items-are) i;

@@ -2,6 +2,7 @@
 -- Assumes nothing.
 use Prim.Native.Nat.{ℕ, zero, suc, pred, _+_, _-_, _/_, _%_, _≤_, _<_}
 use native.Mathlib.Omega.{arith}
+use native.Mathlib.Numerals.{add-one}
 use mathlib.Core.Path.{_≡_, refl, sym, _∙_, ap, ap₂, subst}
 use mathlib.Core.Bool.{Bool, false, not, cond}
 use lib.Dec.{eqb, ltb}
@@ -12,10 +13,7 @@ use Rattle.clause_walk.specs.Walk.{signed, three, bitOf, slot4}
 use Rattle.clause_literals.proofs.Products.{one-before}
 
 pub bit-is : (y : ℕ) → (y - 1) / 2 + 1 ≡ bitOf y
-bit-is y = ap (λ (x : ℕ). x / 2 + 1) (one-before y) ∙ up (pred y / 2)
-  where
-    up : (x : ℕ) → x + 1 ≡ suc x
-    up x = omega arith
+bit-is y = ap (λ (x : ℕ). x / 2 + 1) (one-before y) ∙ add-one (pred y / 2)
 
 odd-is : (y : ℕ) → not (eqb (y % 2) 0) ≡ eqb (y % 2) 1
 odd-is y = go (y % 2) (omega arith)

@@ -36,6 +36,7 @@ use Rattle.encoding.specs.Clauses.{Pair, noPair, pairAt, pairsWith, pairs, pair
 use Rattle.theory.proofs.Atoms.{atom-pos, atom-le}
 use Rattle.theory.proofs.Widths.{width-is, width-some}
 use Rattle.clause_literals.specs.Sizes.{Bounded}
+use Rattle.clause_literals.proofs.Products.{one-before}
 use Rattle.clause_walk.specs.Walk.{headsOf, headOf, positives, bodyOf, bodyCount}
 use Rattle.clause_walk.proofs.Tabs.{head-is as its-head}
 use Rattle.program.specs.declared.Program.{Program as Arrays}
@@ -62,11 +63,6 @@ behind-zeros (x ∷ xs) m (suc k) = behind-zeros xs m k
 
 pub getD-pad : (n : ℕ) (xs : List ℕ) (k : ℕ) → getD (pad n xs) k 0 ≡ getD xs k 0
 getD-pad n xs k = behind-zeros xs (n - length xs) k
-
--- the number before
-less-one : (r : ℕ) → r - 1 ≡ pred r
-less-one zero = refl
-less-one (suc r) = omega arith
 
 -- ---- the lists of rules
 
@@ -353,7 +349,7 @@ module _ (P : Program) (t : Totals) (hs ss bs ks xs ys : List ℕ) (T : Tabled P
       ∙ take-at (headsOf P) (replicate (500 - length (headsOf P)) 0) (t .sizes .m) (length-map (P .rules) (λ R. R .head) ∙ sym rules-are)
 
   pub head-is : (r : ℕ) → 0 < r → r ≤ length (P .rules) → getD hs (r - 1) 0 ≡ headOf P r
-  head-is r p h = ap₂ (λ (l : List ℕ) (k : ℕ). getD l k 0) heads-pad (less-one r) ∙ getD-pad 500 (headsOf P) (pred r)
+  head-is r p h = ap₂ (λ (l : List ℕ) (k : ℕ). getD l k 0) heads-pad (one-before r) ∙ getD-pad 500 (headsOf P) (pred r)
 
   -- ---- the body atoms
 
@@ -408,7 +404,7 @@ module _ (P : Program) (t : Totals) (hs ss bs ks xs ys : List ℕ) (T : Tabled P
 
   pub start-first : (r : ℕ) → 0 < r → r ≤ length (P .rules) → Listed P ss bs r (r - 1)
   start-first zero p h = absurd (omega arith)
-  start-first (suc i) p h = subst (λ (k : ℕ). Listed P ss bs (suc i) k) (sym (less-one (suc i))) (start-at i h)
+  start-first (suc i) p h = subst (λ (k : ℕ). Listed P ss bs (suc i) k) (sym (one-before (suc i))) (start-at i h)
 
   pub body-is : (r : ℕ) → 0 < r → r ≤ length (P .rules)
       → take (getD ss (2 * (r - 1) + 2) 0 - getD ss (2 * (r - 1)) 0) (drop (getD ss (2 * (r - 1)) 0) bs) ≡ bodyOf P r
@@ -423,7 +419,7 @@ module _ (P : Program) (t : Totals) (hs ss bs ks xs ys : List ℕ) (T : Tabled P
 
   pub before-is : (r : ℕ) → 0 < r → r ≤ suc (length (P .rules)) → getD ks (r - 1) 0 ≡ pairsBefore P r
   before-is zero p h = absurd (omega arith)
-  before-is (suc i) p h = ap (λ (k : ℕ). getD ks k 0) (less-one (suc i)) ∙ before-at i h
+  before-is (suc i) p h = ap (λ (k : ℕ). getD ks k 0) (one-before (suc i)) ∙ before-at i h
 
   pub before-last : getD ks (length (P .rules)) 0 ≡ pairCount P
   before-last = before-at (length (P .rules)) (omega arith) ∙ before-end P L
@@ -431,13 +427,13 @@ module _ (P : Program) (t : Totals) (hs ss bs ks xs ys : List ℕ) (T : Tabled P
   pub partner-is : (k : ℕ) → 0 < k → k ≤ pairCount P → getD xs (k - 1) 0 ≡ pairAt (pairs P) k .body
   partner-is zero p h = absurd (omega arith)
   partner-is (suc k) p h =
-      ap₂ (λ (l : List ℕ) (j : ℕ). getD l j 0) partners-pad (less-one (suc k)) ∙ getD-pad 500 (map (λ p. p .body) (pairs P)) k
+      ap₂ (λ (l : List ℕ) (j : ℕ). getD l j 0) partners-pad (one-before (suc k)) ∙ getD-pad 500 (map (λ p. p .body) (pairs P)) k
       ∙ getD-map (λ p. p .body) (pairs P) noPair 0 k h
 
   pub owner-is : (k : ℕ) → 0 < k → k ≤ pairCount P → getD ys (k - 1) 0 ≡ pairAt (pairs P) k .head
   owner-is zero p h = absurd (omega arith)
   owner-is (suc k) p h =
-      ap₂ (λ (l : List ℕ) (j : ℕ). getD l j 0) owners-pad (less-one (suc k)) ∙ getD-pad 500 (map (λ p. p .head) (pairs P)) k
+      ap₂ (λ (l : List ℕ) (j : ℕ). getD l j 0) owners-pad (one-before (suc k)) ∙ getD-pad 500 (map (λ p. p .head) (pairs P)) k
       ∙ getD-map (λ p. p .head) (pairs P) noPair 0 k h
 
   pub partner-in : (k : ℕ) → 0 < k → k ≤ pairCount P → (0 < getD xs (k - 1) 0) × (getD xs (k - 1) 0 ≤ 126)

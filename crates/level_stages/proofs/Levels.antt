@@ -11,7 +11,7 @@ use native.Mathlib.Nat.{pos-of-ne-zero, add-zero, add-suc, add-sub-of-le, le-ant
 use native.Mathlib.Numerals.{add-one}
 use native.Mathlib.Omega.{arith}
 use mathlib.Core.Path.{_≡_, refl, sym, _∙_, ap, ap₂, subst}
-use mathlib.Core.Bool.{Bool, true, false, not, _&&_, _||_, So, cond, Bool·beq}
+use mathlib.Core.Bool.{Bool, true, false, not, _&&_, _||_, So, cond, Bool·beq, and-true}
 use mathlib.Core.List.{List, [], _∷_, _++_}
 use lib.Dec.{eqb, ltb}
 use lib.ListN.{length, getD, drop}
@@ -30,7 +30,7 @@ use Rattle.theory.proofs.LeastModel.{level-le}
 use Rattle.truth_clauses.specs.Truth.{valueIn}
 use Rattle.level_stages.specs.Levels.{setIn, levelByte, isBelow, enters, fires, levelAfter, firstDifference}
 use Rattle.level_stages.proofs.Rules.{set-is}
-use Rattle.level_stages.proofs.OneRound.{and-one, tab-byte, bytesAfter}
+use Rattle.level_stages.proofs.OneRound.{tab-byte, bytesAfter}
 
 -- ---- lists
 
@@ -113,7 +113,7 @@ module _ (n : ℕ) (P : Program) (fit : So (all (ruleFits n) (P .rules))) (M : A
     below-stage b t =
         ap (λ (x : ℕ). not (eqb x 0) && ltb x (suc i)) (at b t)
         ∙ ap (λ (c : Bool). not (eqb (levelIn i D b) 0) && c) (lt-ltb (levelIn i D b) (suc i) (omega (arith, level-le D i b)))
-        ∙ and-one (not (eqb (levelIn i D b) 0)) ∙ level-stage D i b
+        ∙ and-true (not (eqb (levelIn i D b) 0)) ∙ level-stage D i b
 
     enters-stage : (R : Rule) → RuleIn n R → enters M ls (suc i) R ≡ (noneIn M (R .negative) && all (stage D i) (R .positive))
     enters-stage R I =

@@ -8,7 +8,7 @@ use Prim.Native.Nat.{ℕ, suc, pred, _+_, _≤_, _<_}
 use native.Mathlib.Numerals.{add-one}
 use native.Mathlib.Omega.{arith}
 use mathlib.Core.Path.{_≡_, refl, sym, _∙_, ap, ap₂}
-use mathlib.Core.Bool.{Bool, true, false, not, _&&_, _||_, So, cond}
+use mathlib.Core.Bool.{Bool, true, false, not, _&&_, _||_, So, cond, and-false, or-false}
 use mathlib.Core.List.{List, [], _∷_, _++_}
 use lib.Dec.{eqb, ltb}
 use lib.ListN.{length, getD, take, drop, set, length-set, take-append-drop}
@@ -21,20 +21,6 @@ use Rattle.lists.proofs.Tables.{length-tab, tab-ext, getD-tab, getD-here}
 use Rattle.meaning.specs.Program.{Rule, Atoms, noRule, ruleAt, isAtom, noneIn}
 use Rattle.theory.proofs.Atoms.{RuleIn, by-place}
 use Rattle.level_stages.specs.Levels.{levelByte, isBelow, enters, fires, firedBytes, levelAfter}
-
--- ---- truth values
-
-pub and-one : (b : Bool) → (b && true) ≡ b
-and-one true = refl
-and-one false = refl
-
-and-none : (b : Bool) → (b && false) ≡ false
-and-none true = refl
-and-none false = refl
-
-or-none : (b : Bool) → (b || false) ≡ b
-or-none true = refl
-or-none false = refl
 
 -- ---- one rule's turn; a is its head, x the head's byte, e whether the rule enters
 
@@ -102,7 +88,7 @@ tab-set-if : (n : ℕ) (g : ℕ → ℕ) (rest : List ℕ) (v h : ℕ) → So (i
 tab-set-if n g rest v h t true =
     tab-set n g rest v h t ∙ ap (λ (xs : List ℕ). xs ++ rest) (tab-ext n _ _ (λ j l. ap (λ (b : Bool). cond b v (g (suc j))) (sym (and-one (eqb h (suc j))))))
 tab-set-if n g rest v h t false =
-    ap (λ (xs : List ℕ). xs ++ rest) (tab-ext n _ _ (λ j l. ap (λ (b : Bool). cond b v (g (suc j))) (sym (and-none (eqb h (suc j))))))
+    ap (λ (xs : List ℕ). xs ++ rest) (tab-ext n _ _ (λ j l. ap (λ (b : Bool). cond b v (g (suc j))) (sym (and-false (eqb h (suc j))))))
 
 -- ---- a round that began with the bytes ls
 
@@ -118,7 +104,7 @@ round-none n M ls i h =
 
     at : (j : ℕ) → j < length (take n ls) → getD (take n ls) j 0 ≡ getD (tab n (levelAfter M ls i [])) j 0
     at j k =
-        getD-take n ls j 0 inner ∙ sym (getD-tab n (levelAfter M ls i []) 0 j inner ∙ ap (λ (b : Bool). cond b i (getD ls j 0)) (and-none (eqb (getD ls j 0) 0)))
+        getD-take n ls j 0 inner ∙ sym (getD-tab n (levelAfter M ls i []) 0 j inner ∙ ap (λ (b : Bool). cond b i (getD ls j 0)) (and-false (eqb (getD ls j 0) 0)))
       where
         inner : j < n
         inner = omega (arith, k, length-take-le n ls h)
@@ -134,7 +120,7 @@ module _ (n : ℕ) (M : Atoms) (ls : List ℕ) (i : ℕ) (some : 0 < i) where
   below-same x c = go (eqb x 0) refl c
     where
       go : (d : Bool) → eqb x 0 ≡ d → (c : Bool) → (not (eqb (cond (d && c) i x) 0) && ltb (cond (d && c) i x) i) ≡ (not d && ltb x i)
-      go true e true = ap (λ (b : Bool). not (eqb i 0) && b) (le-ltb i i (omega arith)) ∙ and-none (not (eqb i 0))
+      go true e true = ap (λ (b : Bool). not (eqb i 0) && b) (le-ltb i i (omega arith)) ∙ and-false (not (eqb i 0))
       go true e false = ap (λ (b : Bool). not b && ltb x i) e
       go false e c = ap (λ (b : Bool). not b && ltb x i) e
 
@@ -173,7 +159,7 @@ module _ (n : ℕ) (M : Atoms) (ls : List ℕ) (i : ℕ) (some : 0 < i) where
             cond-same : (b : Bool) → cond b i i ≡ i
             cond-same true = refl
             cond-same false = refl
-        at-head true q false e = ap (λ (b : Bool). cond b i x) (or-none e) ∙ sym (ap (λ (b : Bool). cond (b && e) i x) q)
+        at-head true q false e = ap (λ (b : Bool). cond b i x) (or-false e) ∙ sym (ap (λ (b : Bool). cond (b && e) i x) q)
         at-head false q c e = sym (ap (λ (b : Bool). cond (b && e) i x) q)
 
         go : (d : Bool) → eqb (R .head) a ≡ d
@@ -182,7 +168,7 @@ module _ (n : ℕ) (M : Atoms) (ls : List ℕ) (i : ℕ) (some : 0 < i) where
         go true q =
             at-head (eqb x 0) refl (entered rs a) (enters M ls i R)
             ∙ ap (λ (h : ℕ). cond (eqb (levelAfter M ls i rs h) 0 && enters M ls i R) i (levelAfter M ls i rs a)) (sym (eqb-true (R .head) a q))
-        go false q = ap (λ (b : Bool). cond (eqb x 0 && b) i x) (or-none (entered rs a))
+        go false q = ap (λ (b : Bool). cond (eqb x 0 && b) i x) (or-false (entered rs a))
 
     bytes-more : bytesAfter n M ls i (rs ++ (R ∷ [])) ≡ firedBytes M i R now-bytes
     bytes-more =
@@ -214,7 +200,7 @@ module _ (n : ℕ) (M : Atoms) (ls : List ℕ) (i : ℕ) (some : 0 < i) where
         go : (d : Bool) → eqb x 0 ≡ d → (c f : Bool) → (So d → So c → So f)
             → (f || ((d && e) || false)) ≡ (f || (eqb (cond (d && c) i x) 0 && e))
         go true q true f u = ap (λ (b : Bool). b || (e || false)) (u refl refl) ∙ sym (ap (λ (b : Bool). b || (eqb i 0 && e)) (u refl refl))
-        go true q false f u = ap (λ (b : Bool). f || b) (or-none e) ∙ sym (ap (λ (b : Bool). f || (b && e)) q)
+        go true q false f u = ap (λ (b : Bool). f || b) (or-false e) ∙ sym (ap (λ (b : Bool). f || (b && e)) q)
         go false q c f u = sym (ap (λ (b : Bool). f || (b && e)) q)
 
   -- ---- as the loop goes: bs the bytes and g the flag after k rules, x what the next rule's turn gave and cs the bytes after it

@@ -11,7 +11,7 @@ use native.Mathlib.Nat.{le-antisymm, mul-le-mul-right}
 use native.Mathlib.Numerals.{add-one}
 use native.Mathlib.Omega.{arith}
 use mathlib.Core.Path.{_≡_, refl, sym, _∙_, ap, ap₂}
-use mathlib.Core.Bool.{Bool, true, false, _&&_, _||_, cond}
+use mathlib.Core.Bool.{Bool, true, false, _&&_, _||_, cond, and-true, and-false, or-false}
 use lib.Dec.{eqb, leb, eqb·suc-suc}
 use borrow.Author.Tests.{eq-eqb, ne-eqb, eqb-true, eqb-false, le-leb, lt-leb}
 use Rattle.lists.specs.Lists.{allTo, anyTo}
@@ -54,24 +54,12 @@ module _ (S : Sizes) (r k b : ℕ) (p : 0 < r) (h : r ≤ S .m) {n : ℕ} (f : v
 
 -- ---- tests of the numbers 1 to n, from the front
 
-and-false : (a : Bool) → (a && false) ≡ false
-and-false true = refl
-and-false false = refl
-
-and-true : (a : Bool) → a ≡ (a && true)
-and-true true = refl
-and-true false = refl
-
-or-none : (a : Bool) → a ≡ (a || false)
-or-none true = refl
-or-none false = refl
-
 front : (g : ℕ → Bool) (n : ℕ) → allTo (suc n) g ≡ (g 1 && allTo n (λ j. g (suc j)))
-front g zero = and-true (g 1)
+front g zero = sym (and-true (g 1))
 front g (suc n) = ap (λ (d : Bool). d && g (suc (suc n))) (front g n) ∙ and-assoc (g 1) (allTo n (λ j. g (suc j))) (g (suc (suc n)))
 
 front-two : (g : ℕ → Bool) (n : ℕ) → allTo (suc (suc n)) g ≡ (allTo 2 g && allTo n (λ j. g (suc (suc j))))
-front-two g zero = and-true (allTo 2 g)
+front-two g zero = sym (and-true (allTo 2 g))
 front-two g (suc n) =
     ap (λ (d : Bool). d && g (suc (suc (suc n)))) (front-two g n) ∙ and-assoc (allTo 2 g) (allTo n (λ j. g (suc (suc j)))) (g (suc (suc (suc n))))
 
@@ -129,7 +117,7 @@ module _ (A : Assignment) (S : Sizes) (k : ℕ) where
   -- ---- the last clause, with pairs; l says that the body is false
 
   pub bound-none : (l : Bool) → l ≡ (l || anyTo 0 notNext)
-  bound-none l = or-none l
+  bound-none l = sym (or-false l)
 
   pub bound-more : (l : Bool) (j : ℕ) {v : ℕ} → v ≡ nextBelowVar S (k + (j + 1)) (S .w) → {y x : Bool} → y ≡ (l || anyTo j notNext) → x ≡ literalTrue A (− v)
       → (y || x) ≡ (l || anyTo (j + 1) notNext)
@@ -222,7 +210,7 @@ module _ (A : Assignment) (S : Sizes) (r h k b : ℕ) where
   long-slot l = literalTrue A (three (var (foundsVar S r)) (− bodyVar S r) (− belowVar S (k + (l - 2)) (S .w)) l)
 
   long-by : (n : ℕ) → anyTo (suc (suc n)) long-slot ≡ long A S k r n
-  long-by zero = or-none (twoTrue A true (foundsVar S r) false (bodyVar S r))
+  long-by zero = sym (or-false (twoTrue A true (foundsVar S r) false (bodyVar S r)))
   long-by (suc n) =
       ap₂ _||_ (long-by n) at
       ∙ or-assoc (twoTrue A true (foundsVar S r) false (bodyVar S r)) (anyTo n (notBelow A S k)) (notBelow A S k (suc n))
@@ -251,7 +239,7 @@ module _ (A : Assignment) (S : Sizes) (r h k b : ℕ) where
   bound-slot l = literalTrue A (two (− bodyVar S r) (− nextBelowVar S (k + pred l) (S .w)) l)
 
   bound-by : (n : ℕ) → anyTo (suc n) bound-slot ≡ (literalTrue A (− bodyVar S r) || anyTo n (notNext A S k))
-  bound-by zero = or-none (literalTrue A (− bodyVar S r))
+  bound-by zero = sym (or-false (literalTrue A (− bodyVar S r)))
   bound-by (suc n) =
       ap₂ _||_ (bound-by n)
       (ap (λ (p : Bool). literalTrue A (cond p (− bodyVar S r) (− nextBelowVar S (k + suc n) (S .w)))) (ne-eqb (suc (suc n)) 1 (λ e. omega (arith, e))))

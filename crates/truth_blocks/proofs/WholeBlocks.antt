@@ -9,7 +9,7 @@ use Prim.Native.Nat.{ℕ, zero, suc, _+_, _-_, _*_, _≤_, _<_}
 use native.Mathlib.Nat.{le-trans, le-refl, add-zero, mul-le-mul-right, mul-assoc}
 use native.Mathlib.Omega.{arith}
 use mathlib.Core.Path.{_≡_, refl, sym, _∙_, ap, ap₂, subst}
-use mathlib.Core.Bool.{Bool, true, false, _||_, cond, So}
+use mathlib.Core.Bool.{Bool, true, false, cond, So, or-false}
 use mathlib.Core.List.{List, [], _∷_}
 use lib.Dec.{eqb}
 use lib.ListN.{length, getD}
@@ -85,14 +85,10 @@ module _ (bs : List ℕ) (c : Chain) where
 
 -- ---- slots of one literal each
 
-or-none : (d : Bool) → (d || false) ≡ d
-or-none true = refl
-or-none false = refl
-
 any-slots : (p : Literal → Bool) (n : ℕ) (f : ℕ → List Literal) (F : ℕ → Literal) → ((l : ℕ) → l < n → f (suc l) ≡ F (suc l) ∷ [])
     → any p (each n f) ≡ anyTo n (λ l. p (F l))
 any-slots p n f F q =
-    any-each p n f ∙ anyTo-ext n (λ l. any p (f l)) (λ l. p (F l)) (λ l h. ap (any p) (q l h) ∙ or-none (p (F (suc l))))
+    any-each p n f ∙ anyTo-ext n (λ l. any p (f l)) (λ l. p (F l)) (λ l h. ap (any p) (q l h) ∙ or-false (p (F (suc l))))
 
 module _ (P : Program) (w g a i y l : ℕ) where
   single5 : g ≡ 5 → slot P w g a i y l ≡ slotLiteral (slot P w g a i y l) ∷ []
