@@ -24,6 +24,7 @@ use Rattle.answer_form.specs.Automaton.{seekStep, literalStep, endStep, 
 use Rattle.answer_form.specs.Pieces.{Next, digitsValue, behindDigits, minusFrom, literalFrom, seekFrom, nextLiteral, Close, closeFrom, closeOf}
 use Rattle.answer_form.proofs.Machine.{dead-rejects}
 use Rattle.answer_form.proofs.Steps.{step-dead, step-space, step-minus, step-digits, step-behind}
+use Rattle.answer_form.proofs.Accepted.{byte}
 
 pub record Passes (q : ℕ) (u : List ℕ) (r n : ℕ) : Type 0 where
   pub within : n ≤ length u
@@ -52,10 +53,6 @@ leaves-on : (q b r : ℕ) (u : List ℕ) → answerStep q b ≡ r → eqb r 43 �
 unfolding readBy
 leaves-on q b r u e n = ap (λ (p : ℕ). cond (eqb p 43) 0 (suc (answerLeaves p u))) e ∙ rw n
 
-accepts-on : (q b r : ℕ) (u : List ℕ) → answerStep q b ≡ r → answerAccepts q (b ∷ u) ≡ answerAccepts r u
-unfolding acceptedBy
-accepts-on q b r u e = ap (λ (p : ℕ). answerAccepts p u) e
-
 pub pass-none : (q : ℕ) (u : List ℕ) → Passes q u q 0
 pass-none q u = record { within = omega arith; accept = refl; leave = sym (zero-add (answerLeaves q u)) }
 
@@ -63,17 +60,17 @@ pub pass-byte : (q b r s n : ℕ) (u : List ℕ) → answerStep q b ≡ r → eq
 pass-byte q b r s n u e l p =
     record {
       within = suc-le-suc (p .within);
-      accept = accepts-on q b r u e ∙ p .accept;
+      accept = byte q b r u e ∙ p .accept;
       leave = leaves-on q b r u e l ∙ ap suc (p .leave) ∙ sym (suc-add n (answerLeaves s (drop n u)));
     }
 
 pub fail-byte : (q b r n : ℕ) (u : List ℕ) → answerStep q b ≡ r → eqb r 43 ≡ false → Fails r u n → Fails q (b ∷ u) (suc n)
-fail-byte q b r n u e l f = record { reject = accepts-on q b r u e ∙ f .reject; leave = leaves-on q b r u e l ∙ ap suc (f .leave) }
+fail-byte q b r n u e l f = record { reject = byte q b r u e ∙ f .reject; leave = leaves-on q b r u e l ∙ ap suc (f .leave) }
 
 pub fail-here : (q b : ℕ) (u : List ℕ) → answerStep q b ≡ 43 → Fails q (b ∷ u) 0
 unfolding readBy mayEnd
 fail-here q b u e =
-    record { reject = accepts-on q b 43 u e ∙ dead-rejects answerStep mayEnd 43 step-dead refl u; leave = ap (λ (p : ℕ). cond (eqb p 43) 0 (suc (answerLeaves p u))) e }
+    record { reject = byte q b 43 u e ∙ dead-rejects answerStep mayEnd 43 step-dead refl u; leave = ap (λ (p : ℕ). cond (eqb p 43) 0 (suc (answerLeaves p u))) e }
 
 pub fail-end : (q : ℕ) → mayEnd q ≡ false → Fails q [] 0
 unfolding acceptedBy readBy
@@ -242,7 +239,7 @@ pub data Closed (q i : ℕ) (u : List ℕ) : Close → Type 0 where
   is-left : (spot n : ℕ) → spot ≡ i + n → Fails q u n → Closed q i u (Close.left spot)
 
 closed-on : (q i b r : ℕ) (u : List ℕ) (c : Close) → answerStep q b ≡ r → eqb r 43 ≡ false → Closed r (i + 1) u c → Closed q i (b ∷ u) c
-closed-on q i b r u c e l (is-fine a) = is-fine (accepts-on q b r u e ∙ a)
+closed-on q i b r u c e l (is-fine a) = is-fine (byte q b r u e ∙ a)
 closed-on q i b r u c e l (Closed.is-left g n j f) = Closed.is-left g (suc n) (omega (arith, j)) (fail-byte q b r n u e l f)
 
 data Ending : ℕ → Type 0 where
