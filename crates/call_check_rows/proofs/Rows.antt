@@ -36,7 +36,7 @@ use Rattle.answer_offers.proofs.Values.{any-outcome, any-bytes}
 use Rattle.clause_tables.specs.declared.Totals.{Totals}
 use Rattle.clause_tables.specs.Tables.{countersOf, totalsOf, Tabled}
 use Rattle.clause_table_laws.proofs.Elements.{vars-are, bounded}
-use Rattle.clause_table_laws.proofs.Bounds.{variables-fit}
+use Rattle.clause_table_laws.proofs.Bounds.{vars-short}
 use Rattle.truth_clauses.specs.Truth.{valueIn, firstFalse}
 use Rattle.call_results.specs.Results.{Result, trueCount, levelByte, counters, assignmentAfter, varTotal}
 use Rattle.refusals.specs.declared.CheckRefusal.{CheckRefusal}
@@ -118,7 +118,7 @@ module _ {P : Program} {t : Totals} {hs ss bs ks xs ys : List ℕ} (T : Tabled P
   vars-is = vars-are P t hs ss bs ks xs ys T
 
   pub vars-few : t .vars ≤ 9890
-  vars-few = subst (λ (k : ℕ). k ≤ 9890) (sym vars-is) (variables-fit P (T .limits))
+  vars-few = vars-short T
 
   -- what holds of V holds of the number of variables that the totals have
   at-vars : (Q : ℕ → Type 0) → Q (varTotal P) → Q (t .vars)

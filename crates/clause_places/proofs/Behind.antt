@@ -18,8 +18,9 @@ use Rattle.clause_tables.specs.Tables.{Tabled}
 use Rattle.clause_places.specs.declared.Place.{Place}
 use Rattle.clause_places.specs.declared.Coordinates.{Coordinates}
 use Rattle.clause_places.specs.Places.{placeAt}
-use Rattle.clause_places.proofs.Numbers.{count-is, number-fits}
+use Rattle.clause_places.proofs.Numbers.{count-is}
 use Rattle.clause_places.proofs.BlockPlaces.{last-is, behind, further-adds, further-at, further-block, coordinates-past}
+use Rattle.clause_table_laws.proofs.Bounds.{clauses-short}
 
 pub place-listed : {P : Program} {t : Totals} {hs ss bs ks xs ys : List ℕ} (T : Tabled P t hs ss bs ks xs ys) {c : Place} → c ≡ placeAt P (t .sizes .w) (c .number) → 0 < c .coordinates .clause → c .number ≤ t .clauses
 place-listed {P} {t} T {c} e p = go (le-or-lt (c .number) (t .clauses))
@@ -57,7 +58,7 @@ module _ {P : Program} {t : Totals} {hs ss bs ks xs ys : List ℕ} (T : Tabled P
   end-is = (last-is T e h .0, last-is T e h .1, refl)
 
   pub behind-sum : c .number + c .coordinates .clauses ≤ 53690
-  behind-sum = le-trans (last-is T e h .1) (number-fits T)
+  behind-sum = le-trans (last-is T e h .1) (clauses-short T)
 
   module _ (r : 0 < c .coordinates .blocks) where
     pub behind-adds : c .coordinates .block + 1 ≤ 501

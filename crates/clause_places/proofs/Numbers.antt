@@ -27,7 +27,6 @@ use Rattle.text.specs.Limits.{Limits}
 use Rattle.clause_tables.specs.declared.Totals.{Totals}
 use Rattle.clause_tables.specs.Tables.{Tabled}
 use Rattle.clause_table_laws.proofs.Elements.{width-are, clauses-are}
-use Rattle.clause_table_laws.proofs.Bounds.{clauses-fit}
 use Rattle.clause_places.specs.declared.Coordinates.{Coordinates}
 use Rattle.clause_places.specs.declared.Place.{Place}
 use Rattle.clause_places.specs.Places.{coordinates, blockCoordinates, itemCoordinates, groupCoordinates, allCoordinates, past, coordinatesAt, placeAt, clauseIn}
@@ -125,9 +124,6 @@ module _ {P : Program} {t : Totals} {hs ss bs ks xs ys : List ℕ} (T : Tabled P
   pub count-is : length (allCoordinates P v) ≡ t .clauses
   count-is =
       ap (λ (x : ℕ). length (allCoordinates P x)) (width-are P t hs ss bs ks xs ys T) ∙ coordinates-count P (T .limits) ∙ sym (clauses-are P t hs ss bs ks xs ys T)
-
-  pub number-fits : t .clauses ≤ 53690
-  number-fits = subst (λ (x : ℕ). x ≤ 53690) (sym (clauses-are P t hs ss bs ks xs ys T)) (clauses-fit P (T .limits))
 
   module _ {c : Place} (e : c ≡ placeAt P v (c .number)) (h : c .number ≤ t .clauses) where
     listed : c .number ≤ length (allCoordinates P v)

@@ -25,7 +25,7 @@ use Rattle.clause_walk.specs.Walk.{clauseAt}
 use Rattle.clause_tables.specs.declared.Totals.{Totals}
 use Rattle.clause_tables.specs.Tables.{Tabled}
 use Rattle.clause_table_laws.proofs.Elements.{width-are, vars-are, clauses-are}
-use Rattle.clause_table_laws.proofs.Bounds.{variables-fit, clauses-fit, lines-fit}
+use Rattle.clause_table_laws.proofs.Bounds.{lines-fit, vars-short, clauses-short}
 use Rattle.clause_text.specs.Lines.{headerText}
 use Rattle.clause_text.proofs.Parts.{header-small, header-length}
 use Rattle.clause_places.specs.declared.Place.{Place}
@@ -43,14 +43,8 @@ module _ {P : Program} {t : Totals} {hs ss bs ks xs ys : List ℕ} (T : Tabled P
   pub total-is : t .clauses ≡ clauseTotal P
   total-is = clauses-are P t hs ss bs ks xs ys T
 
-  pub vars-short : t .vars ≤ 9890
-  vars-short = subst (λ (k : ℕ). k ≤ 9890) (sym (vars-are P t hs ss bs ks xs ys T)) (variables-fit P (T .limits))
-
-  pub clauses-short : t .clauses ≤ 53690
-  clauses-short = subst (λ (k : ℕ). k ≤ 53690) (sym total-is) (clauses-fit P (T .limits))
-
   pub header-asks : (t .vars < 2 ^ 32) × (t .clauses < 2 ^ 32)
-  header-asks = (omega (arith, vars-short), omega (arith, clauses-short))
+  header-asks = (omega (arith, vars-short T), omega (arith, clauses-short T))
 
   clauses-many : length (clauses P (width (P .atoms))) ≡ t .clauses
   clauses-many = count-whole P (width (P .atoms)) (T .limits .all-atoms) (width-enough (P .atoms)) ∙ sym total-is

@@ -27,10 +27,11 @@ use Rattle.clause_tables.specs.Tables.{Tabled}
 use Rattle.clause_places.specs.declared.Place.{Place}
 use Rattle.clause_places.specs.Places.{placeAt}
 use Rattle.clause_runs.specs.declared.RunPart.{RunPart}
-use Rattle.clause_runs.proofs.Placed.{lines-count, line-short, clauses-short}
+use Rattle.clause_runs.proofs.Placed.{lines-count, line-short}
 use Rattle.clause_places.proofs.Numbers.{own-number, number-is}
 use Rattle.clause_runs.specs.Lines.{linesOf, lineOf, fitting, partIn, runBytesIn}
 use Rattle.clause_runs.specs.Taken.{Taken}
+use Rattle.clause_table_laws.proofs.Bounds.{clauses-short}
 
 pub joined-append : (xs ys : List (List ℕ)) → joined (xs ++ ys) ≡ joined xs ++ joined ys
 joined-append [] ys = refl

@@ -8,6 +8,7 @@
 --   clause-in, slot-in                 each literal of a clause, and of a slot, is of a variable from 1 to V
 --   literal-in                         a slot is empty, or holds one literal, of a variable from 1 to 9,890 (Slotted)
 --   none-iff                           a slot that holds variable 0 is empty
+--   vars-short, clauses-short           the same of the tables
 --   line-fits, lines-fit               the line of a clause of the walk, and of any clause, has at most 3,008 bytes
 -- Assumes nothing.
 use Prim.Native.Nat.{ℕ, zero, suc, pred, _+_, _-_, _*_, _≤_, _<_}
@@ -40,7 +41,9 @@ use Rattle.clause_walk.proofs.Walked.{walked-clauses}
 use Rattle.clause_slots.specs.Signed.{slotLiteral}
 use Rattle.text.specs.Limits.{bodiesOf}
 use Rattle.text.specs.Limits.{ascends, ruleAscends, Limits}
-use Rattle.clause_table_laws.proofs.Elements.{width-fits, pairs-fit, body-fits, all-fit}
+use Rattle.clause_table_laws.proofs.Elements.{width-fits, pairs-fit, body-fits, all-fit, vars-are, clauses-are}
+use Rattle.clause_tables.specs.declared.Totals.{Totals}
+use Rattle.clause_tables.specs.Tables.{Tabled}
 
 -- ---- the walk's numbers, from 1
 
@@ -351,3 +354,12 @@ module _ (P : Program) (L : Limits P) where
       (all-at (λ c. leb (length (lineText c)) 3008) (clauses P w) []
       (subst (λ (cs : List Clause). So (all (λ c. leb (length (lineText c)) 3008) cs)) (walked-clauses P w (width-some (P .atoms)))
       (by-place (λ c. leb (length (lineText c)) 3008) (λ g a i y s. le-leb (length (lineText (clauseAt P w g a i y))) 3008 (line-fits g a i y s)))) j h)
+
+-- ---- of the tables
+
+module _ {P : Program} {t : Totals} {hs ss bs ks xs ys : List ℕ} (T : Tabled P t hs ss bs ks xs ys) where
+  pub vars-short : t .vars ≤ 9890
+  vars-short = subst (λ (k : ℕ). k ≤ 9890) (sym (vars-are P t hs ss bs ks xs ys T)) (variables-fit P (T .limits))
+
+  pub clauses-short : t .clauses ≤ 53690
+  clauses-short = subst (λ (k : ℕ). k ≤ 53690) (sym (clauses-are P t hs ss bs ks xs ys T)) (clauses-fit P (T .limits))

@@ -19,7 +19,8 @@ use Rattle.clause_runs.specs.declared.RunPart.{RunPart}
 use Rattle.clause_runs.specs.Lines.{linesOf, fitting, partIn, runIn, runBytesIn}
 use Rattle.call_laws.proofs.Tabled.{program-is, tabled}
 use Rattle.clause_runs.proofs.Runs.{joined-append, part-bytes, part-place, part-within, part-onward}
-use Rattle.clause_runs.proofs.Placed.{lines-count, clauses-short}
+use Rattle.clause_table_laws.proofs.Bounds.{clauses-short}
+use Rattle.clause_runs.proofs.Placed.{lines-count}
 use Rattle.writer_output.specs.Output.{clauseFile, fileBefore, Stands, PartPut}
 
 module _ {A : Arrays} {k : Pairs} {t : Totals} (pre : Stored A × (k ≡ pairTable (decoded A)) × (t ≡ totalsOf (decoded A))) where
