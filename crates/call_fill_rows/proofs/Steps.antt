@@ -13,7 +13,7 @@ use mathlib.Core.Bool.{Bool, false, not, So, cond, false≢true}
 use mathlib.Core.List.{List, _++_}
 use lib.Dec.{eqb, ltb}
 use lib.ListN.{length, getD, take, drop, length-map, length-append}
-use lib.Seq.{take-at, drop-at, length-take-le}
+use lib.Seq.{take-at, length-take-le}
 use borrow.Author.Tests.{lt-ltb, le-ltb, eq-eqb, ne-eqb, ltb-true}
 use Rattle.lists.specs.Lists.{tab, first, highest}
 use Rattle.lists.proofs.Tests.{le-or-lt}
@@ -81,10 +81,6 @@ pub first-nowhere : (s : List ℕ) (i : ℕ) → NoneTo s i → length s ≤ i �
 unfolding firstBad
 first-nowhere s i f h = sym (first-none (length s) (λ j. ltb 1 (getD s (pred j) 0)) (λ k g. le-ltb 1 (getD s k 0) (f k (omega (arith, g, h)))))
 
--- a table at the front of a list stands before what is left after it
-pub levels-again : (n : ℕ) (ℓ : ℕ → ℕ) (rest : List ℕ) {f : List ℕ} → f ≡ tab n ℓ ++ rest → f ≡ tab n ℓ ++ drop n f
-levels-again n ℓ rest e = e ∙ ap (λ (y : List ℕ). tab n ℓ ++ y) (sym (ap (drop n) e ∙ drop-at (tab n ℓ) rest n (length-tab n ℓ)))
-
 -- ---- refusals
 
 gives-refused : (P : Program) {x : Result FillRefusal} {q : FillRefusal} → x ≡ fillRefused q → (b l : List ℕ) → FillGives P x (Refused q) b b l l
@@ -111,9 +107,6 @@ module _ {P : Program} {t : Totals} {hs ss bs ks xs ys : List ℕ} (T : Tabled P
 
   pub atoms-few : t .sizes .n ≤ 126
   atoms-few = omega (arith, atoms-is, T .limits .few-atoms)
-
-  pub atoms-room : {b : ℕ} → t .vars ≤ b → t .sizes .n ≤ b
-  atoms-room {b} h = omega (arith, atoms-is, vars-is, atoms-within P, h)
 
   -- ---- row 18
 

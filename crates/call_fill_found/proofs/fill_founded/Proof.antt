@@ -1,7 +1,8 @@
-use Rattle.call_fill_rows.proofs.Steps.{atoms-few, levels-again}
+use Rattle.call_fill_rows.proofs.Steps.{atoms-few}
 use borrow.Author.Needs.{needs}
 use Rattle.call_fill_found.proofs.fill_founded.Statement.{statement}
 use Rattle.call_fill_found.proofs.fill_founded.Tie as tie
+use Rattle.level_stages.proofs.Turns.{own-tail}
 
 slice-aggregate-stage-levels : tie.Need-slice-aggregate-stage-levels
 slice-aggregate-stage-levels c = search needs
@@ -13,7 +14,7 @@ slice-aggregate-fill-found : tie.Need-slice-aggregate-fill-found
 slice-aggregate-fill-found c = search needs
 
 fill-found-requires : tie.Need-fill-found-requires
-fill-found-requires c κs = (c .before .before .before .before .before .before .before .before .before .before .before .before .before .before .before .pre .0, c .before .before .before .before .before .before .before .before .before .before .before .before .before .before .before .pre .1, levels-again (c .before .before .before .before .before .before .before .before .before .before .before .before .before .before .before .args .t .sizes .n) _ _ (c .before .before .before .before .stage-levels .ensures), c .before .before .before .before .before .before .before .before .before .before .before .before .before .before .before .pre .2, c .before .before .before .before .before .before .before .before .before .before .before .before .before .before .before .pre .3)
+fill-found-requires c κs = (c .before .before .before .before .before .before .before .before .before .before .before .before .before .before .before .pre .0, c .before .before .before .before .before .before .before .before .before .before .before .before .before .before .before .pre .1, own-tail (c .before .before .before .before .before .before .before .before .before .before .before .before .before .before .before .args .t .sizes .n) _ _ (c .before .before .before .before .stage-levels .ensures), c .before .before .before .before .before .before .before .before .before .before .before .before .before .before .before .pre .2, c .before .before .before .before .before .before .before .before .before .before .before .before .before .before .before .pre .3)
 
 same-length : tie.Need-same-length
 same-length c = search needs
