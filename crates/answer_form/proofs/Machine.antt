@@ -1,5 +1,4 @@
 -- Any automaton of which each live state has an ending, and whose dead state has none: where a text leaves it.
---   accepted-append     the bytes of two texts, one after the other
 --   Ended q t           some bytes after t are accepted
 --   ended               so it is where any numbers after t are accepted
 --   LeftAt q t n        n bytes of t are read before no ending is accepted
@@ -18,16 +17,6 @@ use Rattle.text.specs.Bytes.{areBytes}
 use Rattle.answer_form.specs.Machine.{acceptedBy, readBy}
 
 module _ (step : ℕ → ℕ → ℕ) (final : ℕ → Bool) where
-  -- the state after t
-  abbrev pub stateAfter : ℕ → List ℕ → ℕ
-  stateAfter q [] = q
-  stateAfter q (b ∷ t) = stateAfter (step q b) t
-
-  pub accepted-append : (q : ℕ) (t u : List ℕ) → acceptedBy step final q (t ++ u) ≡ acceptedBy step final (stateAfter q t) u
-  unfolding acceptedBy
-  accepted-append q [] u = refl
-  accepted-append q (b ∷ t) u = accepted-append (step q b) t u
-
   -- some bytes after t are accepted
   pub record Ended (q : ℕ) (t : List ℕ) : Type 0 where
     pub ending : List ℕ

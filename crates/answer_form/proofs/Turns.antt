@@ -1,6 +1,6 @@
--- The functions of specs/Reading.antt by the index of a byte: one turn of a loop over t, and its end.
+-- The functions of specs/Pieces.antt by the index of a byte: one turn of a loop over t, and its end.
 --   byte-at                     the byte at i and those after it
---   first-, value-, capped-, behind-, seek-, close- with turn and stop   each function at i, within the text and after it
+--   first-, capped-, behind-, close- with turn and stop   each function at i, within the text and after it
 --   common-turn, common-stop, common-short   `common` at i, within both strings, after the fixed one, after the text
 -- Assumes nothing.
 use Prim.Native.Nat.{ℕ, suc, _+_, _*_, _-_, _≤_, _<_, min}
@@ -12,8 +12,8 @@ use lib.Dec.{eqb}
 use lib.ListN.{length, getD, drop, drop-of-length-le}
 use lib.Seq.{drop-cons}
 use Rattle.reader_form.specs.Automaton.{digitTest}
-use Rattle.answer_form.specs.Automaton.{seekStep, endStep}
-use Rattle.answer_form.specs.Pieces.{common, firstLine, Next, digitsValue, cappedValue, behindDigits, literalFrom, seekFrom, Close, closeFrom}
+use Rattle.answer_form.specs.Automaton.{endStep}
+use Rattle.answer_form.specs.Pieces.{common, firstLine, cappedValue, behindDigits, Close, closeFrom}
 
 module _ (t : List ℕ) (i : ℕ) where
   -- the byte at i and those after it
@@ -29,14 +29,6 @@ module _ (t : List ℕ) (i : ℕ) where
   pub first-stop : (q : ℕ) → length t ≤ i → firstLine q i (drop i t) ≡ i
   unfolding firstLine
   first-stop q h = ap (firstLine q i) (drop-of-length-le t h)
-
-  pub value-turn : (v : ℕ) → i < length t → digitsValue v (drop i t) ≡ cond (digitTest (getD t i 0)) (digitsValue (v * 10 + (getD t i 0 - 48)) (drop (i + 1) t)) v
-  unfolding digitsValue
-  value-turn v h = ap (digitsValue v) (byte-at h)
-
-  pub value-stop : (v : ℕ) → length t ≤ i → digitsValue v (drop i t) ≡ v
-  unfolding digitsValue
-  value-stop v h = ap (digitsValue v) (drop-of-length-le t h)
 
   pub capped-turn : (m v : ℕ) → i < length t
       → cappedValue m v (drop i t) ≡ cond (digitTest (getD t i 0)) (cappedValue m (min m (v * 10 + (getD t i 0 - 48))) (drop (i + 1) t)) v
@@ -54,17 +46,6 @@ module _ (t : List ℕ) (i : ℕ) where
   pub behind-stop : length t ≤ i → behindDigits i (drop i t) ≡ i
   unfolding behindDigits
   behind-stop h = ap (behindDigits i) (drop-of-length-le t h)
-
-  pub seek-turn : (q : ℕ) → i < length t
-      → seekFrom q i (drop i t)
-      ≡ cond (eqb (seekStep q (getD t i 0)) 36) (literalFrom (i + 1) (drop (i + 1) t))
-      (cond (eqb (seekStep q (getD t i 0)) 43) (Next.left i) (seekFrom (seekStep q (getD t i 0)) (i + 1) (drop (i + 1) t)))
-  unfolding seekFrom
-  seek-turn q h = ap (seekFrom q i) (byte-at h)
-
-  pub seek-stop : (q : ℕ) → length t ≤ i → seekFrom q i (drop i t) ≡ Next.left i
-  unfolding seekFrom
-  seek-stop q h = ap (seekFrom q i) (drop-of-length-le t h)
 
   pub close-turn : (q : ℕ) → i < length t
       → closeFrom q i (drop i t) ≡ cond (eqb (endStep q (getD t i 0)) 43) (Close.left i) (closeFrom (endStep q (getD t i 0)) (i + 1) (drop (i + 1) t))

@@ -1,6 +1,5 @@
 -- A text is that of one proper answer: comments, lines and literals can be told from the bytes.
 --   answer-unique     two proper answers with the same text are equal
---   one-answer        so they have the same literals in the same order
 -- Assumes nothing.
 use Prim.Native.Nat.{ℕ}
 use native.Mathlib.Omega.{arith}
@@ -17,7 +16,7 @@ use Rattle.lists.proofs.Cons.{cons-head, cons-tail}
 use Rattle.encoding.specs.Literal.{Literal, literalNumber}
 use Rattle.digits.specs.Bytes.{literalText}
 use Rattle.reader_form.specs.Automaton.{digitTest}
-use Rattle.answer_form.specs.Answer.{Comment, Line, Status, Answer, oneLine, named, lineProper, proper, commentText, commentsText, spacedText, linesText, satisfiableText, statusText, answerText, literalsOf}
+use Rattle.answer_form.specs.Answer.{Comment, Line, Status, Answer, oneLine, named, lineProper, proper, commentText, commentsText, spacedText, linesText, satisfiableText, statusText, answerText}
 use Rattle.answer_form.proofs.Accepted.{comment-then}
 use Rattle.answer_form.proofs.Digits.{Stops, front-cancel, literal-cancel, literal-not-zero}
 
@@ -187,7 +186,3 @@ answer-unique (Answer.noModel before status rest) (Answer.noModel before′ stat
     let r = comments-cancel before before′ (statusText status ++ rest) (statusText status′ ++ rest′) p q (status-bare status rest) (status-bare status′ rest′) e in
     let s = status-cancel status status′ rest rest′ (r .1) in
     λ j. Answer.noModel (r .0 j) (s .0 j) (s .1 j)
-
--- the literals of a text are those of any proper answer that has it
-pub one-answer : (a b : Answer) → So (proper a) → So (proper b) → answerText a ≡ answerText b → literalsOf a ≡ literalsOf b
-one-answer a b p q e = ap literalsOf (answer-unique a b p q e)

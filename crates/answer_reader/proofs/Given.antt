@@ -1,7 +1,6 @@
 -- From an answer of the code back to the definition's: which status, which literal, which end.
 --   found-satisfiable, found-other, found-left   the status
 --   next-named, next-last, next-left             the next literal; of a number that is handed out, some literal is the number's
---   closed-fine, closed-left                     the end
 --   next-further                                 a literal stands after the position, within the text
 -- Assumes nothing.
 use Prim.Native.Nat.{ℕ, _≤_, _<_}
@@ -12,15 +11,13 @@ use lib.IntN.{ℤ, pos}
 use lib.ListN.{length, length-drop, drop}
 use Rattle.encoding.specs.Literal.{Literal}
 use Rattle.answer_form.specs.Answer.{Status}
-use Rattle.answer_form.specs.Pieces.{Found, Next, nextLiteral, Close}
+use Rattle.answer_form.specs.Pieces.{Found, Next, nextLiteral}
 use Rattle.answer_form.proofs.Passing.{Heard, next-heard}
 use Rattle.answer_reader.specs.declared.Found.{Found as FoundAnswer}
 use Rattle.answer_reader.specs.declared.Found.the-variants.{Satisfiable, Other, Left as FoundLeft}
 use Rattle.answer_reader.specs.declared.Next.{Next as NextAnswer}
 use Rattle.answer_reader.specs.declared.Next.the-variants.{Literal as NextLiteral, Last, Left as NextLeft}
-use Rattle.answer_reader.specs.declared.Closed.{Closed}
-use Rattle.answer_reader.specs.declared.Closed.the-variants.{Fine, Left as CloseLeft}
-use Rattle.answer_reader.specs.Results.{capped, foundFor, nextFor, closeFor}
+use Rattle.answer_reader.specs.Results.{capped, foundFor, nextFor}
 
 -- ---- the status
 
@@ -98,23 +95,3 @@ next-further t p l f j e h = go (subst (λ (x : Next). Heard 35 p (drop p t) x) 
   where
     go : Heard 35 p (drop p t) (Next.literal l f j) → (p ≤ f) × (f < j) × (j ≤ length t)
     go (Heard.a-literal m g k n a b c s w) = (b, c, omega (arith, h, s, w .within, length-drop p t))
-
--- ---- the end
-
-closedKind : Closed → ℕ
-closedKind Fine = 0
-closedKind (CloseLeft s) = 1
-
-closedEnd : Closed → ℕ
-closedEnd Fine = 0
-closedEnd (CloseLeft s) = s
-
-pub closed-fine : (x : Close) → closeFor x ≡ Fine → x ≡ Close.fine
-unfolding closedKind
-closed-fine Close.fine q = refl
-closed-fine (Close.left s) q = absurd (omega (arith, ap closedKind q))
-
-pub closed-left : (x : Close) (s : ℕ) → closeFor x ≡ CloseLeft s → x ≡ Close.left s
-unfolding closedKind closedEnd
-closed-left Close.fine s q = absurd (omega (arith, ap closedKind q))
-closed-left (Close.left k) s q = ap Close.left (ap closedEnd q)

@@ -9,7 +9,6 @@
 --   assigned-repeated, repeated-assigned   it is repeated at s just where `RepeatedAt n xs s`
 --   assigned-done, done-assigned           it is done just where each literal is fit
 --   named-value, unnamed-value   then the byte of a variable is the value of the literal that names it, or 2
---   refilled, assigned-length    filling anew leaves nothing of what was assigned; the length stays
 --   named-or-not                 a variable is named or not
 --   unset-unnamed                where each literal is fit, as many variables have no value as no literal names
 --   unnamed-rest                 and with the literals these make up n
@@ -20,10 +19,9 @@ use native.Mathlib.Omega.{arith}
 use mathlib.Core.Path.{_≡_, refl, sym, _∙_, ap, subst}
 use mathlib.Core.Logic.{_⊎_, inl, inr, ⊎-elim}
 use mathlib.Core.Bool.{Bool, true, false, So, cond, false≢true}
-use mathlib.Core.List.{List, _++_}
+use mathlib.Core.List.{List}
 use lib.Dec.{eqb}
-use lib.ListN.{length, getD, drop, replicate, length-append, length-drop, length-replicate, getD-replicate, List·getD-append}
-use lib.Seq.{drop-at}
+use lib.ListN.{length, getD, drop, replicate, length-append, length-replicate, getD-replicate, List·getD-append}
 use borrow.Author.Tests.{eq-eqb, ne-eqb, eqb-true}
 use Rattle.lists.proofs.Bools.{false-of}
 use Rattle.lists.proofs.Tests.{le-or-lt, any-at, any-in}
@@ -34,7 +32,7 @@ use Rattle.answer_form.specs.Pieces.{Next, nextLiteral, Spotted}
 use Rattle.answer_values.specs.Assign.{literalThen, literalsWithin, literalsFrom, literalValue, nobody, literalAt, variableAt, spotAt, Unnamed, Named, isNamed, unnamedCount, Outcome, assignedOf, assignedBytes, unsetCount, overwritten}
 use Rattle.answer_values.proofs.Taking.{ahead}
 use Rattle.answer_values.specs.Rows.{Old, Fit, AllFit, StrayAt, RepeatedAt}
-use Rattle.answer_values.proofs.Steps.{AllNamed, State, Says, says, value-not-two, byte-kept, byte-given, rest-kept}
+use Rattle.answer_values.proofs.Steps.{AllNamed, State, Says, says, value-not-two, byte-kept, byte-given}
 
 -- ---- the literals of an answer
 
@@ -166,19 +164,6 @@ module _ (n : ℕ) (xs : List Spotted) (b : List ℕ) (named : AllNamed xs) wher
 
   pub named-value : AllFit n xs → (k : ℕ) → k < length xs → getD (assignedBytes n xs (overwritten n 2 b)) (variableAt xs k - 1) 0 ≡ literalValue (literalAt xs k)
   named-value f = byte-given n xs (overwritten n 2 b) (filled-length n b) named (done-assigned f) (λ j h. f j h .1)
-
-  -- filling anew leaves nothing of what was assigned, and the bytes from n on as they were
-  pub refilled : (x : ℕ) → overwritten n x (assignedBytes n xs (overwritten n 2 b)) ≡ overwritten n x b
-  unfolding overwritten
-  refilled x =
-      ap (λ (u : List ℕ). replicate n x ++ u)
-      (rest-kept n xs (replicate n 2 ++ drop n b) named .0 ∙ drop-at (replicate n 2) (drop n b) n (length-replicate n 2))
-
-  pub assigned-length : n ≤ length b → length (assignedBytes n xs (overwritten n 2 b)) ≡ length b
-  unfolding overwritten
-  assigned-length h =
-      rest-kept n xs (replicate n 2 ++ drop n b) named .1
-      ∙ omega (arith, h, length-append (replicate n 2) (drop n b), length-replicate {A = ℕ} n 2, length-drop n b)
 
 -- ---- the variables that no literal names
 

@@ -119,9 +119,6 @@ module _ (t s : List ℕ) (a l : ℕ) where
         (cond d (fillRefused (ShortBuffer (P .atoms)))
         (cond e (fillRefused (BadSet (P .atoms))) (cond f (fillRefused (BadSet (firstBad s - 1))) (foundedResult P (setIn (P .atoms) s)))))
 
-    abbrev test1 : Bool
-    test1 = ltb a (varTotal P)
-
     abbrev test2 : Bool
     test2 = ltb l (P .atoms)
 

@@ -35,10 +35,6 @@ pub record Last (g : ℕ) : Type 0 where
   pub not6 : g ≡ 6 → ⊥
 
 module _ (P : Program) (w g a i y l : ℕ) (f : Last g) where
-  last-items : itemCount P g ≡ P .atoms
-  unfolding itemCount
-  last-items = rw (ne-eqb g 1 (f .not1), ne-eqb g 5 (f .not5), ne-eqb g 6 (f .not6))
-
   last-size : size P w g a i ≡ 1
   unfolding size
   last-size = rw (ne-eqb g 1 (f .not1), ne-eqb g 2 (f .not2), ne-eqb g 3 (f .not3), ne-eqb g 4 (f .not4), ne-eqb g 5 (f .not5), ne-eqb g 6 (f .not6))
@@ -72,14 +68,6 @@ module _ (P : Program) (w a i y l : ℕ) where
   items4 : itemCount P 4 ≡ P .atoms
   unfolding itemCount
   items4 = refl
-
-  items2 : itemCount P 2 ≡ P .atoms
-  unfolding itemCount
-  items2 = refl
-
-  blocks2 : blockCount P w 2 ≡ suc (length (P .rules))
-  unfolding blockCount
-  blocks2 = refl
 
   blocks4 : blockCount P w 4 ≡ w
   unfolding blockCount
@@ -138,9 +126,6 @@ module _ {P : Program} {t : Totals} {hs ss bs ks xs ys : List ℕ} (T : Tabled P
 
     pub atom4 : g ≡ 4 → a ≤ 126
     atom4 e = le-trans (subst (λ (x : ℕ). a ≤ x) (items4 P w a i 0 0) (item-is 4 e)) (elements.atoms-fit P t hs ss bs ks xs ys T)
-
-    pub block2 : g ≡ 2 → i ≤ suc (length (P .rules))
-    block2 e = subst (λ (x : ℕ). i ≤ x) (blocks2 P w a i 0 0) (block-is 2 e)
 
     pub block4 : g ≡ 4 → i ≤ w
     block4 e = subst (λ (x : ℕ). i ≤ x) (blocks4 P w a i 0 0) (block-is 4 e)
@@ -400,9 +385,6 @@ module _ {P : Program} {t : Totals} {hs ss bs ks xs ys : List ℕ} (T : Tabled P
 
       pub implied-asks : i ≤ m → Bounded (t .sizes) × (i ≤ 500)
       implied-asks h = (bounded, le-trans h (bounded .rules))
-
-      clause-at : (k : ℕ) → g ≡ k → y ≤ size P w k a i
-      clause-at k e = subst (λ (x : ℕ). y ≤ size P w x a i) e (A .clause-in)
 
       pub zero-asks : g ≡ 3 → Bounded (t .sizes) × (0 < a) × (a ≤ 126) × (y ≤ 7)
       zero-asks e = (bounded, R .item-some, atom3 R e, le-trans (subst (λ (k : ℕ). y ≤ k) (sym (size-zero R e)) (A .clause-in)) (bounded .bits))

@@ -4,7 +4,7 @@
 --   stands-at                 clause j stands at its coordinates
 --   clause-at                 and is clause j of the clause list
 --   next-is                   what follows clause j is clause j + 1
---   placed-at, placed-clause, number-is, own-number, one-on    a place that code has
+--   placed-at, placed-clause, number-is, own-number    a place that code has
 -- Assumes nothing.
 use Prim.Native.Nat.{ℕ, zero, suc, pred, _+_, _-_, _≤_, _<_}
 use native.Mathlib.Nat.{not-suc-le-zero, zero-add}
@@ -145,13 +145,6 @@ module _ {P : Program} {t : Totals} {hs ss bs ks xs ys : List ℕ} (T : Tabled P
 
     pub own-number : c ≡ placeAt P v (c .number)
     own-number = e ∙ ap (placeAt P v) (sym number-is)
-
-    -- the place after it
-    pub one-on : {d : Place} → d ≡ placeAt P v (suc (c .number)) → d ≡ placeAt P v (n + 1)
-    one-on f = f ∙ ap (λ (k : ℕ). placeAt P v (suc k)) number-is ∙ ap (placeAt P v) (more n)
-      where
-        more : (n : ℕ) → suc n ≡ n + 1
-        more n = omega arith
 
   -- at the place of clause n stands clause n
   module _ {c : Place} (e : c ≡ placeAt P v (c .number)) (p : 0 < c .number) (h : c .number ≤ t .clauses) where

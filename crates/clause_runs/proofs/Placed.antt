@@ -24,7 +24,7 @@ use Rattle.digits.proofs.Lengths.{line-length}
 use Rattle.clause_walk.specs.Walk.{clauseAt}
 use Rattle.clause_tables.specs.declared.Totals.{Totals}
 use Rattle.clause_tables.specs.Tables.{Tabled}
-use Rattle.clause_table_laws.proofs.Elements.{width-are, vars-are, clauses-are}
+use Rattle.clause_table_laws.proofs.Elements.{vars-are, clauses-are}
 use Rattle.clause_table_laws.proofs.Bounds.{lines-fit, vars-short, clauses-short}
 use Rattle.clause_text.specs.Lines.{headerText}
 use Rattle.clause_text.proofs.Parts.{header-small, header-length}
@@ -36,9 +36,6 @@ use Rattle.clause_runs.specs.Lines.{linesOf, lineOf, clauseTotal}
 module _ {P : Program} {t : Totals} {hs ss bs ks xs ys : List ℕ} (T : Tabled P t hs ss bs ks xs ys) where
   abbrev w : ℕ
   w = t .sizes .w
-
-  widths : w ≡ width (P .atoms)
-  widths = width-are P t hs ss bs ks xs ys T
 
   pub total-is : t .clauses ≡ clauseTotal P
   total-is = clauses-are P t hs ss bs ks xs ys T

@@ -7,7 +7,6 @@
 --   slot-short                         a slot holds at most one literal
 --   clause-in, slot-in                 each literal of a clause, and of a slot, is of a variable from 1 to V
 --   literal-in                         a slot is empty, or holds one literal, of a variable from 1 to 9,890 (Slotted)
---   none-iff                           a slot that holds variable 0 is empty
 --   vars-short, clauses-short           the same of the tables
 --   line-fits, lines-fit               the line of a clause of the walk, and of any clause, has at most 3,008 bytes
 -- Assumes nothing.
@@ -38,7 +37,6 @@ use Rattle.digits.specs.Bytes.{literalText, lineText}
 use Rattle.digits.proofs.Lengths.{literal-fits, literals-fit, line-length}
 use Rattle.clause_walk.specs.Walk.{ruleCount, headsOf, headAt, headOf, positives, bodyOf, bodyCount, slots1, slots2, bitOf, slots4, chainSlots, chainBit, slots6, size2, size6, chainSize, impliedSlot, ofHead, slot1, slot2, slot3, slot4, slot5, slot6, itemCount, blockCount, size, slots, slot, clauseAt, block, group, walked, BlockAt, At}
 use Rattle.clause_walk.proofs.Walked.{walked-clauses}
-use Rattle.clause_slots.specs.Signed.{slotLiteral}
 use Rattle.text.specs.Limits.{bodiesOf}
 use Rattle.text.specs.Limits.{ascends, ruleAscends, Limits}
 use Rattle.clause_table_laws.proofs.Elements.{width-fits, pairs-fit, body-fits, all-fit, vars-are, clauses-are}
@@ -107,10 +105,6 @@ slotted n [] l h t = empty refl
 slotted n (x ∷ []) l h t =
     let u = and-left (isAtom n (variable x)) true t in holds x refl (atom-pos n (variable x) u) (le-trans (atom-le n (variable x) u) l)
 slotted n (x ∷ (y ∷ ls)) l h t = absurd (omega arith)
-
-none-of : (n : ℕ) (ls : List Literal) → So (all (λ x. isAtom n (variable x)) ls) → variable (slotLiteral ls) ≡ 0 → ls ≡ []
-none-of n [] t e = refl
-none-of n (x ∷ ls) t e = absurd (omega (arith, atom-pos n (variable x) (and-left (isAtom n (variable x)) (all (λ x. isAtom n (variable x)) ls) t), e))
 
 -- ---- how long a slot is
 
@@ -335,9 +329,6 @@ module _ (P : Program) (L : Limits P) where
 
   pub literal-in : (g a i y l : ℕ) → At P w g a i y → 0 < l → l ≤ slots P w g a i y → Slotted (slot P w g a i y l)
   literal-in g a i y l s p h = slotted (variables P w) (slot P w g a i y l) variables-fit (slot-short g a i y l) (slot-in g a i y l s p h)
-
-  pub none-iff : (g a i y l : ℕ) → At P w g a i y → 0 < l → l ≤ slots P w g a i y → variable (slotLiteral (slot P w g a i y l)) ≡ 0 → slot P w g a i y l ≡ []
-  none-iff g a i y l s p h e = none-of (variables P w) (slot P w g a i y l) (slot-in g a i y l s p h) e
 
   -- ---- the lines
 

@@ -9,8 +9,8 @@
 --   rules-fit, rules-are, atoms-are, width-are, atoms-fit, bounded, width-pos, pairs-are, vars-are, clauses-are    the totals
 --   heads-length, starts-length, bodies-length, before-length, partners-length, owners-length    the lengths of the arrays
 --   heads-taken, head-is              the heads
---   start-first (Listed), body-is     where the body atoms of rule r begin, where its negative ones do, and where they end; its body atoms
---   before-is, before-last            how many pairs stand before rule r
+--   start-first (Listed)              where the body atoms of rule r begin, where its negative ones do, and where they end; its body atoms
+--   before-is                         how many pairs stand before rule r
 --   partner-is, owner-is              body atom and head of pair k
 --   partner-in, owner-in              both are from 1 to 126
 -- Of arrays (Stored A):
@@ -156,9 +156,6 @@ module _ (P : Program) (L : Limits P) where
   pub before-fits : (r : ℕ) → 0 < r → r ≤ length (P .rules) → pairsBefore P r + positives P r ≤ pairCount P
   before-fits zero p h = absurd (omega arith)
   before-fits (suc i) p h = omega (arith, count-is, sum-is i, sum-mono (length (P .rules)) (positives P) i h)
-
-  pub before-end : pairsBefore P (suc (length (P .rules))) ≡ pairCount P
-  before-end = sum-is (length (P .rules)) ∙ sym count-is
 
   abbrev rowOf : Rule → List Pair
   rowOf R = pairsWith (R .head) (R .positive)
@@ -406,10 +403,6 @@ module _ (P : Program) (t : Totals) (hs ss bs ks xs ys : List ℕ) (T : Tabled P
   start-first zero p h = absurd (omega arith)
   start-first (suc i) p h = subst (λ (k : ℕ). Listed P ss bs (suc i) k) (sym (one-before (suc i))) (start-at i h)
 
-  pub body-is : (r : ℕ) → 0 < r → r ≤ length (P .rules)
-      → take (getD ss (2 * (r - 1) + 2) 0 - getD ss (2 * (r - 1)) 0) (drop (getD ss (2 * (r - 1)) 0) bs) ≡ bodyOf P r
-  body-is r p h = start-first r p h .body-are
-
   -- ---- the pairs
 
   before-at : (i : ℕ) → i < suc (length (P .rules)) → getD ks i 0 ≡ pairsBefore P (suc i)
@@ -420,9 +413,6 @@ module _ (P : Program) (t : Totals) (hs ss bs ks xs ys : List ℕ) (T : Tabled P
   pub before-is : (r : ℕ) → 0 < r → r ≤ suc (length (P .rules)) → getD ks (r - 1) 0 ≡ pairsBefore P r
   before-is zero p h = absurd (omega arith)
   before-is (suc i) p h = ap (λ (k : ℕ). getD ks k 0) (one-before (suc i)) ∙ before-at i h
-
-  pub before-last : getD ks (length (P .rules)) 0 ≡ pairCount P
-  before-last = before-at (length (P .rules)) (omega arith) ∙ before-end P L
 
   pub partner-is : (k : ℕ) → 0 < k → k ≤ pairCount P → getD xs (k - 1) 0 ≡ pairAt (pairs P) k .body
   partner-is zero p h = absurd (omega arith)

@@ -1,9 +1,9 @@
 -- How many digits a number has, and the lengths of literals as bytes.
 --   decimal-fits, decimal-reaches    below 10 ^ (k + 1) a number has at most k + 1 digits, from 10 ^ k on at least that many
---   decimal-five, decimal-ten        at most 5 digits below 100,000, at most 10 below 2 ^ 32
+--   decimal-ten                      at most 10 digits below 2 ^ 32
 --   literal-fits                     a literal has at most one byte more than its variable's digits
 --   word-length                      a literal followed by one space
---   literals-append, literals-next   the literals of appended clauses, and one more literal of a clause; -length: the lengths
+--   literals-append                  the literals of appended clauses; -length: their length
 --   literals-fit                     literals of at most m bytes each, with their spaces
 --   line-length                      a clause's line
 -- Assumes nothing.
@@ -12,10 +12,9 @@ use native.Mathlib.Nat.{pow-suc, suc-mul, one-le-pow, le-of-eq, le-antisymm}
 use native.Mathlib.Omega.{arith}
 use mathlib.Core.Path.{_≡_, refl, sym, _∙_, ap}
 use mathlib.Core.Logic.{⊎-elim}
-use mathlib.Core.List.{List, [], _∷_, _++_, append-nil, append-assoc}
+use mathlib.Core.List.{List, [], _∷_, _++_, append-assoc}
 use lib.IntN.{ℤ, pos, negsuc, natAbs}
-use lib.ListN.{length, getD, take, length-append}
-use lib.Seq.{take-suc}
+use lib.ListN.{length, getD, length-append}
 use Rattle.lists.proofs.Tests.{le-or-lt}
 use Rattle.text.specs.Decimal.{decimal}
 use Rattle.text.proofs.Decimals.{decimal-small, decimal-large}
@@ -49,9 +48,6 @@ decimal-reaches (suc k) n h = go (10 ^ k) (one-le-pow k 10 (omega arith)) (rw (p
 pub decimal-length : (k n : ℕ) → 10 ^ k ≤ n → n < 10 ^ suc k → length (decimal n) ≡ suc k
 decimal-length k n l h = le-antisymm (decimal-fits k n h) (decimal-reaches k n l)
 
-pub decimal-five : (n : ℕ) → n < 100000 → length (decimal n) ≤ 5
-decimal-five n h = decimal-fits 4 n h
-
 pub decimal-ten : (n : ℕ) → n < 2 ^ 32 → length (decimal n) ≤ 10
 decimal-ten n h = decimal-fits 9 n (omega (arith, h))
 
@@ -72,19 +68,6 @@ literals-append (l ∷ c) d =
 
 pub literals-append-length : (c d : List Literal) → length (literalsText (c ++ d)) ≡ length (literalsText c) + length (literalsText d)
 literals-append-length c d = ap (λ (t : List ℕ). length t) (literals-append c d) ∙ length-append (literalsText c) (literalsText d)
-
-pub literals-next : (c : List Literal) (i : ℕ) (d : Literal) → i < length c
-    → literalsText (take (suc i) c) ≡ literalsText (take i c) ++ (literalText (literalNumber (getD c i d)) ++ (32 ∷ []))
-literals-next c i d h =
-    ap literalsText (take-suc c i d h) ∙ literals-append (take i c) (getD c i d ∷ [])
-    ∙ ap (λ (t : List ℕ). literalsText (take i c) ++ t) (append-nil (literalText (literalNumber (getD c i d)) ++ (32 ∷ [])))
-
-pub literals-next-length : (c : List Literal) (i : ℕ) (d : Literal) → i < length c
-    → length (literalsText (take (suc i) c)) ≡ length (literalsText (take i c)) + (length (literalText (literalNumber (getD c i d))) + 1)
-literals-next-length c i d h =
-    ap (λ (t : List ℕ). length t) (literals-next c i d h)
-    ∙ length-append (literalsText (take i c)) (literalText (literalNumber (getD c i d)) ++ (32 ∷ []))
-    ∙ ap (λ (k : ℕ). length (literalsText (take i c)) + k) (word-length (literalNumber (getD c i d)))
 
 pub literals-fit : (m : ℕ) (d : Literal) (c : List Literal)
     → ((i : ℕ) → i < length c → length (literalText (literalNumber (getD c i d))) + 1 ≤ m) → length (literalsText c) ≤ length c * m

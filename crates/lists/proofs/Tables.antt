@@ -65,12 +65,6 @@ row-place n s x h =
     (q .0, q .1, q .2, q .3, q .4 ∙ ap (λ (k : ℕ). k + q .1) (sum-const (q .0) s))
 
 module _ {A : Type 0} where
-  -- a default plays no part within the list
-  pub getD-any : (xs : List A) (d e : A) (j : ℕ) → j < length xs → getD xs j d ≡ getD xs j e
-  getD-any [] d e j h = absurd (not-suc-le-zero h)
-  getD-any (x ∷ xs) d e zero h = refl
-  getD-any (x ∷ xs) d e (suc j) h = getD-any xs d e j (le-of-suc-le-suc h)
-
   -- a test of the elements is one of the places 1 to the length
   pub all-places : (p : A → Bool) (xs : List A) (d : A) → all p xs ≡ allTo (length xs) (λ j. p (getD xs (pred j) d))
   all-places p xs d =
