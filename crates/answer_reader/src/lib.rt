@@ -332,7 +332,7 @@ fn space_from(answer: &[u8], at: usize) -> Space
 }
 
 // The next literal from position `at` on.
-pub fn next_literal(answer: &[u8], at: usize) -> Next
+fn next_literal(answer: &[u8], at: usize) -> Next
     ensures { λ r. ⌜ r ≡ nextFor (nextLiteral (now (answer .entry)) at) ⌝ }
 {
     let s = space_from(answer, at);

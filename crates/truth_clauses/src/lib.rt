@@ -37,7 +37,7 @@ fn slot_holds(x: Signed, assignment: &[u8]) -> bool
 }
 
 // Whether clause y of block i of item a of group g is true.
-pub fn clause_holds<'a>(
+fn clause_holds<'a>(
     t: Totals,
     heads: &'a [u16],
     starts: &'a [u16],
