@@ -35,7 +35,7 @@ use Rattle.answer_values.proofs.OnePass.{read-formed}
 use Rattle.answer_offers.proofs.Values.{any-outcome, any-bytes}
 use Rattle.clause_tables.specs.declared.Totals.{Totals}
 use Rattle.clause_tables.specs.Tables.{countersOf, totalsOf, Tabled}
-use Rattle.clause_table_laws.proofs.Elements.{vars-are, bounded}
+use Rattle.clause_table_laws.proofs.Elements.{atoms-are, vars-are, bounded}
 use Rattle.clause_table_laws.proofs.Bounds.{vars-short}
 use Rattle.truth_clauses.specs.Truth.{valueIn, firstFalse}
 use Rattle.call_results.specs.Results.{Result, trueCount, levelByte, counters, assignmentAfter, varTotal}
@@ -112,7 +112,7 @@ module _ {P : Program} {t : Totals} {hs ss bs ks xs ys : List ℕ} (T : Tabled P
   sizes-are = ap (λ (y : Totals). y .sizes) (T .totals-are)
 
   pub atoms-is : t .sizes .n ≡ P .atoms
-  atoms-is = ap (λ (s : Sizes). s .n) sizes-are
+  atoms-is = atoms-are P t hs ss bs ks xs ys T
 
   vars-is : t .vars ≡ varTotal P
   vars-is = vars-are P t hs ss bs ks xs ys T

@@ -26,7 +26,6 @@ use Rattle.encoding.specs.Width.{width}
 use Rattle.encoding.specs.Fill.{fill}
 use Rattle.theory.proofs.Base.{fill-length}
 use Rattle.theory.proofs.Widths.{width-enough}
-use Rattle.clause_literals.specs.declared.Sizes.{Sizes}
 use Rattle.reader.specs.declared.ReadResult.{ReadResult}
 use Rattle.reader.specs.declared.ReadVerdict.{ReadVerdict}
 use Rattle.reader.specs.declared.ReadVerdict.the-variants.{Accepted, Refused as TextRefused}
@@ -34,8 +33,8 @@ use Rattle.refusals.specs.declared.TextRefusal.{TextRefusal}
 use Rattle.reader.specs.Verdict.{readOf}
 use Rattle.answer_offers.specs.Offered.{valueBytes}
 use Rattle.clause_tables.specs.declared.Totals.{Totals}
-use Rattle.clause_tables.specs.Tables.{countersOf, totalsOf, Tabled}
-use Rattle.clause_table_laws.proofs.Elements.{vars-are}
+use Rattle.clause_tables.specs.Tables.{Tabled}
+use Rattle.clause_table_laws.proofs.Elements.{atoms-are, width-are, vars-are}
 use Rattle.level_stages.specs.Levels.{setIn, firstDifference}
 use Rattle.level_stages.proofs.Levels.{unlike-differ}
 use Rattle.call_results.specs.Results.{Result, trueCount, levelByte, varTotal, programRead}
@@ -92,15 +91,11 @@ unfolding trueCount
 true-here n xs ys h = sum-ext n _ _ (λ i g. ap (λ x. cond x 1 0) (value-here xs ys i (omega (arith, g, h))))
 
 module _ {P : Program} {t : Totals} {hs ss bs ks xs ys : List ℕ} (T : Tabled P t hs ss bs ks xs ys) where
-  sizes-are : t .sizes ≡ countersOf P
-  unfolding totalsOf
-  sizes-are = ap (λ (y : Totals). y .sizes) (T .totals-are)
-
   atoms-is : t .sizes .n ≡ P .atoms
-  atoms-is = ap (λ (s : Sizes). s .n) sizes-are
+  atoms-is = atoms-are P t hs ss bs ks xs ys T
 
   width-is : t .sizes .w ≡ width (P .atoms)
-  width-is = ap (λ (s : Sizes). s .w) sizes-are
+  width-is = width-are P t hs ss bs ks xs ys T
 
   vars-is : t .vars ≡ varTotal P
   vars-is = vars-are P t hs ss bs ks xs ys T
