@@ -24,6 +24,7 @@ use Rattle.encoding.specs.Width.{width}
 use Rattle.encoding.specs.Fill.{fill}
 use Rattle.theory.proofs.Atoms.{atom-pos, is-atom}
 use Rattle.theory.proofs.Decided.{decided, stable-least, differ-at, differ-before, differ-le}
+use Rattle.clause_literals.proofs.Products.{one-before}
 use Rattle.refusals.specs.declared.TextRefusal.{TextRefusal}
 use Rattle.reader.specs.declared.ReadVerdict.{ReadVerdict}
 use Rattle.reader.specs.declared.ReadVerdict.the-variants.{Accepted, Refused as TextRefused}
@@ -197,10 +198,7 @@ module _ (t s : List ℕ) (a l : ℕ) where
           unfolding firstBad
           bad-at h =
               let f = first-is (length s) (λ i. ltb 1 (getD s (pred i) 0)) in
-              (omega (arith, h, f .within), ltb-true 1 (getD s (firstBad s - 1) 0) (ap (λ (i : ℕ). ltb 1 (getD s i 0)) (back (firstBad s) h) ∙ f .passes h))
-            where
-              back : (n : ℕ) → 0 < n → n - 1 ≡ pred n
-              back n h = omega (arith, h)
+              (omega (arith, h, f .within), ltb-true 1 (getD s (firstBad s - 1) 0) (ap (λ (i : ℕ). ltb 1 (getD s i 0)) (one-before (firstBad s)) ∙ f .passes h))
 
           bad-least : (i : ℕ) → i < length s → 1 < getD s i 0 → firstBad s - 1 ≤ i
           unfolding firstBad

@@ -3,6 +3,7 @@
 use Prim.Native.Nat.{ℕ, suc, _+_, _-_, _*_, _≤_, _<_}
 use native.Mathlib.Nat.{le-trans, add-zero}
 use native.Mathlib.Omega.{arith}
+use native.Mathlib.Numerals.{add-one}
 use mathlib.Core.Path.{_≡_, refl, sym, _∙_, ap, ap₂, subst}
 use mathlib.Core.Bool.{Bool, cond}
 use mathlib.Core.Logic.{_⊎_, inl, inr, ⊎-elim}
@@ -176,10 +177,7 @@ module _ {P : Program} {t : Totals} {hs ss bs ks xs ys : List ℕ} (T : Tabled P
 
     pub size-body : {x : ℕ} → g ≡ 1 → x ≡ getD ss (2 * (a - 1) + 2) 0 - getD ss (2 * (a - 1) + 0) 0 → x + 1 ≡ size P w g a i
     unfolding size
-    size-body {x} e q = ap (λ (k : ℕ). k + 1) (q ∙ span2 (rule1 e)) ∙ more (bodyCount P a) ∙ size-at 1 e
-      where
-        more : (k : ℕ) → k + 1 ≡ suc k
-        more k = omega arith
+    size-body {x} e q = ap (λ (k : ℕ). k + 1) (q ∙ span2 (rule1 e)) ∙ add-one (bodyCount P a) ∙ size-at 1 e
 
     pub size-implied : {x : ℕ} → g ≡ 2 → x ≡ impliedSize m hs a i → x ≡ size P w g a i
     unfolding size

@@ -6,6 +6,7 @@
 use Prim.Native.Nat.{ℕ, zero, suc, pred, _+_, _≤_, _<_}
 use native.Mathlib.Nat.{le-trans}
 use native.Mathlib.Omega.{arith}
+use native.Mathlib.Numerals.{add-one}
 use mathlib.Core.Path.{_≡_, refl, sym, _∙_, ap, ap₂, subst}
 use mathlib.Core.Bool.{true}
 use mathlib.Core.List.{List, [], _++_, append-nil}
@@ -58,11 +59,8 @@ module _ {P : Program} {t : Totals} {hs ss bs ks xs ys : List ℕ} (T : Tabled P
         in-room = omega (arith, f, u .0);
         bytes-are = u .0 ∙ sym (ap length one-line);
         text-is = u .1 ∙ ap (λ (x : List ℕ). x ++ drop r b) (sym one-line);
-        place-is = v ∙ ap (placeAt P w) (more (c .number));
+        place-is = v ∙ ap (placeAt P w) (sym (add-one (c .number)));
       }
-    where
-      more : (n : ℕ) → suc n ≡ n + 1
-      more n = omega arith
 
   -- ---- the lines of the block that begins at c
 
