@@ -1,6 +1,5 @@
 -- The bounds of all numbers and lines of a program within the limits (Limits P), with w its width.
 --   variables-fit, clauses-fit         at most 9,890 variables and 53,690 clauses
---   bodies-are                         the body atoms of all rules, counted
 --   positives-fit                      a rule has at most 126 positive body atoms
 --   items-fit, blocks-fit, size-fits   at most 500 items, 501 blocks and 503 clauses in a block
 --   slots-fit, clause-short            a clause of the walk has at most 501 slots, and at most 501 literals
@@ -13,18 +12,16 @@
 use Prim.Native.Nat.{ℕ, zero, suc, pred, _+_, _-_, _*_, _≤_, _<_}
 use native.Mathlib.Nat.{mul-le-mul, le-refl, le-trans, not-suc-le-zero}
 use native.Mathlib.Omega.{arith}
-use mathlib.Core.Path.{_≡_, refl, sym, _∙_, ap, subst}
+use mathlib.Core.Path.{_≡_, refl, sym, _∙_, subst}
 use mathlib.Core.Bool.{Bool, true, false, So, cond}
-use mathlib.Core.List.{List, [], _∷_, _++_, map, append-assoc}
+use mathlib.Core.List.{List, [], _∷_}
 use lib.Dec.{eqb, ltb, leb}
 use lib.ListN.{length, getD, length-append}
 use borrow.Author.Tests.{ltb-true, leb-true, le-leb}
-use Rattle.lists.specs.Lists.{all, tab, each, joined}
+use Rattle.lists.specs.Lists.{all, tab, each}
 use Rattle.lists.proofs.Bools.{and-left, and-right}
 use Rattle.lists.proofs.Tests.{all-at, all-each, all-tab, allTo-at, allTo-in}
-use Rattle.lists.proofs.Tables.{length-each, sum-ext, each-list}
-use Rattle.lists.proofs.Growing.{count-le}
-use Rattle.meaning.specs.Program.{Rule, Program, noRule, ruleAt, isAtom}
+use Rattle.meaning.specs.Program.{Program, noRule, isAtom}
 use Rattle.encoding.specs.Width.{width}
 use Rattle.encoding.specs.Literal.{Literal, var, −_, variable, literalNumber, Clause}
 use Rattle.encoding.specs.Variables.{Sizes, bodyVar, foundsVar}
@@ -37,11 +34,11 @@ use Rattle.digits.specs.Bytes.{literalText, lineText}
 use Rattle.digits.proofs.Lengths.{literal-fits, literals-fit, line-length}
 use Rattle.clause_walk.specs.Walk.{ruleCount, headsOf, headAt, headOf, positives, bodyOf, bodyCount, slots1, slots2, bitOf, slots4, chainSlots, chainBit, slots6, size2, size6, chainSize, impliedSlot, ofHead, slot1, slot2, slot3, slot4, slot5, slot6, itemCount, blockCount, size, slots, slot, clauseAt, block, group, walked, BlockAt, At}
 use Rattle.clause_walk.proofs.Walked.{walked-clauses}
-use Rattle.text.specs.Limits.{bodiesOf}
 use Rattle.text.specs.Limits.{ascends, ruleAscends, Limits}
 use Rattle.clause_table_laws.proofs.Elements.{width-fits, pairs-fit, body-fits, all-fit, vars-are, clauses-are}
 use Rattle.clause_tables.specs.declared.Totals.{Totals}
 use Rattle.clause_tables.specs.Tables.{Tabled}
+use Rattle.clause_tables.proofs.Sizes.{atoms-held, empty-few}
 
 -- ---- the walk's numbers, from 1
 
@@ -137,30 +134,11 @@ module _ (P : Program) (L : Limits P) where
       twice : (k x : ℕ) → x ≤ k → 2 * x ≤ 2 * k
       twice k x h = omega arith
 
-  pub bodies-are : bodyAtoms P ≡ length (bodiesOf (P .rules))
-  unfolding bodyAtoms
-  bodies-are =
-      sym (length-each (length (P .rules)) (λ r. own (ruleAt (P .rules) r))
-      ∙ sum-ext (length (P .rules)) (λ r. length (own (ruleAt (P .rules) r))) (λ r. length (ruleAt (P .rules) r .positive) + length (ruleAt (P .rules) r .negative))
-      (λ i h. length-append (ruleAt (P .rules) (suc i) .positive) (ruleAt (P .rules) (suc i) .negative)))
-      ∙ ap length (each-list own (P .rules) noRule ∙ same (P .rules))
-    where
-      own : Rule → List ℕ
-      own R = R .positive ++ R .negative
-
-      same : (rs : List Rule) → joined (map own rs) ≡ bodiesOf rs
-      same [] = refl
-      same (R ∷ rs) = append-assoc (R .positive) (R .negative) (joined (map own rs)) ∙ ap (λ (xs : List ℕ). R .positive ++ (R .negative ++ xs)) (same rs)
-
-  empty-fit : emptyBodies P ≤ length (P .rules)
-  unfolding emptyBodies
-  empty-fit = count-le (length (P .rules)) (λ r. eqb (length (ruleAt (P .rules) r .positive)) 0)
-
   pub clauses-fit : clauseCount P w ≤ 53690
   unfolding clauseCount
   clauses-fit =
       sums (bodyAtoms P) (length (P .rules)) (emptyBodies P) w (P .atoms) (pairCount P)
-      (omega (arith, bodies-are, L .few-bodies)) (L .few-rules) empty-fit (width-fits P L) (L .few-atoms) (pairs-fit P L)
+      (omega (arith, atoms-held P, L .few-bodies)) (L .few-rules) (empty-few P) (width-fits P L) (L .few-atoms) (pairs-fit P L)
     where
       sums : (o m e x n k : ℕ) → o ≤ 500 → m ≤ 500 → e ≤ m → x ≤ 7 → n ≤ 126 → k ≤ 500
           → o + 5 * m - e + x * e + 2 * n + n * x * (x + 2) + k * (12 * x - 5) ≤ 53690

@@ -29,8 +29,8 @@ use lib.Seq.{take-at, drop-at}
 use Rattle.lists.specs.Lists.{all, tab, joined, sum}
 use Rattle.lists.proofs.Bools.{and-in, and-left, and-right}
 use Rattle.lists.proofs.Tests.{all-at, all-append}
-use Rattle.lists.proofs.Tables.{sum-ext, sum-mono, length-tab, length-each, getD-tab, getD-map, each-list}
-use Rattle.meaning.specs.Program.{Rule, Program, noRule, ruleAt, isAtom, ruleFits, wellFormed}
+use Rattle.lists.proofs.Tables.{sum-mono, length-tab, getD-tab, getD-map, each-list}
+use Rattle.meaning.specs.Program.{Rule, Program, noRule, isAtom, ruleFits, wellFormed}
 use Rattle.encoding.specs.Width.{width}
 use Rattle.encoding.specs.Clauses.{Pair, noPair, pairAt, pairsWith, pairs, pairCount, pairsBefore, variables, clauseCount}
 use Rattle.theory.proofs.Atoms.{atom-pos, atom-le}
@@ -48,6 +48,7 @@ use Rattle.program.proofs.Decode.{decoded-kept}
 use Rattle.program.proofs.Pads.{length-pad}
 use Rattle.clause_tables.specs.declared.Totals.{Totals}
 use Rattle.clause_tables.specs.Tables.{Stored, Tabled, Ready, programIn, pairTable, totalsOf}
+use Rattle.clause_tables.proofs.Sizes.{pairs-are as pairs-sum, count-few}
 
 -- ---- lists filled up with zeros
 
@@ -142,20 +143,13 @@ module _ (P : Program) (L : Limits P) where
 
   -- ---- the pairs
 
-  count-is : pairCount P ≡ sum (length (P .rules)) (positives P)
-  unfolding pairs
-  count-is =
-      length-each (length (P .rules)) (λ r. pairsWith (ruleAt (P .rules) r .head) (ruleAt (P .rules) r .positive))
-      ∙ sum-ext (length (P .rules)) (λ r. length (pairsWith (ruleAt (P .rules) r .head) (ruleAt (P .rules) r .positive))) (positives P)
-      (λ i h. length-map (ruleAt (P .rules) (suc i) .positive) (λ b. record { body = b; head = ruleAt (P .rules) (suc i) .head }))
-
   sum-is : (r : ℕ) → pairsBefore P (suc r) ≡ sum r (positives P)
   unfolding pairsBefore
   sum-is r = refl
 
   pub before-fits : (r : ℕ) → 0 < r → r ≤ length (P .rules) → pairsBefore P r + positives P r ≤ pairCount P
   before-fits zero p h = absurd (omega arith)
-  before-fits (suc i) p h = omega (arith, count-is, sum-is i, sum-mono (length (P .rules)) (positives P) i h)
+  before-fits (suc i) p h = omega (arith, pairs-sum P, sum-is i, sum-mono (length (P .rules)) (positives P) i h)
 
   abbrev rowOf : Rule → List Pair
   rowOf R = pairsWith (R .head) (R .positive)
@@ -164,20 +158,8 @@ module _ (P : Program) (L : Limits P) where
   unfolding pairs
   pairs-joined = each-list rowOf (P .rules) noRule
 
-  few-pairs : (rs : List Rule) → length (joined (map rowOf rs)) ≤ length (bodiesOf rs)
-  few-pairs [] = omega arith
-  few-pairs (R ∷ rs) =
-      omega (
-        arith,
-        few-pairs rs,
-        length-append (rowOf R) (joined (map rowOf rs)),
-        length-map {B = Pair} (R .positive) (λ b. record { body = b; head = R .head }),
-        length-append (R .positive) (R .negative ++ bodiesOf rs),
-        length-append (R .negative) (bodiesOf rs),
-      )
-
   pub pairs-fit : pairCount P ≤ 500
-  pairs-fit = omega (arith, ap length pairs-joined, few-pairs (P .rules), L .few-bodies)
+  pairs-fit = count-few P L
 
   -- both atoms of a pair are atoms
   abbrev pairFits : Pair → Bool

@@ -13,15 +13,15 @@ use Rattle.meaning.specs.Program.{Program}
 use Rattle.encoding.specs.Width.{width}
 use Rattle.encoding.specs.Variables.{varCount}
 use Rattle.encoding.specs.Clauses.{pairCount, emptyBodies, bodyAtoms, variables, clauseCount}
-use Rattle.theory.proofs.Widths.{width-some}
+use Rattle.theory.proofs.Widths.{width-some, width-is}
 use Rattle.clause_literals.specs.Sizes.{sizesOf, Bounded}
 use Rattle.program.specs.declared.Program.{Program as Arrays}
 use Rattle.program.specs.Arrays.{kept}
 use Rattle.program.specs.Arrays.{decoded}
 use Rattle.clause_tables.specs.declared.Totals.{Totals}
 use Rattle.clause_tables.specs.Tables.{Stored, totalsOf}
+use Rattle.clause_tables.proofs.Sizes.{atoms-held, count-few, empty-few}
 use Rattle.clause_tabling.specs.Formula.{clausesFor}
-use Rattle.clause_tabling.proofs.Sizes.{atoms-held, count-few, empty-few, width-few}
 use Rattle.clause_tabling.proofs.Kept.{rules-many}
 
 -- the totals of P, from its numbers
@@ -29,6 +29,9 @@ by-numbers : (P : Program) (n m w o k e : ℕ) → n ≡ P .atoms → m ≡ leng
     → _≡_ {A = Totals} (record { sizes = record { n = n; m = m; w = w }; pairs = k; vars = varCount (sizesOf (record { n = n; m = m; w = w })) k; clauses = clausesFor n m w o k e }) (totalsOf P)
 unfolding totalsOf variables clauseCount
 by-numbers P n m w o k e pn pm pw po pk pe = rw (pn, pm, pw, po, pk, pe)
+
+width-few : (n : ℕ) → n ≤ 126 → width n ≤ 7
+width-few n h = width-is n .least 7 (omega (arith, h))
 
 module _ (A : Arrays) (s : Stored A) where
   atoms-are : A .atoms ≡ decoded A .atoms

@@ -22,9 +22,9 @@ use Rattle.program.specs.Arrays.{startOf, decoded}
 use Rattle.text.specs.Limits.{Limits}
 use Rattle.clause_tables.specs.declared.Pairs.{Pairs}
 use Rattle.clause_tables.specs.Tables.{Stored, pairTable}
+use Rattle.clause_tables.proofs.Sizes.{sizeOf, noneOf, pairs-are, pairs-held, none-sum}
 use Rattle.clause_tabling.specs.Formula.{whenNone}
 use Rattle.clause_tabling.proofs.Stores.{set-behind, sets-behind}
-use Rattle.clause_tabling.proofs.Sizes.{sizeOf, noneOf, pairs-are, pairs-held, none-sum}
 use Rattle.clause_tabling.proofs.Kept.{Here, here, size-is, rules-many}
 
 -- the pairs of rule r

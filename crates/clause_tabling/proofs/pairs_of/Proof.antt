@@ -1,5 +1,5 @@
 use Rattle.clause_tabling.proofs.Turns.{Filled, filled-start, filled-next, filled-end, rises, within, count-fits, empty-fits}
-use Rattle.clause_tabling.proofs.Sizes.{none-few}
+use Rattle.clause_tables.proofs.Sizes.{none-few}
 use Rattle.clause_tabling.proofs.Kept.{rules-many}
 use Rattle.program.specs.Arrays.{decoded}
 use borrow.Author.Needs.{needs}

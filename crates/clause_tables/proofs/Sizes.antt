@@ -6,7 +6,6 @@
 --   count-few        K is at most 500
 --   none-sum         of the first r rules at most r have no positive body atom
 --   empty-few        at most as many rules with no positive body atom as rules
---   width-few        the width for at most 126 atoms is at most 7
 -- Assumes nothing.
 use Prim.Native.Nat.{ℕ, zero, suc, _+_, _≤_, _<_}
 use native.Mathlib.Omega.{arith}
@@ -18,9 +17,7 @@ use lib.ListN.{length, length-append, length-map}
 use Rattle.lists.specs.Lists.{joined, sum}
 use Rattle.lists.proofs.Tables.{sum-ext, sum-add, sum-mono, length-each, each-list}
 use Rattle.meaning.specs.Program.{Rule, Program, noRule, ruleAt}
-use Rattle.encoding.specs.Width.{width}
 use Rattle.encoding.specs.Clauses.{pairs, pairCount, pairsWith, emptyBodies, bodyAtoms}
-use Rattle.theory.proofs.Widths.{width-is}
 use Rattle.text.specs.Limits.{bodiesOf}
 use Rattle.text.specs.Limits.{Limits}
 
@@ -75,6 +72,3 @@ none-sum P (suc r) = omega (arith, none-sum P r, none-few (sizeOf P (suc r)))
 pub empty-few : (P : Program) → emptyBodies P ≤ length (P .rules)
 unfolding emptyBodies
 empty-few P = none-sum P (length (P .rules))
-
-pub width-few : (n : ℕ) → n ≤ 126 → width n ≤ 7
-width-few n h = width-is n .least 7 (omega (arith, h))
