@@ -21,7 +21,7 @@ use Rattle.encoding.specs.Literal.{Literal, Clause, var, −_}
 use Rattle.encoding.specs.Variables.{Sizes, levelVar, nextVar}
 use Rattle.clause_literals.specs.declared.Sizes.{Sizes as Held}
 use Rattle.clause_literals.specs.Sizes.{sizesOf, Bounded}
-use Rattle.clause_literals.proofs.Products.{one-before}
+use Rattle.clause_literals.proofs.Products.{one-before, atoms-fit}
 use Rattle.digits.specs.declared.Digits.{Digits}
 use Rattle.digits.specs.Bytes.{literalsText, lineText}
 use Rattle.digits.specs.Digits.{digitsOf}
@@ -39,14 +39,11 @@ module _ (s : Held) (B : Bounded s) (a : ℕ) (h : a ≤ 126) where
   below : pred a * s .w ≤ 875
   below = mul-le-mul {n₂ = 125} {m₂ = 7} (omega (arith, h)) (B .bits)
 
-  all-below : s .n * s .w ≤ 882
-  all-below = mul-le-mul {n₂ = 126} {m₂ = 7} (B .atoms) (B .bits)
-
   pub level-short : (i : ℕ) → 0 < i → i ≤ 7 → Short (levelVar (sizesOf s) a i)
   level-short i p q = record { some = omega (arith, p); fits = omega (arith, q, below, B .atoms, B .rules) }
 
   pub next-short : (i : ℕ) → 0 < i → i ≤ 7 → Short (nextVar (sizesOf s) a i)
-  next-short i p q = record { some = omega (arith, p); fits = omega (arith, q, below, all-below, B .atoms, B .rules) }
+  next-short i p q = record { some = omega (arith, p); fits = omega (arith, q, below, atoms-fit s B, B .atoms, B .rules) }
 
 -- ---- one clause
 

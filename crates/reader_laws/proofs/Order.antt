@@ -14,6 +14,7 @@ use borrow.Author.Tests.{ltb-true, lt-ltb, eqb-true, eq-eqb, leb-true, le-leb}
 use Rattle.lists.specs.Lists.{all, any}
 use Rattle.lists.proofs.Bools.{and-left, or-left, or-right, or-cases}
 use Rattle.lists.proofs.Tests.{any-append, any-at, all-at}
+use Rattle.lists.proofs.Cons.{cons-head}
 use Rattle.meaning.specs.Program.{Rule, Program}
 use Rattle.text.specs.Decimal.{decimal}
 use Rattle.text.specs.Text.{moreText, listText}
@@ -136,9 +137,6 @@ span-above (none k) j h = absurd (not-suc-le-zero h)
 span-above (next k s) zero h = k
 span-above (next {e = e} k s) (suc j) h = le-trans k (le-trans (le-of-lt (le-refl (suc (spotOf e)))) (span-above s j (le-of-suc-le-suc h)))
 
-head-hit : {x h : Hit} {xs rest : List Hit} → x ∷ xs ≡ h ∷ rest → x ≡ h
-head-hit {x} e = ap (λ (l : List Hit). getD l 0 x) e
-
 pub first-hit : (N : ℕ) (es : List Event) {lo hi : ℕ} → Span lo es hi → (h : Hit) (rest : List Hit) → hitsIn N es ≡ h ∷ rest
     → (j : ℕ) → j < length es → (k : ℕ) → Meets N (getD es j noEvent) k → Before h k (spotOf (getD es j noEvent))
 first-hit N [] s h rest e j l k m = absurd (not-suc-le-zero l)
@@ -151,9 +149,9 @@ first-hit N (x ∷ es) (next q s) h rest e j l k m = go (rowsOf N x) refl e j l 
     go [] p e zero l m ih = absurd (false≢true (subst (λ (ys : List ℕ). So (any (eqb k) ys)) p m))
     go [] p e (suc j) l m ih = ih e j (le-of-suc-le-suc l) k m
     go (a ∷ rs) p e zero l m ih =
-        same (ap (λ (z : Hit). z .spot) (sym (head-hit e))) (subst (λ (y : ℕ). y ≤ k) (ap (λ (z : Hit). z .row) (head-hit e)) (rows-first (rowsOf N x) a rs (rows-sorted N x) p k m))
+        same (ap (λ (z : Hit). z .spot) (sym (cons-head e))) (subst (λ (y : ℕ). y ≤ k) (ap (λ (z : Hit). z .row) (cons-head e)) (rows-first (rowsOf N x) a rs (rows-sorted N x) p k m))
     go (a ∷ rs) p e (suc j) l m ih =
-        nearer (subst (λ (y : ℕ). y < spotOf (getD es j noEvent)) (ap (λ (z : Hit). z .spot) (head-hit e)) (span-above s j (le-of-suc-le-suc l)))
+        nearer (subst (λ (y : ℕ). y < spotOf (getD es j noEvent)) (ap (λ (z : Hit). z .spot) (cons-head e)) (span-above s j (le-of-suc-le-suc l)))
 
 -- the first hit is that of some event
 pub hit-event : (N : ℕ) (es : List Event) (h : Hit) (rest : List Hit) → hitsIn N es ≡ h ∷ rest
@@ -168,8 +166,8 @@ hit-event N (x ∷ es) h rest e = go (rowsOf N x) refl e (hit-event N es h rest)
     go (a ∷ rs) p e ih = (
       0,
       suc-le-suc zero-le,
-      subst (λ (ys : List ℕ). So (any (eqb (h .row)) ys)) (sym p) (or-left (eqb (h .row) a) (any (eqb (h .row)) rs) (eq-eqb (h .row) a (sym (ap (λ (z : Hit). z .row) (head-hit e))))),
-      ap (λ (z : Hit). z .spot) (head-hit e),
+      subst (λ (ys : List ℕ). So (any (eqb (h .row)) ys)) (sym p) (or-left (eqb (h .row) a) (any (eqb (h .row)) rs) (eq-eqb (h .row) a (sym (ap (λ (z : Hit). z .row) (cons-head e))))),
+      ap (λ (z : Hit). z .spot) (cons-head e),
     )
 
 -- where there is no hit, no event meets a row
