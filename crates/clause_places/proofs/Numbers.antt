@@ -1,6 +1,7 @@
 -- The clauses by their numbers.
 --   all-coordinates-clauses   the clauses at the coordinates, in order, are the clause list
 --   coordinates-count         there are as many coordinates as clauses, document 01's C
+--   clauses-many, count-is    so many are C of the tables
 --   stands-at                 clause j stands at its coordinates
 --   clause-at                 and is clause j of the clause list
 --   next-is                   what follows clause j is clause j + 1
@@ -120,6 +121,9 @@ coordinates-count P L =
 module _ {P : Program} {t : Totals} {hs ss bs ks xs ys : List ℕ} (T : Tabled P t hs ss bs ks xs ys) where
   abbrev v : ℕ
   v = t .sizes .w
+
+  pub clauses-many : length (clauses P (width (P .atoms))) ≡ t .clauses
+  clauses-many = count-whole P (width (P .atoms)) (T .limits .all-atoms) (width-enough (P .atoms)) ∙ sym (clauses-are P t hs ss bs ks xs ys T)
 
   pub count-is : length (allCoordinates P v) ≡ t .clauses
   count-is =

@@ -17,8 +17,6 @@ use Rattle.lists.proofs.Tables.{getD-map}
 use Rattle.meaning.specs.Program.{Program}
 use Rattle.encoding.specs.Width.{width}
 use Rattle.encoding.specs.Clauses.{clauses}
-use Rattle.theory.proofs.Widths.{width-enough}
-use Rattle.theory.proofs.Counts.{count-whole}
 use Rattle.digits.specs.Bytes.{lineText}
 use Rattle.digits.proofs.Lengths.{line-length}
 use Rattle.clause_walk.specs.Walk.{clauseAt}
@@ -30,7 +28,7 @@ use Rattle.clause_text.specs.Lines.{headerText}
 use Rattle.clause_text.proofs.Parts.{header-small, header-length}
 use Rattle.clause_places.specs.declared.Place.{Place}
 use Rattle.clause_places.specs.Places.{placeAt}
-use Rattle.clause_places.proofs.Numbers.{placed-clause}
+use Rattle.clause_places.proofs.Numbers.{placed-clause, clauses-many}
 use Rattle.clause_runs.specs.Lines.{linesOf, lineOf, clauseTotal}
 
 module _ {P : Program} {t : Totals} {hs ss bs ks xs ys : List ℕ} (T : Tabled P t hs ss bs ks xs ys) where
@@ -43,12 +41,9 @@ module _ {P : Program} {t : Totals} {hs ss bs ks xs ys : List ℕ} (T : Tabled P
   pub header-asks : (t .vars < 2 ^ 32) × (t .clauses < 2 ^ 32)
   header-asks = (omega (arith, vars-short T), omega (arith, clauses-short T))
 
-  clauses-many : length (clauses P (width (P .atoms))) ≡ t .clauses
-  clauses-many = count-whole P (width (P .atoms)) (T .limits .all-atoms) (width-enough (P .atoms)) ∙ sym total-is
-
   pub lines-count : length (linesOf P) ≡ suc (t .clauses)
   unfolding linesOf
-  lines-count = ap suc (length-map (clauses P (width (P .atoms))) lineText ∙ clauses-many)
+  lines-count = ap suc (length-map (clauses P (width (P .atoms))) lineText ∙ clauses-many T)
 
   pub header-is : headerText (t .vars) (t .clauses) ≡ lineOf P 0
   unfolding linesOf
@@ -58,7 +53,7 @@ module _ {P : Program} {t : Totals} {hs ss bs ks xs ys : List ℕ} (T : Tabled P
   unfolding linesOf
   line-of-clause zero p h = absurd (not-suc-le-zero p)
   line-of-clause (suc n) p h =
-      sym (getD-map lineText (clauses P (width (P .atoms))) [] [] n (subst (λ (k : ℕ). n < k) (sym clauses-many) h))
+      sym (getD-map lineText (clauses P (width (P .atoms))) [] [] n (subst (λ (k : ℕ). n < k) (sym (clauses-many T)) h))
 
   -- ---- at the place of clause n
 
@@ -71,7 +66,7 @@ module _ {P : Program} {t : Totals} {hs ss bs ks xs ys : List ℕ} (T : Tabled P
   pub line-short : (n : ℕ) → n ≤ t .clauses → length (lineOf P n) ≤ 3008
   line-short zero h = subst (λ (l : List ℕ). length l ≤ 3008) header-is (le-trans (header-small (t .vars) (t .clauses) (header-asks .0) (header-asks .1)) (omega arith))
   line-short (suc n) h =
-      subst (λ (l : List ℕ). length l ≤ 3008) (line-of-clause (suc n) (omega arith) h) (lines-fit P (T .limits) n (subst (λ (k : ℕ). n < k) (sym clauses-many) h))
+      subst (λ (l : List ℕ). length l ≤ 3008) (line-of-clause (suc n) (omega arith) h) (lines-fit P (T .limits) n (subst (λ (k : ℕ). n < k) (sym (clauses-many T)) h))
 
   pub short-fits : (n : ℕ) {room : ℕ} → n ≤ t .clauses → 3008 ≤ room → true ≡ leb (length (lineOf P n)) room
   short-fits n {room} h k = sym (le-leb (length (lineOf P n)) room (le-trans (line-short n h) k))

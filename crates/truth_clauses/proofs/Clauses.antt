@@ -18,14 +18,12 @@ use Rattle.meaning.specs.Program.{Program, isAtom}
 use Rattle.encoding.specs.Width.{width}
 use Rattle.encoding.specs.Literal.{Literal, literalTrue, clauseTrue, variable}
 use Rattle.encoding.specs.Clauses.{clauses, variables}
-use Rattle.theory.proofs.Widths.{width-enough}
-use Rattle.theory.proofs.Counts.{count-whole}
 use Rattle.clause_walk.specs.Walk.{size, slots, slot, clauseAt, At}
 use Rattle.clause_slots.specs.declared.Signed.{Signed}
 use Rattle.clause_slots.specs.Signed.{literalIn, slotLiteral}
 use Rattle.clause_tables.specs.declared.Totals.{Totals}
 use Rattle.clause_tables.specs.Tables.{Tabled}
-use Rattle.clause_table_laws.proofs.Elements.{width-are, vars-are, clauses-are}
+use Rattle.clause_table_laws.proofs.Elements.{width-are, vars-are}
 use Rattle.clause_table_laws.proofs.Bounds.{slot-in}
 use Rattle.clause_layout.specs.Numbers.{pastEmpty}
 use Rattle.clause_layout.proofs.Passed.{passed, passed-each}
@@ -35,7 +33,7 @@ use Rattle.clause_text.proofs.Clause.{slotted, slot-asks}
 use Rattle.clause_places.specs.declared.Coordinates.{Coordinates}
 use Rattle.clause_places.specs.declared.Place.{Place}
 use Rattle.clause_places.specs.Places.{placeAt}
-use Rattle.clause_places.proofs.Numbers.{number-is, own-number, placed-at, placed-clause}
+use Rattle.clause_places.proofs.Numbers.{number-is, own-number, placed-at, placed-clause, clauses-many}
 use Rattle.clause_places.proofs.BlockPlaces.{along, block-size}
 use Rattle.truth_clauses.specs.Truth.{valueIn, falseAt, firstFalse}
 use Rattle.truth_blocks.specs.Blocks.{blockTrue, isWhole, blockPasses}
@@ -104,9 +102,6 @@ module _ {P : Program} {t : Totals} {hs ss bs ks xs ys : List ℕ} (T : Tabled P
   -- ---- place by place
 
   module _ (vs : List ℕ) where
-    clauses-many : length (clauses P (width (P .atoms))) ≡ t .clauses
-    clauses-many = count-whole P (width (P .atoms)) (T .limits .all-atoms) (width-enough (P .atoms)) ∙ sym (clauses-are P t hs ss bs ks xs ys T)
-
     pub none-before : TrueTo P vs 0
     none-before = record { each-true = λ j h. absurd (not-suc-le-zero h) }
 
@@ -126,7 +121,7 @@ module _ {P : Program} {t : Totals} {hs ss bs ks xs ys : List ℕ} (T : Tabled P
         first-found n q z G =
             le-antisymm
             (not-before (first many (falseAt P vs)) (first-is many (falseAt P vs)))
-            (subst (λ (k : ℕ). first many (falseAt P vs) ≤ k) (sym q) (first-le many (falseAt P vs) n (subst (λ (k : ℕ). n < k) (sym clauses-many) (subst (λ (k : ℕ). k ≤ t .clauses) q h)) (ap (falseAt P vs) (sym q) ∙ false-is ∙ ap not z)))
+            (subst (λ (k : ℕ). first many (falseAt P vs) ≤ k) (sym q) (first-le many (falseAt P vs) n (subst (λ (k : ℕ). n < k) (sym (clauses-many T)) (subst (λ (k : ℕ). k ≤ t .clauses) q h)) (ap (falseAt P vs) (sym q) ∙ false-is ∙ ap not z)))
           where
             many : ℕ
             many = length (clauses P (width (P .atoms)))
@@ -135,13 +130,13 @@ module _ {P : Program} {t : Totals} {hs ss bs ks xs ys : List ℕ} (T : Tabled P
             not-before f F = ⊎-elim (λ (l : c .number ≤ f). l) (λ (l : f < c .number). absurd (low f F l)) (le-or-lt (c .number) f)
               where
                 low : (f : ℕ) → IsFirst (length (clauses P (width (P .atoms)))) (falseAt P vs) f → f < c .number → ⊥
-                low zero F l = not-So (falseAt P vs (suc n)) (F .none-at-all refl n (subst (λ (k : ℕ). n < k) (sym clauses-many) (subst (λ (k : ℕ). k ≤ t .clauses) q h))) (ap (falseAt P vs) (sym q) ∙ false-is ∙ ap not z)
+                low zero F l = not-So (falseAt P vs (suc n)) (F .none-at-all refl n (subst (λ (k : ℕ). n < k) (sym (clauses-many T)) (subst (λ (k : ℕ). k ≤ t .clauses) q h))) (ap (falseAt P vs) (sym q) ∙ false-is ∙ ap not z)
                 low (suc f) F l = not-So (falseAt P vs (suc f)) (G .each-true f (omega (arith, q, l))) (F .passes (omega arith))
 
     pub none-false : (n : ℕ) → t .clauses ≤ n → TrueTo P vs n → 0 ≡ firstFalse P vs
     unfolding firstFalse
     none-false n h G =
-        sym (first-none (length (clauses P (width (P .atoms)))) (falseAt P vs) (λ i l. G .each-true i (le-trans (subst (λ (k : ℕ). i < k) clauses-many l) h)))
+        sym (first-none (length (clauses P (width (P .atoms)))) (falseAt P vs) (λ i l. G .each-true i (le-trans (subst (λ (k : ℕ). i < k) (clauses-many T) l) h)))
 
     stands-by : {c : Place} {n : ℕ} → c ≡ placeAt P w (suc n) → n ≤ t .clauses → TrueTo P vs n → Standing P t vs c
     stands-by {c} {n} e h G =
