@@ -11,7 +11,7 @@ use lib.ListN.{length, take, drop, getD}
 use Rattle.lists.specs.Ascii.{ascii}
 use Rattle.encoding.specs.Literal.{Literal, literalNumber}
 use Literal.{var, −_}
-use Rattle.text.specs.Bytes.{separates}
+use Rattle.text.specs.Standing.{separates}
 use Rattle.text.specs.Decimal.{decimal}
 use Rattle.text.proofs.Standing.{behind, next, fresh, whole}
 use Rattle.text.proofs.Each.{Each, none, also, each-append, each-at}

@@ -8,7 +8,7 @@ use Prim.Native.Nat.{ℕ, suc, pred, _+_, _≤_, _<_}
 use native.Mathlib.Numerals.{add-one}
 use native.Mathlib.Omega.{arith}
 use mathlib.Core.Path.{_≡_, refl, sym, _∙_, ap, ap₂}
-use mathlib.Core.Bool.{Bool, true, false, not, _&&_, _||_, So, cond, and-false, or-false}
+use mathlib.Core.Bool.{Bool, true, false, not, _&&_, _||_, So, cond, and-true, and-false, or-false}
 use mathlib.Core.List.{List, [], _∷_, _++_}
 use lib.Dec.{eqb, ltb}
 use lib.ListN.{length, getD, take, drop, set, length-set, take-append-drop}
@@ -86,7 +86,7 @@ tab-set n g rest v =
 tab-set-if : (n : ℕ) (g : ℕ → ℕ) (rest : List ℕ) (v h : ℕ) → So (isAtom n h) → (b : Bool)
     → cond b (set (tab n g ++ rest) (pred h) v) (tab n g ++ rest) ≡ tab n (λ a. cond (eqb h a && b) v (g a)) ++ rest
 tab-set-if n g rest v h t true =
-    tab-set n g rest v h t ∙ ap (λ (xs : List ℕ). xs ++ rest) (tab-ext n _ _ (λ j l. ap (λ (b : Bool). cond b v (g (suc j))) (sym (and-one (eqb h (suc j))))))
+    tab-set n g rest v h t ∙ ap (λ (xs : List ℕ). xs ++ rest) (tab-ext n _ _ (λ j l. ap (λ (b : Bool). cond b v (g (suc j))) (sym (and-true (eqb h (suc j))))))
 tab-set-if n g rest v h t false =
     ap (λ (xs : List ℕ). xs ++ rest) (tab-ext n _ _ (λ j l. ap (λ (b : Bool). cond b v (g (suc j))) (sym (and-false (eqb h (suc j))))))
 
