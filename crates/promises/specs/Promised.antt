@@ -63,8 +63,7 @@ use Rattle.call_lines_rows.specs.declared.RunVerdict.the-variants.{WrittenRun, 
 use Rattle.call_lines_rows.specs.Lines.{lineAnswer, lineBytes, runAnswer, runBytes}
 use Rattle.call_lines_rows.specs.Parts.{partsOf}
 use Rattle.call_lines_rows.specs.Rows.{LineRow, FirstLineRow, LineAnswers, RunWritten}
-use Rattle.answer_form.specs.Answer.{Answer, proper, answerText, OfStatus}
-use Rattle.answer_form.specs.Answer as Solver
+use Rattle.answer_form.specs.Answer.{Answer, Status, proper, answerText, HasAnswerForm, OfStatus, AnswerViable, AnswerMalformed}
 use Rattle.answer_form.specs.Pieces.{Spotted, LiteralAt}
 use Rattle.answer_values.specs.Rows.{AllFit}
 use Rattle.answer_offers.specs.Offered.{valuesOf, Completes, offeredText}
@@ -77,10 +76,8 @@ use Rattle.call_fill_rows.specs.declared.FillVerdict.the-variants.{Filled, Refu
 use Rattle.call_fill_rows.specs.FillOut.{fillAnswer, fillAssignment, fillLevels}
 use Rattle.call_fill_rows.specs.Rows.{FillRow, FirstFillRow, FillAnswers, FillAccepts, Fills}
 use Rattle.correspondence.specs.Accepted.{AcceptedAssignment, Room, CheckWrites, setBytes, SetOf}
-use Rattle.writer_output.specs.Output.{writerText}
-use Rattle.writer_output.specs.Output as Writer
-use Rattle.checker_output.specs.Output.{checkerText, PrintsModel}
-use Rattle.checker_output.specs.Output as Checker
+use Rattle.writer_output.specs.Output.{clauseFile, fileBefore, writerOutput, writerText}
+use Rattle.checker_output.specs.Output.{checkerOutput, checkerText, PrintsModel}
 use Rattle.exports.specs.Replies.{readReply, lineReply, runReply, checkReply, fillReply}
 
 -- ---- 1 Meaning
@@ -199,6 +196,8 @@ pub record ProgramText (t : List ℕ) : Type 0 where
   pub malformed-somewhere : (HasForm t → ⊥) → (s : ℕ) × Malformed t s
   pub one-spot : (s u : ℕ) → Malformed t s → Malformed t u → s ≡ u
   pub form-at-none : HasForm t → (s : ℕ) → Malformed t s → ⊥
+  -- an ending is a list of bytes: where some numbers end a text to its form, some bytes do
+  pub byte-ending : (u : List ℕ) → HasForm (t ++ u) → Viable t
   -- the reader answers row k with spot s exactly if k is the first row met in document 01's order, and s its spot
   pub refused : (k s : ℕ) → Answers t k s ↔ FirstRow t k s
   -- no two rows or spots are first
@@ -265,36 +264,38 @@ pub record WriterOutput (t : List ℕ) : Type 0 where
   -- where the reader refuses with row r and spot s, "(refused r s)"
   pub refused : (r s : ℕ) → Answers t r s → writerText t ≡ refusedText r s
   -- where it accepts, the whole clause file: all lines of its program, from line 0 on
-  pub written : (P : Program) → Admitted t P → writerText t ≡ Writer.clauseFile P
+  pub written : (P : Program) → Admitted t P → writerText t ≡ clauseFile P
   -- the first 65,537 bytes of the text and its length give the same
-  pub front : Writer.writerOutput (take 65537 t) (length t) ≡ writerText t
+  pub front : writerOutput (take 65537 t) (length t) ≡ writerText t
 
 -- the parts in which it hands over a clause file, each as many whole lines as fit 65,536 bytes; `fileBefore P j` are the lines before line j, joined
 pub record WriterParts (P : Program) : Type 0 where
   -- the parts, each from where the last one ended, joined, are the clause file; one for each line is enough
-  pub all-parts : joined (partsOf 65536 (suc (clauseTotal P)) (linesOf P)) ≡ Writer.clauseFile P
+  pub all-parts : joined (partsOf 65536 (suc (clauseTotal P)) (linesOf P)) ≡ clauseFile P
   -- at first nothing has been handed over
-  pub at-first : Writer.fileBefore P 0 ≡ []
+  pub at-first : fileBefore P 0 ≡ []
   -- where the lines before line j have been, the part of the lines from j on that fit is next, and then the lines before the one after them have been
-  pub next-part : (j : ℕ) → Writer.fileBefore P j ++ joined (runIn P j 65536) ≡ Writer.fileBefore P (j + fitting 65536 (drop j (linesOf P)))
+  pub next-part : (j : ℕ) → fileBefore P j ++ joined (runIn P j 65536) ≡ fileBefore P (j + fitting 65536 (drop j (linesOf P)))
   -- a part has at least one line
   pub some-line : (j : ℕ) → j ≤ clauseTotal P → zero < fitting 65536 (drop j (linesOf P))
   -- past line C all of the clause file has been handed over
-  pub at-last : (j : ℕ) → clauseTotal P < j → Writer.fileBefore P j ≡ Writer.clauseFile P
+  pub at-last : (j : ℕ) → clauseTotal P < j → fileBefore P j ≡ clauseFile P
 
 -- ---- 6 Solver answers: the bytes u are any
 
 pub record AnswerText (u : List ℕ) : Type 0 where
-  -- a text has the form, `HasForm`, if it is what `answerText` prints for some proper answer; no two proper answers have one text
+  -- a text has the form, `HasAnswerForm`, if it is what `answerText` prints for some proper answer; no two proper answers have one text
   pub one-answer : (a b : Answer) → So (proper a) → So (proper b) → u ≡ answerText a → u ≡ answerText b → a ≡ b
   -- a text that does not have the form is malformed at one spot, and a text of the form at none
-  pub malformed-somewhere : (Solver.HasAnswerForm u → ⊥) → (s : ℕ) × Solver.AnswerMalformed u s
-  pub one-spot : (s v : ℕ) → Solver.AnswerMalformed u s → Solver.AnswerMalformed u v → s ≡ v
-  pub form-at-none : Solver.HasAnswerForm u → (s : ℕ) → Solver.AnswerMalformed u s → ⊥
+  pub malformed-somewhere : (HasAnswerForm u → ⊥) → (s : ℕ) × AnswerMalformed u s
+  pub one-spot : (s v : ℕ) → AnswerMalformed u s → AnswerMalformed u v → s ≡ v
+  pub form-at-none : HasAnswerForm u → (s : ℕ) → AnswerMalformed u s → ⊥
+  -- an ending is a list of bytes: where some numbers end a text to its form, some bytes do
+  pub byte-ending : (v : List ℕ) → HasAnswerForm (u ++ v) → AnswerViable u
   -- a text of the form has the status SATISFIABLE and offers literals, or has another status
-  pub of-form : Solver.HasAnswerForm u → ((xs : List Spotted) × Offers u xs) ⊎ ((x : Solver.Status) × OfStatus u x)
+  pub of-form : HasAnswerForm u → ((xs : List Spotted) × Offers u xs) ⊎ ((x : Status) × OfStatus u x)
   -- and never both
-  pub one-status : (xs : List Spotted) (x : Solver.Status) → Offers u xs → OfStatus u x → ⊥
+  pub one-status : (xs : List Spotted) (x : Status) → Offers u xs → OfStatus u x → ⊥
   -- it offers one list of literals alone
   pub one-list : (xs ys : List Spotted) → Offers u xs → Offers u ys → xs ≡ ys
   -- and has each of them at its index, from its first byte on
@@ -329,7 +330,7 @@ pub record CheckerOutput (t u : List ℕ) : Type 0 where
   -- model, and their level numbers
   pub shown : (k h c : ℕ) → checkAnswer t u 9890 126 ≡ Model k h c → PrintsModel t u c
   -- the first 65,537 bytes of each and its length give the same
-  pub front : Checker.checkerOutput (take 65537 t) (length t) (take 65537 u) (length u) ≡ checkerText t u
+  pub front : checkerOutput (take 65537 t) (length t) (take 65537 u) (length u) ≡ checkerText t u
 
 -- ---- 8 Filling out: the program text t, the set s, the buffers b for the assignment and l for the levels are any
 
