@@ -8,7 +8,7 @@ use mathlib.Core.List.{[], _∷_, map}
 use lib.ListN.{getD}
 use Rattle.lists.specs.Lists.{tab, sum, highest}
 use Rattle.meaning.specs.Program.{wellFormed}
-use Rattle.meaning.specs.Stage.{reduct, stage, Stable, level, levelIn, differ}
+use Rattle.meaning.specs.Stage.{reduct, stage, InUnion, Stable, level, levelIn, differ}
 use Rattle.meaning.specs.Gaps.{WithoutGaps}
 use Rattle.meaning.specs.Samples.{setOf, program, rule, fact, ring, lecture, selfNegating, blocked}
 
@@ -68,11 +68,11 @@ empty-lacks-fact s = false≢true (s .closed 1 (1, refl))
 -- an atom that no rule gives is in no stable model
 unfounded-one : Stable (program 1 []) (setOf (1 ∷ [])) → ⊥
 unfolding stage reduct
-unfounded-one s = let u = s .founded 1 refl in none (u .0) (u .1)
+unfounded-one s = none (s .founded 1 refl)
   where
-    none : (i : ℕ) → So (stage (reduct (program 1 []) (setOf (1 ∷ []))) i 1) → ⊥
-    none zero t = false≢true t
-    none (suc i) t = false≢true t
+    none : InUnion (reduct (program 1 []) (setOf (1 ∷ []))) 1 → ⊥
+    none (zero, t) = false≢true t
+    none (suc i, t) = false≢true t
 
 -- the atoms of a well-formed program are 1 to n, in heads and in both lists
 ranges : map wellFormed
