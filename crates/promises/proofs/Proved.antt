@@ -59,6 +59,7 @@ use Rattle.call_fill_rows.proofs.Written.{fill-accepted, fill-kept}
 use Rattle.correspondence.proofs.Correspond as Correspond
 use Rattle.correspondence.proofs.Gaps.{check-gaps, fill-gaps}
 use Rattle.correspondence.proofs.Texts.{checked-exactly, line-prints, level-bytes, level-of-false, fills-exactly}
+use Rattle.files.proofs.Count.{all-counted}
 use Rattle.writer_output.proofs.Outputs.{front-output, writer-lists, writer-refuses}
 use Rattle.checker_output.proofs.Shown.{output-whole}
 use Rattle.checker_output.proofs.Printed.{checker-refuses, checker-shows}
@@ -350,6 +351,7 @@ proved =
       demand3 = λ P form. demand3-at P (width (P .atoms)) form (width-enough (P .atoms));
       program-text = program-text;
       counted-input = counted-whole;
+      counted-reads = λ k ns. all-counted ns k k;
       clause-file = clause-file;
       line-call = line-call;
       run-call = run-call;

@@ -25,7 +25,7 @@
 use Prim.Native.Nat.{ℕ, zero, suc, pred, _+_, _-_, _^_, _%_, _≤_, _<_}
 use mathlib.Core.Path.{_≡_}
 use mathlib.Core.Logic.{_↔_, _⊎_}
-use mathlib.Core.Bool.{Bool, false, not, So, cond}
+use mathlib.Core.Bool.{Bool, true, false, not, So, cond}
 use mathlib.Core.List.{List, [], _∷_, _++_}
 use lib.Count.{leadingZeros}
 use lib.Dec.{eqb, ltb}
@@ -76,6 +76,7 @@ use Rattle.call_fill_rows.specs.declared.FillVerdict.the-variants.{Filled, Refu
 use Rattle.call_fill_rows.specs.FillOut.{fillAnswer, fillAssignment, fillLevels}
 use Rattle.call_fill_rows.specs.Rows.{FillRow, FirstFillRow, FillAnswers, FillAccepts, Fills}
 use Rattle.correspondence.specs.Accepted.{AcceptedAssignment, Room, CheckWrites, setBytes, SetOf}
+use Rattle.files.specs.Count.{mostCounted, counted, firstRead, readAll, bytesIn}
 use Rattle.writer_output.specs.Output.{clauseFile, fileBefore, writerOutput, writerText}
 use Rattle.checker_output.specs.Output.{checkerOutput, checkerText, PrintsModel}
 use Rattle.exports.specs.Replies.{readReply, lineReply, runReply, checkReply, fillReply}
@@ -259,7 +260,9 @@ pub record RunCall (t : List ℕ) (j : ℕ) (b : List ℕ) : Type 0 where
   -- accepted, it writes m lines, those that the line call writes for j, j + 1, .., one after the other, and as many as fit; the other bytes stay
   pub written : (m x : ℕ) → runAnswer t j (length b) ≡ WrittenRun m x → (P : Program) → Admitted t P → RunWritten P j b m x (runBytes t j b)
 
--- what the writer program hands to its output, all parts joined, for the program text t
+-- `writerText t` is all that the writer program has to hand to its output for the program text t. Of the code three things are proved: what is put into its
+-- buffer is each time the next part (`WriterParts`) or the refusal's line, the loop ends with the last part, and the bytes that it counts as handed over are
+-- as many as `writerText t` has (proofs/Contracts.antt, `say-output`). That it hands over each part that it counts is no statement: it is read off the loop.
 pub record WriterOutput (t : List ℕ) : Type 0 where
   -- where the reader refuses with row r and spot s, "(refused r s)"
   pub refused : (r s : ℕ) → Answers t r s → writerText t ≡ refusedText r s
@@ -465,6 +468,9 @@ pub record Promised : Type 1 where
   pub program-text : (t : List ℕ) → ProgramText t
   -- 4: the first 65,537 bytes of a text and its length give the reader's answer to the whole text
   pub counted-input : (t : List ℕ) → countedOf (take 65537 t) (length t) ≡ readOf t
+  -- 4: an input of which a first read gives k bytes, further ones ns bytes, none of them 0, and then one none, is counted as k bytes and those of ns
+  pub counted-reads : (k : ℕ) (ns : List ℕ) → So (all (λ m. ltb 0 m) ns) → k + bytesIn ns ≤ mostCounted
+      → readAll (firstRead k) (ns ++ (0 ∷ [])) ≡ counted k (k + bytesIn ns) true
   -- 5: the lines of the clause file of every program within the limits
   pub clause-file : (P : Program) → Limits P → ClauseFile P
   -- 5: the line call, for any bytes
