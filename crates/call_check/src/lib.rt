@@ -14,9 +14,10 @@ use reader::read;
 use refusals::CheckRefusal;
 ghost use mathlib.Core.Path.{_≡_};
 ghost use lib.ListN.{length};
+ghost use Rattle.encoding.specs.Code.{codeOf};
 ghost use Rattle.program.specs.Arrays.{decoded};
 ghost use Rattle.reader.specs.declared.ReadVerdict.the-variants.{Accepted};
-ghost use Rattle.clause_tables.specs.Tables.{Stored, programIn, Ready};
+ghost use Rattle.clause_tables.specs.Tables.{Stored, codeIn, Ready};
 ghost use Rattle.call_check_rows.specs.declared.CheckVerdict.the-variants.{Refused};
 ghost use Rattle.call_results.specs.Results.{programRead};
 ghost use Rattle.call_check_rows.specs.Check.{CheckGives, checkResult, callResult, checkAnswer, checkAssignment, checkLevels};
@@ -37,8 +38,8 @@ fn check_in<'a>(
     levels: &mut [u8],
 ) -> CheckVerdict
     requires { ⌜ Ready t (now heads) (now starts) (now bodies) (now before) (now partners) (now owners) ⌝ }
-    ensures { λ r. ⌜ CheckGives (programIn (t .sizes) (now (heads .entry)) (now (starts .entry)) (now (bodies .entry)))
-        (checkResult (programIn (t .sizes) (now (heads .entry)) (now (starts .entry)) (now (bodies .entry))) (now (answer .entry)) total
+    ensures { λ r. ⌜ CheckGives (codeIn t (now (heads .entry)) (now (starts .entry)) (now (bodies .entry)))
+        (checkResult (codeIn t (now (heads .entry)) (now (starts .entry)) (now (bodies .entry))) (now (answer .entry)) total
         (length (now (assignment .entry))) (length (now (levels .entry)))) r (now (assignment .entry)) (now (assignment .exit))
         (now (levels .entry)) (now (levels .exit)) ⌝ }
 {
@@ -83,8 +84,8 @@ fn check_program(
     levels: &mut [u8],
 ) -> CheckVerdict
     requires { ⌜ Stored p ⌝ }
-    ensures { λ r. ⌜ CheckGives (decoded p)
-        (checkResult (decoded p) (now (answer .entry)) total (length (now (assignment .entry))) (length (now (levels .entry)))) r
+    ensures { λ r. ⌜ CheckGives (codeOf (decoded p))
+        (checkResult (codeOf (decoded p)) (now (answer .entry)) total (length (now (assignment .entry))) (length (now (levels .entry)))) r
         (now (assignment .entry)) (now (assignment .exit)) (now (levels .entry)) (now (levels .exit)) ⌝ }
 {
     let k = pairs_of(p);
@@ -113,7 +114,7 @@ pub fn check_read(
     levels: &mut [u8],
 ) -> CheckVerdict
     requires { ⌜ (x .verdict ≡ Accepted → Stored (x .program)) ⌝ }
-    ensures { λ r. ⌜ CheckGives (programRead x)
+    ensures { λ r. ⌜ CheckGives (codeOf (programRead x))
         (callResult x (now (answer .entry)) total (length (now (assignment .entry))) (length (now (levels .entry)))) r (now (assignment .entry))
         (now (assignment .exit)) (now (levels .entry)) (now (levels .exit)) ⌝ }
 {

@@ -13,7 +13,7 @@ use truth_clauses::first_false;
 ghost use Prim.Native.Nat.{_≤_};
 ghost use mathlib.Core.Path.{_≡_};
 ghost use lib.ListN.{length, take};
-ghost use Rattle.clause_tables.specs.Tables.{programIn, Ready};
+ghost use Rattle.clause_tables.specs.Tables.{codeIn, Ready};
 ghost use Rattle.answer_values.specs.Assign.{completed, overwritten};
 ghost use Rattle.call_check_rows.specs.declared.CheckVerdict.the-variants.{Refused};
 ghost use Rattle.call_check_rows.specs.Check.{CheckGives, valuesJudged, outcomeOf, afterAssigning};
@@ -42,8 +42,8 @@ fn judge<'a>(
 ) -> CheckVerdict
     requires { ⌜ (Ready t (now heads) (now starts) (now bodies) (now before) (now partners) (now owners)) × (t .vars ≤ length (now assignment))
         × (t .sizes .n ≤ length (now levels)) ⌝ }
-    ensures { λ r. ⌜ CheckGives (programIn (t .sizes) (now (heads .entry)) (now (starts .entry)) (now (bodies .entry)))
-        (valuesJudged (programIn (t .sizes) (now (heads .entry)) (now (starts .entry)) (now (bodies .entry))) assumed
+    ensures { λ r. ⌜ CheckGives (codeIn t (now (heads .entry)) (now (starts .entry)) (now (bodies .entry)))
+        (valuesJudged (codeIn t (now (heads .entry)) (now (starts .entry)) (now (bodies .entry))) assumed
         (take (t .vars) (now (assignment .entry)))) r (now (assignment .entry)) (now (assignment .exit)) (now (levels .entry)) (now (levels .exit)) ⌝ }
 {
     let j = first_false(
@@ -84,9 +84,9 @@ pub fn assigned<'a>(
 ) -> CheckVerdict
     requires { ⌜ (Ready t (now heads) (now starts) (now bodies) (now before) (now partners) (now owners)) × (t .vars ≤ length (now values))
         × (t .vars ≤ length (now assignment)) × (t .sizes .n ≤ length (now levels)) ⌝ }
-    ensures { λ r. ⌜ CheckGives (programIn (t .sizes) (now (heads .entry)) (now (starts .entry)) (now (bodies .entry)))
+    ensures { λ r. ⌜ CheckGives (codeIn t (now (heads .entry)) (now (starts .entry)) (now (bodies .entry)))
         (afterAssigning (outcomeOf (x .outcome))
-        (valuesJudged (programIn (t .sizes) (now (heads .entry)) (now (starts .entry)) (now (bodies .entry))) (x .assumed)
+        (valuesJudged (codeIn t (now (heads .entry)) (now (starts .entry)) (now (bodies .entry))) (x .assumed)
         (completed (take (t .vars) (now (values .entry)))))) r (now (assignment .entry)) (now (assignment .exit)) (now (levels .entry))
         (now (levels .exit)) ⌝ }
 {

@@ -17,18 +17,17 @@ use Rattle.lists.proofs.Bools.{and-left, and-right}
 use Rattle.lists.proofs.Tests.{all-at}
 use Rattle.lists.proofs.Tables.{tab-ext, sum-ext}
 use Rattle.lists.proofs.First.{first-ext}
-use Rattle.meaning.specs.Program.{Program, isAtom}
-use Rattle.encoding.specs.Width.{width}
+use Rattle.meaning.specs.Program.{isAtom}
 use Rattle.encoding.specs.Literal.{Literal, var, −_, variable, Clause, literalTrue, clauseTrue}
 use Rattle.encoding.specs.Variables.{Sizes, levelVar}
-use Rattle.encoding.specs.Clauses.{sizes, clauses, variables}
+use Rattle.encoding.specs.Code.{Code, codeSizes, clausesOf, variablesOf}
 use Rattle.theory.proofs.Atoms.{atom-pos, atom-le}
 use Rattle.theory.proofs.Bits.{value-ext}
-use Rattle.theory.proofs.Base.{clauses-within}
-use Rattle.theory.proofs.Widths.{width-enough}
-use Rattle.text.specs.Limits.{Limits}
+use Rattle.theory.proofs.Occurs.{clauses-fit}
+use Rattle.clause_tables.specs.Tables.{Limited}
+use Rattle.clause_table_laws.proofs.Elements.{ranges}
 use Rattle.answer_values.specs.Assign.{unsetCount}
-use Rattle.truth_clauses.specs.Truth.{valueIn, falseAt, firstFalse}
+use Rattle.truth_clauses.specs.Truth.{valueIn, codeFalse, codeFirstFalse}
 use Rattle.call_results.specs.Results.{trueCount, counters}
 use Rattle.call_results.proofs.ValueBytes.{atoms-within}
 
@@ -56,33 +55,32 @@ pub unset-front : (b : List ℕ) (n : ℕ) → unsetCount n (take n b) ≡ unset
 unfolding unsetCount
 unset-front b n = sum-ext n _ _ (λ i h. ap (λ (x : ℕ). cond (eqb x 2) 1 0) (getD-take n b (suc i - 1) 0 (omega (arith, h))))
 
-module _ (P : Program) (L : Limits P) (b : List ℕ) where
+module _ (G : Code) (L : Limited G) (b : List ℕ) where
   abbrev V′ : ℕ
-  V′ = variables P (width (P .atoms))
+  V′ = variablesOf G
 
   abbrev S : Sizes
-  S = sizes P (width (P .atoms))
+  S = codeSizes G
 
   abbrev cs : List Clause
-  cs = clauses P (width (P .atoms))
+  cs = clausesOf G
 
-  pub false-front : firstFalse P (take V′ b) ≡ firstFalse P b
-  unfolding firstFalse
+  pub false-front : codeFirstFalse G (take V′ b) ≡ codeFirstFalse G b
+  unfolding codeFirstFalse
   false-front =
-      first-ext (length cs) (falseAt P (take V′ b)) (falseAt P b)
+      first-ext (length cs) (codeFalse G (take V′ b)) (codeFalse G b)
       (λ j h. ap not
       (clause-same (valueIn (take V′ b)) (valueIn b) V′ (value-front b V′) (getD cs j [])
-      (all-at (λ c. all (λ l. isAtom V′ (variable l)) c) cs [] (clauses-within P (width (P .atoms)) (L .all-atoms) (width-enough (P .atoms))) j h)))
+      (all-at (λ c. all (λ l. isAtom V′ (variable l)) c) cs [] (clauses-fit G (ranges G L) (L .some-bit)) j h)))
 
-  pub true-front : trueCount (P .atoms) (take V′ b) ≡ trueCount (P .atoms) b
+  pub true-front : trueCount (G .n) (take V′ b) ≡ trueCount (G .n) b
   unfolding trueCount
-  true-front = sum-ext (P .atoms) _ _ (λ i h. ap (λ x. cond x 1 0) (value-front b V′ (suc i) (omega arith) (omega (arith, h, atoms-within P))))
+  true-front = sum-ext (G .n) _ _ (λ i h. ap (λ x. cond x 1 0) (value-front b V′ (suc i) (omega arith) (omega (arith, h, atoms-within G))))
 
-  level-within : (a i : ℕ) → a < P .atoms → i < S .w → levelVar S (suc a) (suc i) ≤ V′
-  unfolding variables
+  level-within : (a i : ℕ) → a < G .n → i < S .w → levelVar S (suc a) (suc i) ≤ V′
   level-within a i h g = omega (arith, mul-le-mul-right (S .w) h, g)
 
   pub counters-front : counters S (take V′ b) ≡ counters S b
   counters-front =
-      tab-ext (P .atoms) _ _
+      tab-ext (G .n) _ _
       (λ a h. value-ext (λ i. valueIn (take V′ b) (levelVar S (suc a) i)) (λ i. valueIn b (levelVar S (suc a) i)) (S .w) (λ i g. value-front b V′ (levelVar S (suc a) (suc i)) (omega arith) (level-within a i h g)))

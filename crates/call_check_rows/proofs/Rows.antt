@@ -16,10 +16,8 @@ use borrow.Author.Tests.{lt-ltb, le-ltb}
 use Rattle.lists.specs.Lists.{tab, highest}
 use Rattle.lists.proofs.Tables.{length-tab, getD-here}
 use Rattle.lists.proofs.Highest.{highest-same}
-use Rattle.meaning.specs.Program.{Program}
-use Rattle.encoding.specs.Width.{width}
+use Rattle.encoding.specs.Code.{Code, codeSizes, variablesOf}
 use Rattle.encoding.specs.Fill.{counter}
-use Rattle.encoding.specs.Clauses.{sizes, variables}
 use Rattle.clause_literals.specs.declared.Sizes.{Sizes}
 use Rattle.clause_literals.specs.Sizes.{sizesOf, Bounded}
 use Rattle.answer_reader.specs.declared.Formed.{Formed}
@@ -34,11 +32,11 @@ use Rattle.answer_values.proofs.Rows.{literals-named}
 use Rattle.answer_values.proofs.OnePass.{read-formed}
 use Rattle.answer_offers.proofs.Values.{any-outcome, any-bytes}
 use Rattle.clause_tables.specs.declared.Totals.{Totals}
-use Rattle.clause_tables.specs.Tables.{countersOf, totalsOf, Tabled}
+use Rattle.clause_tables.specs.Tables.{totalsOf, Tabled}
 use Rattle.clause_table_laws.proofs.Elements.{atoms-are, vars-are, bounded}
 use Rattle.clause_table_laws.proofs.Bounds.{vars-short}
-use Rattle.truth_clauses.specs.Truth.{valueIn, firstFalse}
-use Rattle.call_results.specs.Results.{Result, trueCount, levelByte, counters, assignmentAfter, varTotal}
+use Rattle.truth_clauses.specs.Truth.{valueIn, codeFirstFalse}
+use Rattle.call_results.specs.Results.{Result, trueCount, levelByte, counters, assignmentAfter}
 use Rattle.refusals.specs.declared.CheckRefusal.{CheckRefusal}
 use Rattle.refusals.specs.declared.CheckRefusal.the-variants.{ShortBuffer, OverlongAnswer, MalformedAnswer, NoModelOffered, StrayVariable, RepeatedVariable, FalseClause}
 use Rattle.call_check_rows.specs.declared.CheckVerdict.{CheckVerdict}
@@ -48,42 +46,42 @@ use Rattle.call_check_rows.proofs.Agree.{unset-front, false-front, true
 
 -- ---- refusals
 
-module _ (P : Program) {x : Result CheckRefusal} {q : CheckRefusal} (e : x ≡ checkRefused q) (b l : List ℕ) where
+module _ (G : Code) {x : Result CheckRefusal} {q : CheckRefusal} (e : x ≡ checkRefused q) (b l : List ℕ) where
   -- one that writes nothing
-  pub gives-refused : zeroes q ≡ false → CheckGives P x (Refused q) b b l l
+  pub gives-refused : zeroes q ≡ false → CheckGives G x (Refused q) b b l l
   gives-refused z =
-      subst (λ (y : Result CheckRefusal). CheckGives P y (Refused q) b b l l) (sym e) (refl, sym (ap (λ d. cond d (overwritten (varTotal P) 0 b) b) z), refl)
+      subst (λ (y : Result CheckRefusal). CheckGives G y (Refused q) b b l l) (sym e) (refl, sym (ap (λ d. cond d (overwritten (variablesOf G) 0 b) b) z), refl)
 
   -- one that leaves zeros
-  pub gives-zeroed : zeroes q ≡ true → {r : CheckVerdict} {c : List ℕ} → (r ≡ Refused q) × (c ≡ overwritten (varTotal P) 0 b) → CheckGives P x r b c l l
+  pub gives-zeroed : zeroes q ≡ true → {r : CheckVerdict} {c : List ℕ} → (r ≡ Refused q) × (c ≡ overwritten (variablesOf G) 0 b) → CheckGives G x r b c l l
   gives-zeroed z {r} {c} u =
-      subst (λ (y : Result CheckRefusal). CheckGives P y r b c l l) (sym e) (u .0, u .1 ∙ sym (ap (λ d. cond d (overwritten (varTotal P) 0 b) b) z), refl)
+      subst (λ (y : Result CheckRefusal). CheckGives G y r b c l l) (sym e) (u .0, u .1 ∙ sym (ap (λ d. cond d (overwritten (variablesOf G) 0 b) b) z), refl)
 
 -- ---- row 16
 
 -- u of the values bs are assumed
-module _ (P : Program) (u : ℕ) (bs : List ℕ) where
+module _ (G : Code) (u : ℕ) (bs : List ℕ) where
   abbrev judgedBy : Bool → Result CheckRefusal
-  judgedBy f = cond f (checkRefused (FalseClause (firstFalse P bs))) (Result.accepted u bs (counters (sizes P (width (P .atoms))) bs))
+  judgedBy f = cond f (checkRefused (FalseClause (codeFirstFalse G bs))) (Result.accepted u bs (counters (codeSizes G) bs))
 
-  judged-by : {f : Bool} → ltb 0 (firstFalse P bs) ≡ f → valuesJudged P u bs ≡ judgedBy f
+  judged-by : {f : Bool} → ltb 0 (codeFirstFalse G bs) ≡ f → valuesJudged G u bs ≡ judgedBy f
   unfolding valuesJudged
   judged-by q = ap judgedBy q
 
-  pub judged-16 : 0 < firstFalse P bs → valuesJudged P u bs ≡ checkRefused (FalseClause (firstFalse P bs))
-  judged-16 g = judged-by (lt-ltb 0 (firstFalse P bs) g)
+  pub judged-16 : 0 < codeFirstFalse G bs → valuesJudged G u bs ≡ checkRefused (FalseClause (codeFirstFalse G bs))
+  judged-16 g = judged-by (lt-ltb 0 (codeFirstFalse G bs) g)
 
-  pub judged-none : firstFalse P bs ≤ 0 → valuesJudged P u bs ≡ Result.accepted u bs (counters (sizes P (width (P .atoms))) bs)
-  judged-none g = judged-by (le-ltb 0 (firstFalse P bs) g)
+  pub judged-none : codeFirstFalse G bs ≤ 0 → valuesJudged G u bs ≡ Result.accepted u bs (counters (codeSizes G) bs)
+  judged-none g = judged-by (le-ltb 0 (codeFirstFalse G bs) g)
 
   -- whatever it is, it leaves nothing of the first V bytes of the buffer
-  judged-rest : (b c : List ℕ) → drop (varTotal P) b ≡ drop (varTotal P) c
-      → assignmentAfter zeroes (varTotal P) (valuesJudged P u bs) b ≡ assignmentAfter zeroes (varTotal P) (valuesJudged P u bs) c
+  judged-rest : (b c : List ℕ) → drop (variablesOf G) b ≡ drop (variablesOf G) c
+      → assignmentAfter zeroes (variablesOf G) (valuesJudged G u bs) b ≡ assignmentAfter zeroes (variablesOf G) (valuesJudged G u bs) c
   unfolding valuesJudged overwritten
-  judged-rest b c e = go (ltb 0 (firstFalse P bs))
+  judged-rest b c e = go (ltb 0 (codeFirstFalse G bs))
     where
-      go : (f : Bool) → assignmentAfter zeroes (varTotal P) (judgedBy f) b ≡ assignmentAfter zeroes (varTotal P) (judgedBy f) c
-      go true = ap (λ (y : List ℕ). replicate (varTotal P) 0 ++ y) e
+      go : (f : Bool) → assignmentAfter zeroes (variablesOf G) (judgedBy f) b ≡ assignmentAfter zeroes (variablesOf G) (judgedBy f) c
+      go true = ap (λ (y : List ℕ). replicate (variablesOf G) 0 ++ y) e
       go false = ap (λ (y : List ℕ). bs ++ y) e
 
 -- ---- the outcome of assigning, from the code's answer
@@ -102,72 +100,71 @@ filled-front (suc n) (suc k) x h = ap (λ (b : List ℕ). x ∷ b) (filled-front
 
 -- ---- the same, with the totals given
 
-levels-room : (P : Program) {b : ℕ} → varTotal P ≤ b → countersOf P .n + 2 * countersOf P .m + countersOf P .n * countersOf P .w ≤ b
-unfolding variables
-levels-room P h = omega (arith, h)
+levels-room : (G : Code) {b : ℕ} → variablesOf G ≤ b → G .n + 2 * length (G .rules) + G .n * G .w ≤ b
+levels-room G h = omega (arith, h)
 
-module _ {P : Program} {t : Totals} {hs ss bs ks xs ys : List ℕ} (T : Tabled P t hs ss bs ks xs ys) where
-  sizes-are : t .sizes ≡ countersOf P
+module _ {G : Code} {t : Totals} {hs ss bs ks xs ys : List ℕ} (T : Tabled G t hs ss bs ks xs ys) where
+  sizes-are : t .sizes ≡ record { n = G .n; m = length (G .rules); w = G .w }
   unfolding totalsOf
   sizes-are = ap (λ (y : Totals). y .sizes) (T .totals-are)
 
-  pub atoms-is : t .sizes .n ≡ P .atoms
-  atoms-is = atoms-are P t hs ss bs ks xs ys T
+  pub atoms-is : t .sizes .n ≡ G .n
+  atoms-is = atoms-are G t hs ss bs ks xs ys T
 
-  vars-is : t .vars ≡ varTotal P
-  vars-is = vars-are P t hs ss bs ks xs ys T
+  vars-is : t .vars ≡ variablesOf G
+  vars-is = vars-are G t hs ss bs ks xs ys T
 
   pub vars-few : t .vars ≤ 9890
   vars-few = vars-short T
 
   -- what holds of V holds of the number of variables that the totals have
-  at-vars : (Q : ℕ → Type 0) → Q (varTotal P) → Q (t .vars)
+  at-vars : (Q : ℕ → Type 0) → Q (variablesOf G) → Q (t .vars)
   at-vars Q q = subst Q (sym vars-is) q
 
   pub counters-asks : {b l : ℕ} → t .vars ≤ b → t .sizes .n ≤ l → (Bounded (t .sizes)) × (t .sizes .n + 2 * t .sizes .m + t .sizes .n * t .sizes .w ≤ b) × (t .sizes .n ≤ l)
   counters-asks {b} {l} h g =
-      (bounded P t hs ss bs ks xs ys T, subst (λ (s : Sizes). s .n + 2 * s .m + s .n * s .w ≤ b) (sym sizes-are) (levels-room P (subst (λ (k : ℕ). k ≤ b) vars-is h)), g)
+      (bounded G t hs ss bs ks xs ys T, subst (λ (s : Sizes). s .n + 2 * s .m + s .n * s .w ≤ b) (sym sizes-are) (levels-room G (subst (λ (k : ℕ). k ≤ b) vars-is h)), g)
 
   pub atoms-room : {b : ℕ} → t .vars ≤ b → t .sizes .n ≤ b
   atoms-room {b} h = omega (arith, counters-asks {b = b} {l = t .sizes .n} h (omega arith) .1)
 
   -- ---- row 16, and acceptance
 
-  module _ (b l : List ℕ) (u : ℕ) {j : ℕ} (f : j ≡ firstFalse P b) where
-    false-is : firstFalse P (take (varTotal P) b) ≡ j
-    false-is = false-front P (T .limits) b ∙ sym f
+  module _ (b l : List ℕ) (u : ℕ) {j : ℕ} (f : j ≡ codeFirstFalse G b) where
+    false-is : codeFirstFalse G (take (variablesOf G) b) ≡ j
+    false-is = false-front G (T .limits) b ∙ sym f
 
     pub judged-false : 0 < j → {r : CheckVerdict} {c : List ℕ} → (r ≡ Refused (FalseClause j)) × (c ≡ overwritten (t .vars) 0 b)
-        → CheckGives P (valuesJudged P u (take (t .vars) b)) r b c l l
+        → CheckGives G (valuesJudged G u (take (t .vars) b)) r b c l l
     judged-false h {r} {c} w =
-        at-vars (λ k. CheckGives P (valuesJudged P u (take k b)) r b c l l)
-        (gives-zeroed P (judged-16 P u (take (varTotal P) b) (subst (λ (k : ℕ). 0 < k) (sym false-is) h) ∙ ap (λ (k : ℕ). checkRefused (FalseClause k)) false-is) b l refl
+        at-vars (λ k. CheckGives G (valuesJudged G u (take k b)) r b c l l)
+        (gives-zeroed G (judged-16 G u (take (variablesOf G) b) (subst (λ (k : ℕ). 0 < k) (sym false-is) h) ∙ ap (λ (k : ℕ). checkRefused (FalseClause k)) false-is) b l refl
         (w .0, w .1 ∙ ap (λ (k : ℕ). overwritten k 0 b) vars-is))
 
     pub judged-accepted : j ≤ 0 → {m : List ℕ} {k h : ℕ} → m ≡ tab (t .sizes .n) (counter (sizesOf (t .sizes)) (valueIn b)) ++ drop (t .sizes .n) l
-        → k ≡ trueCount (t .sizes .n) b → h ≡ highest (t .sizes .n) (levelByte m) → CheckGives P (valuesJudged P u (take (t .vars) b)) (Model k h u) b b l m
+        → k ≡ trueCount (t .sizes .n) b → h ≡ highest (t .sizes .n) (levelByte m) → CheckGives G (valuesJudged G u (take (t .vars) b)) (Model k h u) b b l m
     judged-accepted g {m} {k} {h} x y w =
-        at-vars (λ k′. CheckGives P (valuesJudged P u (take k′ b)) (Model k h u) b b l m)
-        (subst (λ (q : Result CheckRefusal). CheckGives P q (Model k h u) b b l m)
-        (sym (judged-none P u (take (varTotal P) b) (subst (λ (k : ℕ). k ≤ 0) (sym false-is) g))) (
-          ap₂ (λ (x y : ℕ). Model x y u) (y ∙ ap (λ (i : ℕ). trueCount i b) atoms-is ∙ sym (true-front P (T .limits) b))
-              (w ∙ ap (λ (i : ℕ). highest i (levelByte m)) atoms-is ∙ highest-same (P .atoms) (levelByte m) (levelByte cs) same-level),
-          sym (take-append-drop (varTotal P) b),
+        at-vars (λ k′. CheckGives G (valuesJudged G u (take k′ b)) (Model k h u) b b l m)
+        (subst (λ (q : Result CheckRefusal). CheckGives G q (Model k h u) b b l m)
+        (sym (judged-none G u (take (variablesOf G) b) (subst (λ (k : ℕ). k ≤ 0) (sym false-is) g))) (
+          ap₂ (λ (x y : ℕ). Model x y u) (y ∙ ap (λ (i : ℕ). trueCount i b) atoms-is ∙ sym (true-front G (T .limits) b))
+              (w ∙ ap (λ (i : ℕ). highest i (levelByte m)) atoms-is ∙ highest-same (G .n) (levelByte m) (levelByte cs) same-level),
+          sym (take-append-drop (variablesOf G) b),
           levels-are,
         ))
       where
         cs : List ℕ
-        cs = counters (sizes P (width (P .atoms))) (take (varTotal P) b)
+        cs = counters (codeSizes G) (take (variablesOf G) b)
 
-        levels-are : m ≡ cs ++ drop (P .atoms) l
+        levels-are : m ≡ cs ++ drop (G .n) l
         levels-are =
             x ∙ ap (λ (s : Sizes). tab (s .n) (counter (sizesOf s) (valueIn b)) ++ drop (s .n) l) sizes-are
-            ∙ ap (λ (y : List ℕ). y ++ drop (P .atoms) l) (sym (counters-front P (T .limits) b))
+            ∙ ap (λ (y : List ℕ). y ++ drop (G .n) l) (sym (counters-front G (T .limits) b))
 
-        same-level : (i : ℕ) → i < P .atoms → levelByte m (suc i) ≡ levelByte cs (suc i)
+        same-level : (i : ℕ) → i < G .n → levelByte m (suc i) ≡ levelByte cs (suc i)
         same-level i p =
             ap (λ (y : List ℕ). getD y i 0) levels-are
-            ∙ getD-here cs (drop (P .atoms) l) 0 (P .atoms) i (length-tab (P .atoms) (counter (sizes P (width (P .atoms))) (valueIn (take (varTotal P) b)))) p
+            ∙ getD-here cs (drop (G .n) l) 0 (G .n) i (length-tab (G .n) (counter (codeSizes G) (valueIn (take (variablesOf G) b)))) p
 
   -- ---- rows 13 and 14
 
@@ -176,13 +173,13 @@ module _ {P : Program} {t : Totals} {hs ss bs ks xs ys : List ℕ} (T : Tabled P
     values = completed (take (t .vars) vs)
 
     abbrev next : Assigned → Result CheckRefusal
-    next o = afterAssigning (outcomeOf o) (valuesJudged P u values)
+    next o = afterAssigning (outcomeOf o) (valuesJudged G u values)
 
     -- o says that each literal is assigned; b₂ is the buffer with the values vs, completed
     pub assigned-judged : {o : Assigned} → o ≡ Done → t .vars ≤ length vs → {b₂ : List ℕ} → b₂ ≡ values ++ drop (t .vars) b → {r : CheckVerdict} {c m : List ℕ}
-        → CheckGives P (valuesJudged P u (take (t .vars) b₂)) r b₂ c l m → CheckGives P (next o) r b c l m
+        → CheckGives G (valuesJudged G u (take (t .vars) b₂)) r b₂ c l m → CheckGives G (next o) r b c l m
     assigned-judged d h {b₂} e {r} {c} {m} w =
-        subst (λ (a : Assigned). CheckGives P (next a) r b c l m) (sym d) (then (subst (λ (y : List ℕ). CheckGives P (valuesJudged P u y) r b₂ c l m) front-is w))
+        subst (λ (a : Assigned). CheckGives G (next a) r b c l m) (sym d) (then (subst (λ (y : List ℕ). CheckGives G (valuesJudged G u y) r b₂ c l m) front-is w))
       where
         front-length : length values ≡ t .vars
         front-length = length-map (take (t .vars) vs) completedByte ∙ length-take-le (t .vars) vs h
@@ -190,18 +187,18 @@ module _ {P : Program} {t : Totals} {hs ss bs ks xs ys : List ℕ} (T : Tabled P
         front-is : take (t .vars) b₂ ≡ values
         front-is = ap (take (t .vars)) e ∙ take-at values (drop (t .vars) b) (t .vars) front-length
 
-        rest-is : drop (varTotal P) b₂ ≡ drop (varTotal P) b
+        rest-is : drop (variablesOf G) b₂ ≡ drop (variablesOf G) b
         rest-is = subst (λ (k : ℕ). drop k b₂ ≡ drop k b) vars-is (ap (drop (t .vars)) e ∙ drop-at values (drop (t .vars) b) (t .vars) front-length)
 
-        then : CheckGives P (valuesJudged P u values) r b₂ c l m → CheckGives P (valuesJudged P u values) r b c l m
-        then w = (w .0, w .1 ∙ judged-rest P u values b₂ b rest-is, w .2)
+        then : CheckGives G (valuesJudged G u values) r b₂ c l m → CheckGives G (valuesJudged G u values) r b c l m
+        then w = (w .0, w .1 ∙ judged-rest G u values b₂ b rest-is, w .2)
 
     module _ {o : Assigned} {r : CheckVerdict} {c : List ℕ} {s : ℕ} where
-      pub assigned-stray : o ≡ Stray s → (r ≡ Refused (StrayVariable s)) × (c ≡ overwritten (t .vars) 0 b) → CheckGives P (next o) r b c l l
-      assigned-stray d w = gives-zeroed P (ap next d) b l refl (w .0, w .1 ∙ ap (λ (k : ℕ). overwritten k 0 b) vars-is)
+      pub assigned-stray : o ≡ Stray s → (r ≡ Refused (StrayVariable s)) × (c ≡ overwritten (t .vars) 0 b) → CheckGives G (next o) r b c l l
+      assigned-stray d w = gives-zeroed G (ap next d) b l refl (w .0, w .1 ∙ ap (λ (k : ℕ). overwritten k 0 b) vars-is)
 
-      pub assigned-repeated : o ≡ Repeated s → (r ≡ Refused (RepeatedVariable s)) × (c ≡ overwritten (t .vars) 0 b) → CheckGives P (next o) r b c l l
-      assigned-repeated d w = gives-zeroed P (ap next d) b l refl (w .0, w .1 ∙ ap (λ (k : ℕ). overwritten k 0 b) vars-is)
+      pub assigned-repeated : o ≡ Repeated s → (r ≡ Refused (RepeatedVariable s)) × (c ≡ overwritten (t .vars) 0 b) → CheckGives G (next o) r b c l l
+      assigned-repeated d w = gives-zeroed G (ap next d) b l refl (w .0, w .1 ∙ ap (λ (k : ℕ). overwritten k 0 b) vars-is)
 
   -- the values that the literals of an answer of the form give, read into k bytes without values; u variables are said to have none
   module _ (answer : List ℕ) {i : ℕ} (q : formOf answer ≡ FormModel i) (k : ℕ) (room : t .vars ≤ k) {o : Assigned} {vs : List ℕ} {u : ℕ}
@@ -230,64 +227,64 @@ module _ {P : Program} {t : Totals} {hs ss bs ks xs ys : List ℕ} (T : Tabled P
 
     -- the number of variables without a value plays no part where a literal is not assigned
     any-assumed : (o : Assigned) (k : ℕ) (bs : List ℕ)
-        → afterAssigning (outcomeOf o) (valuesJudged P (assumedBy (FormModel i) o k) bs) ≡ afterAssigning (outcomeOf o) (valuesJudged P k bs)
+        → afterAssigning (outcomeOf o) (valuesJudged G (assumedBy (FormModel i) o k) bs) ≡ afterAssigning (outcomeOf o) (valuesJudged G k bs)
     any-assumed Done k bs = refl
     any-assumed (Stray s) k bs = refl
     any-assumed (Repeated s) k bs = refl
 
-    assigned-is : afterAssigning (outcomeOf o) (valuesJudged P u (completed (take (t .vars) vs))) ≡ assignedResult P answer i
+    assigned-is : afterAssigning (outcomeOf o) (valuesJudged G u (completed (take (t .vars) vs))) ≡ assignedResult G answer i
     assigned-is =
-        ap (λ (k : ℕ). afterAssigning (outcomeOf o) (valuesJudged P k (completed (take (t .vars) vs)))) z
+        ap (λ (k : ℕ). afterAssigning (outcomeOf o) (valuesJudged G k (completed (take (t .vars) vs)))) z
         ∙ any-assumed o (unsetCount (t .vars) vs) (completed (take (t .vars) vs))
-        ∙ ap (λ (k : ℕ). afterAssigning (outcomeOf o) (valuesJudged P k (completed (take (t .vars) vs)))) (sym (unset-front vs (t .vars)))
-        ∙ ap₂ (λ (a : Outcome) (y : List ℕ). afterAssigning a (valuesJudged P (unsetCount (t .vars) y) (completed y))) outcome-is values-are
-        ∙ ap (λ (v : ℕ). afterAssigning (assignedOf v ls (noValues v)) (valuesJudged P (unsetCount v (assignedBytes v ls (noValues v))) (completed (assignedBytes v ls (noValues v))))) vars-is
+        ∙ ap (λ (k : ℕ). afterAssigning (outcomeOf o) (valuesJudged G k (completed (take (t .vars) vs)))) (sym (unset-front vs (t .vars)))
+        ∙ ap₂ (λ (a : Outcome) (y : List ℕ). afterAssigning a (valuesJudged G (unsetCount (t .vars) y) (completed y))) outcome-is values-are
+        ∙ ap (λ (v : ℕ). afterAssigning (assignedOf v ls (noValues v)) (valuesJudged G (unsetCount v (assignedBytes v ls (noValues v))) (completed (assignedBytes v ls (noValues v))))) vars-is
 
   -- ---- rows 8, 10, 11 and 12
 
   module _ (answer : List ℕ) (k : ℕ) (b l : List ℕ) where
     abbrev x : Result CheckRefusal
-    x = checkResult P answer k (length b) (length l)
+    x = checkResult G answer k (length b) (length l)
 
-    pub short-assignment : length b < t .vars → CheckGives P x (Refused (ShortBuffer (t .vars))) b b l l
+    pub short-assignment : length b < t .vars → CheckGives G x (Refused (ShortBuffer (t .vars))) b b l l
     short-assignment h =
-        subst (λ (v : ℕ). CheckGives P x (Refused (ShortBuffer v)) b b l l) (sym vars-is)
-        (gives-refused P (ap (λ d. cond d (checkRefused (ShortBuffer (varTotal P))) (cond (ltb (length l) (P .atoms)) (checkRefused (ShortBuffer (P .atoms))) (answerResult P answer k))) (lt-ltb (length b) (varTotal P) (subst (λ (v : ℕ). length b < v) vars-is h))) b l refl)
+        subst (λ (v : ℕ). CheckGives G x (Refused (ShortBuffer v)) b b l l) (sym vars-is)
+        (gives-refused G (ap (λ d. cond d (checkRefused (ShortBuffer (variablesOf G))) (cond (ltb (length l) (G .n)) (checkRefused (ShortBuffer (G .n))) (answerResult G answer k))) (lt-ltb (length b) (variablesOf G) (subst (λ (v : ℕ). length b < v) vars-is h))) b l refl)
 
     module _ (enough : t .vars ≤ length b) where
-      past-assignment : x ≡ cond (ltb (length l) (P .atoms)) (checkRefused (ShortBuffer (P .atoms))) (answerResult P answer k)
+      past-assignment : x ≡ cond (ltb (length l) (G .n)) (checkRefused (ShortBuffer (G .n))) (answerResult G answer k)
       past-assignment =
-          ap (λ d. cond d (checkRefused (ShortBuffer (varTotal P))) (cond (ltb (length l) (P .atoms)) (checkRefused (ShortBuffer (P .atoms))) (answerResult P answer k)))
-          (le-ltb (length b) (varTotal P) (subst (λ (v : ℕ). v ≤ length b) vars-is enough))
+          ap (λ d. cond d (checkRefused (ShortBuffer (variablesOf G))) (cond (ltb (length l) (G .n)) (checkRefused (ShortBuffer (G .n))) (answerResult G answer k)))
+          (le-ltb (length b) (variablesOf G) (subst (λ (v : ℕ). v ≤ length b) vars-is enough))
 
-      pub short-levels : length l < t .sizes .n → CheckGives P x (Refused (ShortBuffer (t .sizes .n))) b b l l
+      pub short-levels : length l < t .sizes .n → CheckGives G x (Refused (ShortBuffer (t .sizes .n))) b b l l
       short-levels h =
-          subst (λ (v : ℕ). CheckGives P x (Refused (ShortBuffer v)) b b l l) (sym atoms-is)
-          (gives-refused P (past-assignment ∙ ap (λ d. cond d (checkRefused (ShortBuffer (P .atoms))) (answerResult P answer k)) (lt-ltb (length l) (P .atoms) (subst (λ (v : ℕ). length l < v) atoms-is h))) b l refl)
+          subst (λ (v : ℕ). CheckGives G x (Refused (ShortBuffer v)) b b l l) (sym atoms-is)
+          (gives-refused G (past-assignment ∙ ap (λ d. cond d (checkRefused (ShortBuffer (G .n))) (answerResult G answer k)) (lt-ltb (length l) (G .n) (subst (λ (v : ℕ). length l < v) atoms-is h))) b l refl)
 
       module _ (room : t .sizes .n ≤ length l) where
-        past-levels : x ≡ answerResult P answer k
+        past-levels : x ≡ answerResult G answer k
         past-levels =
-            past-assignment ∙ ap (λ d. cond d (checkRefused (ShortBuffer (P .atoms))) (answerResult P answer k)) (le-ltb (length l) (P .atoms) (subst (λ (v : ℕ). v ≤ length l) atoms-is room))
+            past-assignment ∙ ap (λ d. cond d (checkRefused (ShortBuffer (G .n))) (answerResult G answer k)) (le-ltb (length l) (G .n) (subst (λ (v : ℕ). v ≤ length l) atoms-is room))
 
-        pub overlong : 65536 < k → CheckGives P x (Refused (OverlongAnswer k)) b b l l
-        overlong h = gives-refused P (past-levels ∙ ap (λ d. cond d (checkRefused (OverlongAnswer k)) (formResult P answer (formOf answer))) (lt-ltb 65536 k h)) b l refl
+        pub overlong : 65536 < k → CheckGives G x (Refused (OverlongAnswer k)) b b l l
+        overlong h = gives-refused G (past-levels ∙ ap (λ d. cond d (checkRefused (OverlongAnswer k)) (formResult G answer (formOf answer))) (lt-ltb 65536 k h)) b l refl
 
         module _ (short : k ≤ 65536) {f : Formed} (e : f ≡ formOf answer) where
-          by-form : {g : Formed} → f ≡ g → x ≡ formResult P answer g
+          by-form : {g : Formed} → f ≡ g → x ≡ formResult G answer g
           by-form q =
-              past-levels ∙ ap (λ d. cond d (checkRefused (OverlongAnswer k)) (formResult P answer (formOf answer))) (le-ltb 65536 k short) ∙ ap (formResult P answer) (sym e ∙ q)
+              past-levels ∙ ap (λ d. cond d (checkRefused (OverlongAnswer k)) (formResult G answer (formOf answer))) (le-ltb 65536 k short) ∙ ap (formResult G answer) (sym e ∙ q)
 
-          pub form-malformed : {s : ℕ} → f ≡ Malformed s → CheckGives P x (Refused (MalformedAnswer s)) b b l l
-          form-malformed q = gives-refused P (by-form q) b l refl
+          pub form-malformed : {s : ℕ} → f ≡ Malformed s → CheckGives G x (Refused (MalformedAnswer s)) b b l l
+          form-malformed q = gives-refused G (by-form q) b l refl
 
-          pub form-none : f ≡ NoModel → CheckGives P x (Refused NoModelOffered) b b l l
-          form-none q = gives-refused P (by-form q) b l refl
+          pub form-none : f ≡ NoModel → CheckGives G x (Refused NoModelOffered) b b l l
+          form-none q = gives-refused G (by-form q) b l refl
 
           pub form-model : {i : ℕ} → f ≡ FormModel i → (z : ℕ) → t .vars ≤ z → {o : Assigned} {vs : List ℕ} {u : ℕ}
               → o ≡ assignedFor (readOutcome (t .vars) answer (replicate z 2)) → vs ≡ readBytes (t .vars) answer (replicate z 2)
               → u ≡ assumedBy f o (unsetCount (t .vars) vs) → {r : CheckVerdict} {c m : List ℕ}
-              → CheckGives P (afterAssigning (outcomeOf o) (valuesJudged P u (completed (take (t .vars) vs)))) r b c l m → CheckGives P x r b c l m
+              → CheckGives G (afterAssigning (outcomeOf o) (valuesJudged G u (completed (take (t .vars) vs)))) r b c l m → CheckGives G x r b c l m
           form-model q z h {o} {vs} p v n {r} {c} {m} w =
-              subst (λ (y : Result CheckRefusal). CheckGives P y r b c l m)
+              subst (λ (y : Result CheckRefusal). CheckGives G y r b c l m)
               (assigned-is answer (sym e ∙ q) z h p v (n ∙ ap (λ (g : Formed). assumedBy g o (unsetCount (t .vars) vs)) q) ∙ sym (by-form q)) w

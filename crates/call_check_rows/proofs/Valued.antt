@@ -1,21 +1,25 @@
 -- The first false clause, for values as bytes.
 --   FirstFalse P A f  f is the first clause that is false under A, 0 if none is
---   first-false       `firstFalse` gives it
+--   first-false       `codeFirstFalse` gives it
 --   filled-none       no buffer, filled
 -- Assumes nothing.
-use Prim.Native.Nat.{ℕ, zero, suc, _≤_, _<_}
+use Prim.Native.Nat.{ℕ, zero, suc, pred, _≤_, _<_}
 use native.Mathlib.Omega.{arith}
-use mathlib.Core.Path.{_≡_, refl, _∙_, ap, subst}
-use mathlib.Core.Bool.{Bool, false, So}
+use mathlib.Core.Path.{_≡_, refl, sym, _∙_, ap, subst}
+use mathlib.Core.Bool.{Bool, false, not, So}
 use mathlib.Core.List.{List, [], _++_, append-nil}
-use lib.ListN.{drop, replicate}
+use lib.ListN.{length, getD, drop, replicate}
 use borrow.Author.Tests.{not-true, not-false}
+use Rattle.lists.specs.Lists.{first}
 use Rattle.lists.proofs.First.{IsFirst, first-is}
+use Rattle.encoding.specs.Code.{codeOf}
 use Rattle.meaning.specs.Program.{Program}
-use Rattle.encoding.specs.Literal.{Assignment, valueOf, clauseTrue}
+use Rattle.encoding.specs.Width.{width}
+use Rattle.encoding.specs.Literal.{Assignment, Clause, valueOf, clauseTrue}
+use Rattle.theory.proofs.Whole.{clauses-whole}
 use Rattle.answer_offers.specs.Offered.{valueBytes}
 use Rattle.answer_values.specs.Assign.{overwritten}
-use Rattle.truth_clauses.specs.Truth.{valueIn, falseAt, firstFalse}
+use Rattle.truth_clauses.specs.Truth.{valueIn, codeFirstFalse}
 use Rattle.call_results.proofs.ValueBytes.{values-same}
 use Rattle.call_check_rows.specs.Rows.{clauseOf, clauseNumber}
 
@@ -27,26 +31,36 @@ pub record FirstFalse (P : Program) (A : Assignment) (f : ℕ) : Type 0 where
   pub true-before : (j : ℕ) → 0 < j → j < f → So (clauseTrue A (clauseOf P j))
   pub all-true : f ≤ 0 → (j : ℕ) → 0 < j → j ≤ clauseNumber P → So (clauseTrue A (clauseOf P j))
 
-pub first-false : (P : Program) (bs : List Bool) → FirstFalse P (valueOf bs) (firstFalse P (valueBytes bs))
-unfolding firstFalse
-first-false P bs = subst (λ (A : Assignment). FirstFalse P A (firstFalse P (valueBytes bs))) (values-same bs) (go (first-is (clauseNumber P) (falseAt P (valueBytes bs))))
+-- the clauses of document 01's code are the program's
+first-of : (P : Program) (bs : List ℕ) → codeFirstFalse (codeOf P) bs ≡ first (clauseNumber P) (λ j. not (clauseTrue (valueIn bs) (clauseOf P j)))
+unfolding codeFirstFalse
+first-of P bs =
+    ap (λ (cs : List Clause). first (length cs) (λ j. not (clauseTrue (valueIn bs) (getD cs (pred j) [])))) (clauses-whole P (width (P .atoms)))
+
+pub first-false : (P : Program) (bs : List Bool) → FirstFalse P (valueOf bs) (codeFirstFalse (codeOf P) (valueBytes bs))
+first-false P bs =
+    subst (λ (A : Assignment). FirstFalse P A (codeFirstFalse (codeOf P) (valueBytes bs))) (values-same bs)
+    (subst (FirstFalse P (valueIn (valueBytes bs))) (sym (first-of P (valueBytes bs))) (go (first-is (clauseNumber P) isFalse)))
   where
-    go : IsFirst (clauseNumber P) (falseAt P (valueBytes bs)) (firstFalse P (valueBytes bs)) → FirstFalse P (valueIn (valueBytes bs)) (firstFalse P (valueBytes bs))
-    go f =
+    isFalse : ℕ → Bool
+    isFalse j = not (clauseTrue (valueIn (valueBytes bs)) (clauseOf P j))
+
+    go : {f : ℕ} → IsFirst (clauseNumber P) isFalse f → FirstFalse P (valueIn (valueBytes bs)) f
+    go {f} F =
         record {
-          within = f .within;
-          is-false = λ h. not-true (clauseTrue (valueIn (valueBytes bs)) (clauseOf P (firstFalse P (valueBytes bs)))) (f .passes h);
+          within = F .within;
+          is-false = λ h. not-true (clauseTrue (valueIn (valueBytes bs)) (clauseOf P f)) (F .passes h);
           true-before = λ j. before j;
           all-true = λ z j. nowhere z j;
         }
       where
-        before : (j : ℕ) → 0 < j → j < firstFalse P (valueBytes bs) → So (clauseTrue (valueIn (valueBytes bs)) (clauseOf P j))
+        before : (j : ℕ) → 0 < j → j < f → So (clauseTrue (valueIn (valueBytes bs)) (clauseOf P j))
         before zero p h = absurd (omega (arith, p))
-        before (suc j) p h = not-false (clauseTrue (valueIn (valueBytes bs)) (clauseOf P (suc j))) (f .none-before j h)
+        before (suc j) p h = not-false (clauseTrue (valueIn (valueBytes bs)) (clauseOf P (suc j))) (F .none-before j h)
 
-        nowhere : firstFalse P (valueBytes bs) ≤ 0 → (j : ℕ) → 0 < j → j ≤ clauseNumber P → So (clauseTrue (valueIn (valueBytes bs)) (clauseOf P j))
+        nowhere : f ≤ 0 → (j : ℕ) → 0 < j → j ≤ clauseNumber P → So (clauseTrue (valueIn (valueBytes bs)) (clauseOf P j))
         nowhere z zero p h = absurd (omega (arith, p))
-        nowhere z (suc j) p h = not-false (clauseTrue (valueIn (valueBytes bs)) (clauseOf P (suc j))) (f .none-at-all (omega (arith, z)) j h)
+        nowhere z (suc j) p h = not-false (clauseTrue (valueIn (valueBytes bs)) (clauseOf P (suc j))) (F .none-at-all (omega (arith, z)) j h)
 
 -- ---- no buffer
 

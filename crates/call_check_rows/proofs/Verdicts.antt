@@ -19,6 +19,7 @@ use lib.ListN.{length}
 use borrow.Author.Tests.{lt-ltb, le-ltb}
 use Rattle.lists.specs.Lists.{tab, highest}
 use Rattle.lists.proofs.Tests.{le-or-lt}
+use Rattle.encoding.specs.Code.{codeOf}
 use Rattle.meaning.specs.Program.{Program}
 use Rattle.encoding.specs.Width.{width}
 use Rattle.encoding.specs.Literal.{clauseTrue}
@@ -46,7 +47,7 @@ use Rattle.answer_values.specs.Rows.{Fit, AllFit, StrayAt, RepeatedAt}
 use Rattle.answer_values.proofs.Rows.{Meant, meant, unset-unnamed}
 use Rattle.answer_offers.specs.Offered.{valueBytes, valuesOf}
 use Rattle.answer_offers.proofs.Values.{values-alone}
-use Rattle.truth_clauses.specs.Truth.{firstFalse}
+use Rattle.truth_clauses.specs.Truth.{codeFirstFalse}
 use Rattle.call_results.specs.Results.{Result, varTotal, programRead}
 use Rattle.refusals.specs.declared.CheckRefusal.{CheckRefusal}
 use Rattle.refusals.specs.declared.CheckRefusal.the-variants.{Text, ShortBuffer, OverlongAnswer, MalformedAnswer, NoModelOffered, StrayVariable, RepeatedVariable, FalseClause}
@@ -73,19 +74,19 @@ pub data CheckTold (t u : List ℕ) (a l : ℕ) : Type 0 where
 -- ---- the tests, one after the other
 
 module _ (P : Program) (u : List ℕ) (k a l : ℕ) where
-  result-3 : a < varTotal P → checkResult P u k a l ≡ checkRefused (ShortBuffer (varTotal P))
+  result-3 : a < varTotal P → checkResult (codeOf P) u k a l ≡ checkRefused (ShortBuffer (varTotal P))
   result-3 h = rw (lt-ltb a (varTotal P) h)
 
-  result-4 : varTotal P ≤ a → l < P .atoms → checkResult P u k a l ≡ checkRefused (ShortBuffer (P .atoms))
+  result-4 : varTotal P ≤ a → l < P .atoms → checkResult (codeOf P) u k a l ≡ checkRefused (ShortBuffer (P .atoms))
   result-4 h g = rw (le-ltb a (varTotal P) h, lt-ltb l (P .atoms) g)
 
-  result-5 : varTotal P ≤ a → P .atoms ≤ l → 65536 < k → checkResult P u k a l ≡ checkRefused (OverlongAnswer k)
+  result-5 : varTotal P ≤ a → P .atoms ≤ l → 65536 < k → checkResult (codeOf P) u k a l ≡ checkRefused (OverlongAnswer k)
   result-5 h g f = rw (le-ltb a (varTotal P) h, le-ltb l (P .atoms) g, lt-ltb 65536 k f)
 
-  result-form : varTotal P ≤ a → P .atoms ≤ l → k ≤ 65536 → {x : Formed} → formOf u ≡ x → checkResult P u k a l ≡ formResult P u x
-  result-form h g f {x} e = tests ∙ ap (formResult P u) e
+  result-form : varTotal P ≤ a → P .atoms ≤ l → k ≤ 65536 → {x : Formed} → formOf u ≡ x → checkResult (codeOf P) u k a l ≡ formResult (codeOf P) u x
+  result-form h g f {x} e = tests ∙ ap (formResult (codeOf P) u) e
     where
-      tests : checkResult P u k a l ≡ formResult P u (formOf u)
+      tests : checkResult (codeOf P) u k a l ≡ formResult (codeOf P) u (formOf u)
       tests = rw (le-ltb a (varTotal P) h, le-ltb l (P .atoms) g, le-ltb 65536 k f)
 
 -- ---- forms, told apart
@@ -147,9 +148,9 @@ module _ (t u : List ℕ) (a l : ℕ) where
     pub program-is : programRead (readOf t) ≡ P
     program-is = ap (λ (r : ReadResult). programRead r) (admitted-answer t P A) ∙ decoded-kept P
 
-    result-is : checkOf t u a l ≡ checkResult P u (length u) a l
+    result-is : checkOf t u a l ≡ checkResult (codeOf P) u (length u) a l
     unfolding checkOf
-    result-is = ap (λ (w : ReadVerdict). checkAfterReading w (checkResult (programRead (readOf t)) u (length u) a l)) verdict ∙ ap (λ (X : Program). checkResult X u (length u) a l) program-is
+    result-is = ap (λ (w : ReadVerdict). checkAfterReading w (checkResult (codeOf (programRead (readOf t))) u (length u) a l)) verdict ∙ ap (λ (X : Program). checkResult (codeOf X) u (length u) a l) program-is
 
     each-row : (Z : ℕ → ℕ → ℕ → Type 0) → Each P Z → (p r s : ℕ) → CheckRow t u a l p r s → Z p r s
     each-row Z c p r s (of-text ρ) = absurd (accepted-none t verdict r s ρ)
@@ -165,7 +166,7 @@ module _ (t u : List ℕ) (a l : ℕ) where
         (subst (λ (X : Program). clauseTrue (valuesIn X xs) (clauseOf X j) ≡ false) (same Q B) e)
 
     refused-at : (q : CheckRefusal) (p : ℕ) → CheckRow t u a l p (checkNumber q) (checkSpot q) → Each P (NotAfter p (checkNumber q) (checkSpot q))
-        → checkResult P u (length u) a l ≡ checkRefused q → CheckTold t u a l
+        → checkResult (codeOf P) u (length u) a l ≡ checkRefused q → CheckTold t u a l
     refused-at q p m c e = at-row q (record { place = p; met = m; first = each-row (NotAfter p (checkNumber q) (checkSpot q)) c }) (result-is ∙ e)
 
     -- ---- row 8
@@ -278,7 +279,7 @@ module _ (t u : List ℕ) (a l : ℕ) where
                 }
 
             model-at : (q : CheckRefusal) (p : ℕ) → CheckRow t u a l p (checkNumber q) (checkSpot q) → OfLiterals P xs (NotAfter p (checkNumber q) (checkSpot q))
-                → assignedResult P u e ≡ checkRefused q → CheckTold t u a l
+                → assignedResult (codeOf P) u e ≡ checkRefused q → CheckTold t u a l
             model-at q p m c w =
                 refused-at q p m (each-literal (NotAfter p (checkNumber q) (checkSpot q)) c) (result-form P u (length u) a l room levels-room fits f ∙ w)
 
@@ -286,8 +287,8 @@ module _ (t u : List ℕ) (a l : ℕ) where
             abbrev bytes : List ℕ
             bytes = assignedBytes vars xs (noValues vars)
 
-            by-outcome : {o : Outcome} → assignedOf vars xs (noValues vars) ≡ o → assignedResult P u e ≡ afterAssigning o (completedResult P bytes)
-            by-outcome w = ap (λ (o : Outcome). afterAssigning o (completedResult P bytes)) w
+            by-outcome : {o : Outcome} → assignedOf vars xs (noValues vars) ≡ o → assignedResult (codeOf P) u e ≡ afterAssigning o (completedResult (codeOf P) bytes)
+            by-outcome w = ap (λ (o : Outcome). afterAssigning o (completedResult (codeOf P) bytes)) w
 
             -- ---- rows 13 and 14
 
@@ -349,33 +350,33 @@ module _ (t u : List ℕ) (a l : ℕ) where
                   subst (λ (b : List ℕ). unsetCount vars (assignedBytes vars xs b) ≡ assumedNumber P xs) (filled-none vars 2)
                   (unset-unnamed vars xs (offers-named offer) fit [])
 
-              judged-are : assignedResult P u e ≡ valuesJudged P (assumedNumber P xs) (valueBytes ys)
-              judged-are = by-outcome done ∙ ap₂ (valuesJudged P) unset-are bytes-are
+              judged-are : assignedResult (codeOf P) u e ≡ valuesJudged (codeOf P) (assumedNumber P xs) (valueBytes ys)
+              judged-are = by-outcome done ∙ ap₂ (valuesJudged (codeOf P)) unset-are bytes-are
 
-              falses : FirstFalse P (valuesIn P xs) (firstFalse P (valueBytes ys))
+              falses : FirstFalse P (valuesIn P xs) (codeFirstFalse (codeOf P) (valueBytes ys))
               falses = first-false P ys
 
-              told-16 : 0 < firstFalse P (valueBytes ys) → CheckTold t u a l
+              told-16 : 0 < codeFirstFalse (codeOf P) (valueBytes ys) → CheckTold t u a l
               told-16 h =
-                  model-at (FalseClause (firstFalse P (valueBytes ys))) 9
-                  (false-clause P A xs offer (firstFalse P (valueBytes ys)) h (falses .within) (falses .is-false h))
+                  model-at (FalseClause (codeFirstFalse (codeOf P) (valueBytes ys))) 9
+                  (false-clause P A xs offer (codeFirstFalse (codeOf P) (valueBytes ys)) h (falses .within) (falses .is-false h))
                   (record {
                     stray = λ i h g. absurd (stray-unfit i g (fit i h));
                     repeated = λ i j h g q. absurd (repeated-unfit i j g q (fit i h));
-                    false-one = λ j h g n. order j h n (le-or-lt (firstFalse P (valueBytes ys)) j);
+                    false-one = λ j h g n. order j h n (le-or-lt (codeFirstFalse (codeOf P) (valueBytes ys)) j);
                   })
-                  (judged-are ∙ judged-16 P (assumedNumber P xs) (valueBytes ys) h)
+                  (judged-are ∙ judged-16 (codeOf P) (assumedNumber P xs) (valueBytes ys) h)
                 where
-                  on : (j : ℕ) → (firstFalse P (valueBytes ys) ≡ j) ⊎ (firstFalse P (valueBytes ys) < j) → NotAfter 9 16 (firstFalse P (valueBytes ys)) 9 16 j
+                  on : (j : ℕ) → (codeFirstFalse (codeOf P) (valueBytes ys) ≡ j) ⊎ (codeFirstFalse (codeOf P) (valueBytes ys) < j) → NotAfter 9 16 (codeFirstFalse (codeOf P) (valueBytes ys)) 9 16 j
                   on j (inl w) = smaller refl w (le-refl 16)
                   on j (inr w) = nearer refl w
 
-                  order : (j : ℕ) → 0 < j → clauseTrue (valuesIn P xs) (clauseOf P j) ≡ false → (firstFalse P (valueBytes ys) ≤ j) ⊎ (j < firstFalse P (valueBytes ys))
-                      → NotAfter 9 16 (firstFalse P (valueBytes ys)) 9 16 j
+                  order : (j : ℕ) → 0 < j → clauseTrue (valuesIn P xs) (clauseOf P j) ≡ false → (codeFirstFalse (codeOf P) (valueBytes ys) ≤ j) ⊎ (j < codeFirstFalse (codeOf P) (valueBytes ys))
+                      → NotAfter 9 16 (codeFirstFalse (codeOf P) (valueBytes ys)) 9 16 j
                   order j h n (inl w) = on j (eq-or-lt-of-le w)
                   order j h n (inr w) = absurd (false≢true (sym n ∙ falses .true-before j h w))
 
-              told-shown : firstFalse P (valueBytes ys) ≤ 0 → CheckTold t u a l
+              told-shown : codeFirstFalse (codeOf P) (valueBytes ys) ≤ 0 → CheckTold t u a l
               told-shown h =
                   shown P xs
                   (record {
@@ -387,13 +388,13 @@ module _ (t u : List ℕ) (a l : ℕ) where
                     levels-room = levels-room;
                     not-overlong = fits;
                   })
-                  (result-is ∙ result-form P u (length u) a l room levels-room fits f ∙ judged-are ∙ judged-none P (assumedNumber P xs) (valueBytes ys) h
+                  (result-is ∙ result-form P u (length u) a l room levels-room fits f ∙ judged-are ∙ judged-none (codeOf P) (assumedNumber P xs) (valueBytes ys) h
                   ∙ ap (Result.accepted (assumedNumber P xs) (valueBytes ys)) (counters-same (sizes P (width (P .atoms))) ys))
 
               told-done : CheckTold t u a l
-              told-done = go (le-or-lt (firstFalse P (valueBytes ys)) 0)
+              told-done = go (le-or-lt (codeFirstFalse (codeOf P) (valueBytes ys)) 0)
                 where
-                  go : (firstFalse P (valueBytes ys) ≤ 0) ⊎ (0 < firstFalse P (valueBytes ys)) → CheckTold t u a l
+                  go : (codeFirstFalse (codeOf P) (valueBytes ys) ≤ 0) ⊎ (0 < codeFirstFalse (codeOf P) (valueBytes ys)) → CheckTold t u a l
                   go (inl h) = told-shown h
                   go (inr h) = told-16 h
 
@@ -476,7 +477,7 @@ module _ (t u : List ℕ) (a l : ℕ) where
     unfolding checkOf
     told-text =
         at-row (Text x) (record { place = rank (textNumber x); met = of-text (text-row .met); first = text-first })
-        (ap (λ (w : ReadVerdict). checkAfterReading w (checkResult (programRead (readOf t)) u (length u) a l)) v)
+        (ap (λ (w : ReadVerdict). checkAfterReading w (checkResult (codeOf (programRead (readOf t))) u (length u) a l)) v)
 
   pub check-told : CheckTold t u a l
   check-told = go (readOf t .verdict) refl

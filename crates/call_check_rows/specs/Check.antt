@@ -1,14 +1,14 @@
 -- The check of a solver answer against a program (document 01, "Check and filling out" and "Verdicts"; document 02, Q-3): what it answers, and what each
--- lent buffer holds afterwards. V is the number of variables of the program P, n that of its atoms; t is the answer, of k bytes.
+-- lent buffer holds afterwards. V is the number of variables of the code G, n that of its atoms; t is the answer, of k bytes.
 --   zeroes r                 refusals 13, 14 and 16 zero the assignment
---   valuesJudged P c bs      row 16, for the values bs, c of which are assumed
---   completedResult P bs     the same, for the values bs, completed: a variable that has none has 2
+--   valuesJudged G c bs      row 16, for the values bs, c of which are assumed
+--   completedResult G bs     the same, for the values bs, completed: a variable that has none has 2
 --   outcomeOf o              the outcome that the code's answer o says
 --   afterAssigning o x       rows 13 and 14, by the outcome o of assigning, then x
---   assignedResult P t e     the same, for the literals of t from position e on, then these for their values, completed
---   formResult P t f         rows 11 and 12, by the form f of t, then these
---   answerResult P t k       row 10, then these
---   checkResult P t k a l    row 8, for buffers of a and l bytes, then these
+--   assignedResult G t e     the same, for the literals of t from position e on, then these for their values, completed
+--   formResult G t f         rows 11 and 12, by the form f of t, then these
+--   answerResult G t k       row 10, then these
+--   checkResult G t k a l    row 8, for buffers of a and l bytes, then these
 --   checkOf t u a l          the rows of the program text t, then these, for the answer u
 --   checkAnswer, checkAssignment, checkLevels   the call's answer and the two buffers afterwards
 -- Assumes nothing.
@@ -19,9 +19,7 @@ use mathlib.Core.List.{List}
 use lib.Dec.{ltb}
 use lib.ListN.{length, replicate}
 use Rattle.lists.specs.Lists.{highest}
-use Rattle.meaning.specs.Program.{Program}
-use Rattle.encoding.specs.Width.{width}
-use Rattle.encoding.specs.Clauses.{sizes}
+use Rattle.encoding.specs.Code.{Code, codeOf, codeSizes, variablesOf}
 use Rattle.text.specs.Limits.{maxText}
 use Rattle.reader.specs.declared.ReadResult.{ReadResult}
 use Rattle.reader.specs.declared.ReadVerdict.{ReadVerdict}
@@ -33,7 +31,7 @@ use Rattle.answer_reader.specs.Results.{formOf}
 use Rattle.answer_values.specs.declared.Assigned.{Assigned}
 use Rattle.answer_values.specs.declared.Assigned.the-variants.{Done, Stray, Repeated}
 use Rattle.answer_values.specs.Assign.{Outcome, literalsFrom, assignedOf, assignedBytes, unsetCount, completed}
-use Rattle.truth_clauses.specs.Truth.{firstFalse}
+use Rattle.truth_clauses.specs.Truth.{codeFirstFalse}
 use Rattle.call_results.specs.Results.{Result, trueCount, levelByte, counters, assignmentAfter, levelsAfter, varTotal, programRead}
 use Rattle.refusals.specs.declared.CheckRefusal.{CheckRefusal}
 use Rattle.refusals.specs.declared.CheckRefusal.the-variants.{Text, ShortBuffer, OverlongAnswer, MalformedAnswer, NoModelOffered, StrayVariable, RepeatedVariable, FalseClause}
@@ -57,11 +55,11 @@ zeroes (FalseClause j) = true
 abbrev pub checkRefused : CheckRefusal → Result CheckRefusal
 checkRefused r = Result.refused r
 
-unfoldable pub valuesJudged : Program → ℕ → List ℕ → Result CheckRefusal
-valuesJudged P c bs = cond (ltb 0 (firstFalse P bs)) (checkRefused (FalseClause (firstFalse P bs))) (Result.accepted c bs (counters (sizes P (width (P .atoms))) bs))
+unfoldable pub valuesJudged : Code → ℕ → List ℕ → Result CheckRefusal
+valuesJudged G c bs = cond (ltb 0 (codeFirstFalse G bs)) (checkRefused (FalseClause (codeFirstFalse G bs))) (Result.accepted c bs (counters (codeSizes G) bs))
 
-abbrev pub completedResult : Program → List ℕ → Result CheckRefusal
-completedResult P bs = valuesJudged P (unsetCount (varTotal P) bs) (completed bs)
+abbrev pub completedResult : Code → List ℕ → Result CheckRefusal
+completedResult G bs = valuesJudged G (unsetCount (variablesOf G) bs) (completed bs)
 
 abbrev pub outcomeOf : Assigned → Outcome
 outcomeOf Done = Outcome.done
@@ -77,23 +75,23 @@ afterAssigning (Outcome.repeated s) x = checkRefused (RepeatedVariable s)
 abbrev pub noValues : ℕ → List ℕ
 noValues v = replicate v 2
 
-abbrev pub assignedResult : Program → List ℕ → ℕ → Result CheckRefusal
-assignedResult P t e =
-    afterAssigning (assignedOf (varTotal P) (literalsFrom t e) (noValues (varTotal P)))
-    (completedResult P (assignedBytes (varTotal P) (literalsFrom t e) (noValues (varTotal P))))
+abbrev pub assignedResult : Code → List ℕ → ℕ → Result CheckRefusal
+assignedResult G t e =
+    afterAssigning (assignedOf (variablesOf G) (literalsFrom t e) (noValues (variablesOf G)))
+    (completedResult G (assignedBytes (variablesOf G) (literalsFrom t e) (noValues (variablesOf G))))
 
-abbrev pub formResult : Program → List ℕ → Formed → Result CheckRefusal
-formResult P t (Malformed s) = checkRefused (MalformedAnswer s)
-formResult P t NoModel = checkRefused NoModelOffered
-formResult P t (FormModel e) = assignedResult P t e
+abbrev pub formResult : Code → List ℕ → Formed → Result CheckRefusal
+formResult G t (Malformed s) = checkRefused (MalformedAnswer s)
+formResult G t NoModel = checkRefused NoModelOffered
+formResult G t (FormModel e) = assignedResult G t e
 
-abbrev pub answerResult : Program → List ℕ → ℕ → Result CheckRefusal
-answerResult P t k = cond (ltb maxText k) (checkRefused (OverlongAnswer k)) (formResult P t (formOf t))
+abbrev pub answerResult : Code → List ℕ → ℕ → Result CheckRefusal
+answerResult G t k = cond (ltb maxText k) (checkRefused (OverlongAnswer k)) (formResult G t (formOf t))
 
-abbrev pub checkResult : Program → List ℕ → ℕ → ℕ → ℕ → Result CheckRefusal
-checkResult P t k a l =
-    cond (ltb a (varTotal P)) (checkRefused (ShortBuffer (varTotal P)))
-    (cond (ltb l (P .atoms)) (checkRefused (ShortBuffer (P .atoms))) (answerResult P t k))
+abbrev pub checkResult : Code → List ℕ → ℕ → ℕ → ℕ → Result CheckRefusal
+checkResult G t k a l =
+    cond (ltb a (variablesOf G)) (checkRefused (ShortBuffer (variablesOf G)))
+    (cond (ltb l (G .n)) (checkRefused (ShortBuffer (G .n))) (answerResult G t k))
 
 -- ---- the call
 
@@ -105,12 +103,12 @@ abbrev pub checkVerdictOf : ℕ → Result CheckRefusal → CheckVerdict
 checkVerdictOf n (Result.accepted c bs ls) = Model (trueCount n bs) (highest n (levelByte ls)) c
 checkVerdictOf n (Result.refused r) = Refused r
 
--- of program P, the result x is answered by r and leaves the buffers b and l as c and m
-abbrev pub CheckGives : Program → Result CheckRefusal → CheckVerdict → List ℕ → List ℕ → List ℕ → List ℕ → Type 0
-CheckGives P x r b c l m = (r ≡ checkVerdictOf (P .atoms) x) × (c ≡ assignmentAfter zeroes (varTotal P) x b) × (m ≡ levelsAfter (P .atoms) x l)
+-- of code G, the result x is answered by r and leaves the buffers b and l as c and m
+abbrev pub CheckGives : Code → Result CheckRefusal → CheckVerdict → List ℕ → List ℕ → List ℕ → List ℕ → Type 0
+CheckGives G x r b c l m = (r ≡ checkVerdictOf (G .n) x) × (c ≡ assignmentAfter zeroes (variablesOf G) x b) × (m ≡ levelsAfter (G .n) x l)
 
 abbrev pub callResult : ReadResult → List ℕ → ℕ → ℕ → ℕ → Result CheckRefusal
-callResult r t k a l = checkAfterReading (r .verdict) (checkResult (programRead r) t k a l)
+callResult r t k a l = checkAfterReading (r .verdict) (checkResult (codeOf (programRead r)) t k a l)
 
 unfoldable pub checkOf : List ℕ → List ℕ → ℕ → ℕ → Result CheckRefusal
 checkOf t u a l = callResult (readOf t) u (length u) a l

@@ -11,8 +11,9 @@ use reader::read;
 use refusals::FillRefusal;
 ghost use mathlib.Core.Path.{_≡_};
 ghost use lib.ListN.{length};
+ghost use Rattle.encoding.specs.Code.{codeOf};
 ghost use Rattle.program.specs.Arrays.{decoded};
-ghost use Rattle.clause_tables.specs.Tables.{Stored, programIn, Ready};
+ghost use Rattle.clause_tables.specs.Tables.{Stored, codeIn, Ready};
 ghost use Rattle.call_fill_rows.specs.FillOut.{FillGives, fillResult, fillAnswer, fillAssignment, fillLevels};
 
 // Rows 8, 17 and 18, for the tables of a program; if none is met, the assignment and the levels are written.
@@ -29,8 +30,8 @@ fn fill_in<'a>(
     levels: &mut [u8],
 ) -> FillVerdict
     requires { ⌜ Ready t (now heads) (now starts) (now bodies) (now before) (now partners) (now owners) ⌝ }
-    ensures { λ r. ⌜ FillGives (programIn (t .sizes) (now (heads .entry)) (now (starts .entry)) (now (bodies .entry)))
-        (fillResult (programIn (t .sizes) (now (heads .entry)) (now (starts .entry)) (now (bodies .entry))) (now (set .entry))
+    ensures { λ r. ⌜ FillGives (codeIn t (now (heads .entry)) (now (starts .entry)) (now (bodies .entry)))
+        (fillResult (codeIn t (now (heads .entry)) (now (starts .entry)) (now (bodies .entry))) (now (set .entry))
         (length (now (assignment .entry))) (length (now (levels .entry)))) r (now (assignment .entry)) (now (assignment .exit))
         (now (levels .entry)) (now (levels .exit)) ⌝ }
 {
@@ -65,8 +66,8 @@ fn fill_in<'a>(
 // Filling out for a program that was read.
 fn fill_program(p: Program, set: &[u8], assignment: &mut [u8], levels: &mut [u8]) -> FillVerdict
     requires { ⌜ Stored p ⌝ }
-    ensures { λ r. ⌜ FillGives (decoded p)
-        (fillResult (decoded p) (now (set .entry)) (length (now (assignment .entry))) (length (now (levels .entry)))) r (now (assignment .entry))
+    ensures { λ r. ⌜ FillGives (codeOf (decoded p))
+        (fillResult (codeOf (decoded p)) (now (set .entry)) (length (now (assignment .entry))) (length (now (levels .entry)))) r (now (assignment .entry))
         (now (assignment .exit)) (now (levels .entry)) (now (levels .exit)) ⌝ }
 {
     let k = pairs_of(p);

@@ -13,8 +13,8 @@ ghost use mathlib.Core.Path.{_≡_};
 ghost use mathlib.Core.List.{_++_};
 ghost use lib.ListN.{length, drop};
 ghost use Rattle.lists.specs.Lists.{tab};
-ghost use Rattle.meaning.specs.Stage.{level};
-ghost use Rattle.clause_tables.specs.Tables.{programIn, Ready};
+ghost use Rattle.encoding.specs.Code.{levelOf};
+ghost use Rattle.clause_tables.specs.Tables.{codeIn, Ready};
 ghost use Rattle.level_stages.specs.Levels.{setIn};
 ghost use Rattle.call_fill_rows.specs.FillOut.{firstBad, FillGives, foundedResult};
 
@@ -48,10 +48,10 @@ fn fill_found<'a>(
 ) -> FillVerdict
     requires { ⌜ (Ready t (now heads) (now starts) (now bodies) (now before) (now partners) (now owners)) × (t .sizes .n ≤ length (now set))
         × (now found
-        ≡ tab (t .sizes .n) (level (programIn (t .sizes) (now heads) (now starts) (now bodies)) (setIn (t .sizes .n) (now set)))
+        ≡ tab (t .sizes .n) (levelOf (codeIn t (now heads) (now starts) (now bodies)) (setIn (t .sizes .n) (now set)))
         ++ drop (t .sizes .n) (now found)) × (t .vars ≤ length (now assignment)) × (t .sizes .n ≤ length (now levels)) ⌝ }
-    ensures { λ r. ⌜ FillGives (programIn (t .sizes) (now (heads .entry)) (now (starts .entry)) (now (bodies .entry)))
-        (foundedResult (programIn (t .sizes) (now (heads .entry)) (now (starts .entry)) (now (bodies .entry)))
+    ensures { λ r. ⌜ FillGives (codeIn t (now (heads .entry)) (now (starts .entry)) (now (bodies .entry)))
+        (foundedResult (codeIn t (now (heads .entry)) (now (starts .entry)) (now (bodies .entry)))
         (setIn (t .sizes .n) (now (set .entry)))) r (now (assignment .entry)) (now (assignment .exit)) (now (levels .entry)) (now (levels .exit)) ⌝ }
 {
     let n = t.sizes.n;
@@ -90,8 +90,8 @@ pub fn fill_founded<'a>(
 ) -> FillVerdict
     requires { ⌜ (Ready t (now heads) (now starts) (now bodies) (now before) (now partners) (now owners)) × (t .sizes .n ≤ length (now set))
         × (t .vars ≤ length (now assignment)) × (t .sizes .n ≤ length (now levels)) ⌝ }
-    ensures { λ r. ⌜ FillGives (programIn (t .sizes) (now (heads .entry)) (now (starts .entry)) (now (bodies .entry)))
-        (foundedResult (programIn (t .sizes) (now (heads .entry)) (now (starts .entry)) (now (bodies .entry)))
+    ensures { λ r. ⌜ FillGives (codeIn t (now (heads .entry)) (now (starts .entry)) (now (bodies .entry)))
+        (foundedResult (codeIn t (now (heads .entry)) (now (starts .entry)) (now (bodies .entry)))
         (setIn (t .sizes .n) (now (set .entry)))) r (now (assignment .entry)) (now (assignment .exit)) (now (levels .entry)) (now (levels .exit)) ⌝ }
 {
     let mut found = [0u8; 126];

@@ -15,8 +15,8 @@ use Rattle.program.specs.Arrays.{emptyProgram}
 use Rattle.program.specs.Arrays.{decoded}
 use Rattle.meaning.specs.Stage.{reduct, stage, levelIn, differ}
 use Rattle.encoding.specs.Width.{bitsFor}
-use Rattle.encoding.specs.Clauses.{pairs, variables}
-use Rattle.encoding.specs.Fill.{fill, fillWith}
+use Rattle.encoding.specs.Code.{inner, pairList, reductOf}
+use Rattle.encoding.specs.Fill.{fillWith}
 use Rattle.call_results.specs.Results.{trueCount}
 use Rattle.call_fill_rows.specs.declared.FillVerdict.{FillVerdict}
 use Rattle.call_fill_rows.specs.declared.FillVerdict.the-variants.{Filled, Refused}
@@ -115,5 +115,5 @@ cases =
     ∷ []
 
 pub cases-hold : map computed cases ≡ cases
-unfolding ascii formAt digitTest literalOf leaveOf digitOf itemOf actAt formStep Work.grownOf Work.valueAfter Work.beginAfter Work.atomsEnded Work.headEnded Work.headStored Work.bodyEnded Work.bodyStored Work.openedOf Work.startStored Work.ruleShut Work.endedOf Work.endedHeads Work.endedBodies Work.bracketOf Work.bracketStarts Work.workOf Work.workHeads Work.workStarts Work.workBodies ended readFrom refusalOf refuseOf finished readOf emptyProgram decoded reduct stage levelIn differ bitsFor pairs variables fill fillWith trueCount firstBad foundedResult fillOf fillAnswer fillAssignment fillLevels computed cases
+unfolding ascii formAt digitTest literalOf leaveOf digitOf itemOf actAt formStep Work.grownOf Work.valueAfter Work.beginAfter Work.atomsEnded Work.headEnded Work.headStored Work.bodyEnded Work.bodyStored Work.openedOf Work.startStored Work.ruleShut Work.endedOf Work.endedHeads Work.endedBodies Work.bracketOf Work.bracketStarts Work.workOf Work.workHeads Work.workStarts Work.workBodies ended readFrom refusalOf refuseOf finished readOf emptyProgram decoded reduct stage levelIn differ bitsFor inner pairList reductOf fillWith trueCount firstBad foundedResult fillOf fillAnswer fillAssignment fillLevels computed cases
 cases-hold = refl

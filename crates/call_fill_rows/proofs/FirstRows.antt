@@ -7,7 +7,7 @@
 use Prim.Native.Nat.{ℕ, zero, suc, pred, _-_, _≤_, _<_}
 use native.Mathlib.Nat.{le-refl, le-antisymm}
 use native.Mathlib.Omega.{arith}
-use mathlib.Core.Path.{_≡_, refl, sym, _∙_, ap, subst}
+use mathlib.Core.Path.{_≡_, refl, sym, _∙_, ap, ap₂, subst, fun-ext}
 use mathlib.Core.Logic.{_⊎_, inl, inr, ⊎-elim}
 use mathlib.Core.Bool.{Bool, true, false, true≢false, not, So, cond}
 use mathlib.Core.List.{List}
@@ -20,9 +20,11 @@ use Rattle.lists.proofs.Tests.{le-or-lt}
 use Rattle.lists.proofs.First.{first-is, first-pos, first-le, first-none}
 use Rattle.meaning.specs.Program.{Program, isAtom, wellFormed}
 use Rattle.meaning.specs.Stage.{Stable, leastModel, level, differ}
+use Rattle.encoding.specs.Code.{codeOf, levelOf, codeFill}
 use Rattle.encoding.specs.Width.{width}
 use Rattle.encoding.specs.Fill.{fill}
 use Rattle.theory.proofs.Atoms.{atom-pos, is-atom}
+use Rattle.theory.proofs.Whole.{level-whole, fill-whole}
 use Rattle.theory.proofs.Decided.{decided, stable-least, differ-at, differ-before, differ-le}
 use Rattle.clause_literals.proofs.Products.{one-before}
 use Rattle.refusals.specs.declared.TextRefusal.{TextRefusal}
@@ -88,7 +90,7 @@ module _ (t s : List ℕ) (a l : ℕ) where
         at-row (textNumber x) (textSpot x) (record { place = rank (textNumber x); met = of-text (F .met); first = text-first })
         (record {
           refusal = Text x;
-          answer-is = ap (λ (y : ReadVerdict). fillVerdictOf (programRead (readOf t) .atoms) (fillAfterReading y (fillResult (programRead (readOf t)) s a l))) v;
+          answer-is = ap (λ (y : ReadVerdict). fillVerdictOf (programRead (readOf t) .atoms) (fillAfterReading y (fillResult (codeOf (programRead (readOf t))) s a l))) v;
           row-is = refl;
           spot-is = refl;
         })
@@ -105,11 +107,11 @@ module _ (t s : List ℕ) (a l : ℕ) where
     same : (Q : Program) → Admitted t Q → Q ≡ P
     same Q b = one-admitted A b
 
-    result : fillOf t s a l ≡ fillResult P s a l
+    result : fillOf t s a l ≡ fillResult (codeOf P) s a l
     unfolding fillOf
-    result = ap (λ (y : ReadVerdict). fillAfterReading y (fillResult P s a l)) v
+    result = ap (λ (y : ReadVerdict). fillAfterReading y (fillResult (codeOf P) s a l)) v
 
-    refuses : (q : FillRefusal) → fillResult P s a l ≡ fillRefused q → FillAnswers t s a l (fillNumber q) (fillSpot q)
+    refuses : (q : FillRefusal) → fillResult (codeOf P) s a l ≡ fillRefused q → FillAnswers t s a l (fillNumber q) (fillSpot q)
     unfolding fillAnswer
     refuses q e = record { refusal = q; answer-is = ap (fillVerdictOf (P .atoms)) (result ∙ e); row-is = refl; spot-is = refl }
 
@@ -118,7 +120,7 @@ module _ (t s : List ℕ) (a l : ℕ) where
     by c d e f =
         cond c (fillRefused (ShortBuffer (varTotal P)))
         (cond d (fillRefused (ShortBuffer (P .atoms)))
-        (cond e (fillRefused (BadSet (P .atoms))) (cond f (fillRefused (BadSet (firstBad s - 1))) (foundedResult P (setIn (P .atoms) s)))))
+        (cond e (fillRefused (BadSet (P .atoms))) (cond f (fillRefused (BadSet (firstBad s - 1))) (foundedResult (codeOf P) (setIn (P .atoms) s)))))
 
     abbrev test2 : Bool
     test2 = ltb l (P .atoms)
@@ -169,7 +171,7 @@ module _ (t s : List ℕ) (a l : ℕ) where
             let g = subst (λ (X : Program). l < X .atoms) (same Q b) f in
             omega (arith, g, h2)
 
-        past : fillResult P s a l ≡ by false false test3 test4
+        past : fillResult (codeOf P) s a l ≡ by false false test3 test4
         past = ap (λ c. by c test2 test3 test4) (le-ltb a (varTotal P) h1) ∙ ap (λ d. by false d test3 test4) (le-ltb l (P .atoms) h2)
 
         -- row 17, the length
@@ -190,7 +192,7 @@ module _ (t s : List ℕ) (a l : ℕ) where
           none3 : (Q : Program) → Admitted t Q → (length s ≡ Q .atoms → ⊥) → ⊥
           none3 Q b f = f (h3 ∙ ap (λ (X : Program). X .atoms) (sym (same Q b)))
 
-          past3 : fillResult P s a l ≡ by false false false test4
+          past3 : fillResult (codeOf P) s a l ≡ by false false false test4
           past3 = past ∙ ap (λ e. by false false (not e) test4) (eq-eqb (length s) (P .atoms) h3)
 
           -- row 17, a byte
@@ -229,7 +231,7 @@ module _ (t s : List ℕ) (a l : ℕ) where
             abbrev M : ℕ → Bool
             M = setIn (P .atoms) s
 
-            past4 : fillResult P s a l ≡ foundedResult P M
+            past4 : fillResult (codeOf P) s a l ≡ foundedResult (codeOf P) M
             past4 = past3 ∙ ap (λ e. by false false false e) (le-ltb 0 (firstBad s) h4)
 
             form : So (wellFormed P)
@@ -250,7 +252,7 @@ module _ (t s : List ℕ) (a l : ℕ) where
                 at-row 18 (differ P M)
                 (record { place = 6; met = unfounded P A (differ P M) (is-atom (P .atoms) (differ P M) h (differ-le P form M)) (differ-at P form M h); first = go })
                 (refuses (Unfounded (differ P M))
-                (past4 ∙ ap (λ e. cond e (fillRefused (Unfounded (differ P M))) (Result.accepted 0 (valueBytes (fill P (width (P .atoms)) M)) (tab (P .atoms) (level P M)))) (lt-ltb 0 (differ P M) h)))
+                (past4 ∙ ap (λ e. cond e (fillRefused (Unfounded (differ P M))) (Result.accepted 0 (valueBytes (codeFill (codeOf P) M)) (tab (P .atoms) (levelOf (codeOf P) M)))) (lt-ltb 0 (differ P M) h)))
               where
                 go : (k r u : ℕ) → FillRow t s a l k r u → NotAfter 6 18 (differ P M) k r u
                 go k r u (of-text ρ) = absurd (accepted-none t v r u ρ)
@@ -270,10 +272,11 @@ module _ (t s : List ℕ) (a l : ℕ) where
               pub stable : Stable P M
               stable = decided P form M atoms-alone .0 (omega (arith, h5))
 
-              pub past5 : fillResult P s a l ≡ Result.accepted 0 (valueBytes (fill P (width (P .atoms)) M)) (tab (P .atoms) (level P M))
+              pub past5 : fillResult (codeOf P) s a l ≡ Result.accepted 0 (valueBytes (fill P (width (P .atoms)) M)) (tab (P .atoms) (level P M))
               unfolding foundedResult
               past5 =
-                  past4 ∙ ap (λ e. cond e (fillRefused (Unfounded (differ P M))) (Result.accepted 0 (valueBytes (fill P (width (P .atoms)) M)) (tab (P .atoms) (level P M)))) (le-ltb 0 (differ P M) h5)
+                  past4 ∙ ap (λ e. cond e (fillRefused (Unfounded (differ P M))) (Result.accepted 0 (valueBytes (codeFill (codeOf P) M)) (tab (P .atoms) (levelOf (codeOf P) M)))) (le-ltb 0 (differ P M) h5)
+                  ∙ ap₂ (λ (vs : List Bool) (ℓ : ℕ → ℕ). Result.accepted 0 (valueBytes vs) (tab (P .atoms) ℓ)) (fill-whole P (width (P .atoms)) M) (fun-ext (level-whole P (width (P .atoms)) M))
 
               told6 : Case
               unfolding fillAnswer

@@ -7,7 +7,7 @@
 use Prim.Native.Nat.{ℕ, zero, suc, pred, _+_, _-_, _≤_, _<_}
 use native.Mathlib.Nat.{le-antisymm}
 use native.Mathlib.Omega.{arith}
-use mathlib.Core.Path.{_≡_, refl, sym, _∙_, ap, ap₂, subst}
+use mathlib.Core.Path.{_≡_, refl, sym, _∙_, ap, ap₂, subst, fun-ext}
 use mathlib.Core.Logic.{⊎-elim}
 use mathlib.Core.Bool.{Bool, false, not, So, cond, false≢true}
 use mathlib.Core.List.{List, _++_}
@@ -20,12 +20,10 @@ use Rattle.lists.proofs.Tests.{le-or-lt}
 use Rattle.lists.proofs.First.{first-is, first-le, first-none}
 use Rattle.lists.proofs.Tables.{length-tab, getD-here, sum-ext}
 use Rattle.lists.proofs.Highest.{highest-same}
-use Rattle.meaning.specs.Program.{Program, Atoms}
-use Rattle.meaning.specs.Stage.{level, differ}
-use Rattle.encoding.specs.Width.{width}
-use Rattle.encoding.specs.Fill.{fill}
-use Rattle.theory.proofs.Base.{fill-length}
-use Rattle.theory.proofs.Widths.{width-enough}
+use Rattle.meaning.specs.Program.{Atoms}
+use Rattle.meaning.specs.Stage.{differ}
+use Rattle.encoding.specs.Code.{Code, codeOf, programOf, levelOf, variablesOf, codeFill}
+use Rattle.theory.proofs.Theorem.{fill-vars}
 use Rattle.reader.specs.declared.ReadResult.{ReadResult}
 use Rattle.reader.specs.declared.ReadVerdict.{ReadVerdict}
 use Rattle.reader.specs.declared.ReadVerdict.the-variants.{Accepted, Refused as TextRefused}
@@ -34,10 +32,11 @@ use Rattle.reader.specs.Verdict.{readOf}
 use Rattle.answer_offers.specs.Offered.{valueBytes}
 use Rattle.clause_tables.specs.declared.Totals.{Totals}
 use Rattle.clause_tables.specs.Tables.{Tabled}
-use Rattle.clause_table_laws.proofs.Elements.{atoms-are, width-are, vars-are}
+use Rattle.clause_table_laws.proofs.Elements.{atoms-are, vars-are}
 use Rattle.level_stages.specs.Levels.{setIn, firstDifference}
 use Rattle.level_stages.proofs.Levels.{unlike-differ}
-use Rattle.call_results.specs.Results.{Result, trueCount, levelByte, varTotal, programRead}
+use Rattle.level_stages.proofs.Turns.{code-level}
+use Rattle.call_results.specs.Results.{Result, trueCount, levelByte, programRead}
 use Rattle.call_results.proofs.ValueBytes.{atoms-within, value-here}
 use Rattle.refusals.specs.declared.FillRefusal.{FillRefusal}
 use Rattle.refusals.specs.declared.FillRefusal.the-variants.{Text, ShortBuffer, BadSet, Unfounded}
@@ -82,183 +81,182 @@ first-nowhere s i f h = sym (first-none (length s) (λ j. ltb 1 (getD s (pred j)
 
 -- ---- refusals
 
-gives-refused : (P : Program) {x : Result FillRefusal} {q : FillRefusal} → x ≡ fillRefused q → (b l : List ℕ) → FillGives P x (Refused q) b b l l
-gives-refused P {x} {q} e b l = subst (λ (y : Result FillRefusal). FillGives P y (Refused q) b b l l) (sym e) (refl, refl, refl)
+gives-refused : (G : Code) {x : Result FillRefusal} {q : FillRefusal} → x ≡ fillRefused q → (b l : List ℕ) → FillGives G x (Refused q) b b l l
+gives-refused G {x} {q} e b l = subst (λ (y : Result FillRefusal). FillGives G y (Refused q) b b l l) (sym e) (refl, refl, refl)
 
 -- how many values at the front of a list are true
 true-here : (n : ℕ) (xs ys : List ℕ) → n ≤ length xs → trueCount n (xs ++ ys) ≡ trueCount n xs
 unfolding trueCount
 true-here n xs ys h = sum-ext n _ _ (λ i g. ap (λ x. cond x 1 0) (value-here xs ys i (omega (arith, g, h))))
 
-module _ {P : Program} {t : Totals} {hs ss bs ks xs ys : List ℕ} (T : Tabled P t hs ss bs ks xs ys) where
-  atoms-is : t .sizes .n ≡ P .atoms
-  atoms-is = atoms-are P t hs ss bs ks xs ys T
+module _ {G : Code} {t : Totals} {hs ss bs ks xs ys : List ℕ} (T : Tabled G t hs ss bs ks xs ys) where
+  atoms-is : t .sizes .n ≡ G .n
+  atoms-is = atoms-are G t hs ss bs ks xs ys T
 
-  width-is : t .sizes .w ≡ width (P .atoms)
-  width-is = width-are P t hs ss bs ks xs ys T
-
-  vars-is : t .vars ≡ varTotal P
-  vars-is = vars-are P t hs ss bs ks xs ys T
+  vars-is : t .vars ≡ variablesOf G
+  vars-is = vars-are G t hs ss bs ks xs ys T
 
   pub atoms-few : t .sizes .n ≤ 126
-  atoms-few = omega (arith, atoms-is, T .limits .few-atoms)
+  atoms-few = omega (arith, atoms-is, T .limits .within .few-atoms)
 
   -- ---- row 18
 
   module _ (s b l : List ℕ) where
     abbrev M : Atoms
-    M = setIn (P .atoms) s
+    M = setIn (G .n) s
 
     set-is : setIn (t .sizes .n) s ≡ M
     set-is = ap (λ (k : ℕ). setIn k s) atoms-is
 
-    founded-by : {d : Bool} → ltb 0 (differ P M) ≡ d
-        → foundedResult P M ≡ cond d (fillRefused (Unfounded (differ P M))) (Result.accepted 0 (valueBytes (fill P (width (P .atoms)) M)) (tab (P .atoms) (level P M)))
+    founded-by : {d : Bool} → ltb 0 (differ (programOf G) M) ≡ d
+        → foundedResult G M ≡ cond d (fillRefused (Unfounded (differ (programOf G) M))) (Result.accepted 0 (valueBytes (codeFill G M)) (tab (G .n) (levelOf G M)))
     unfolding foundedResult
-    founded-by e = ap (λ d. cond d (fillRefused (Unfounded (differ P M))) (Result.accepted 0 (valueBytes (fill P (width (P .atoms)) M)) (tab (P .atoms) (level P M)))) e
+    founded-by e = ap (λ d. cond d (fillRefused (Unfounded (differ (programOf G) M))) (Result.accepted 0 (valueBytes (codeFill G M)) (tab (G .n) (levelOf G M)))) e
 
-    pub found-room : {f : List ℕ} (rest : List ℕ) → f ≡ tab (t .sizes .n) (level P (setIn (t .sizes .n) s)) ++ rest → t .sizes .n ≤ length f
+    pub found-room : {f : List ℕ} (rest : List ℕ) → f ≡ tab (t .sizes .n) (levelOf G (setIn (t .sizes .n) s)) ++ rest → t .sizes .n ≤ length f
     found-room rest e =
-        omega (arith, ap length e, length-append (tab (t .sizes .n) (level P (setIn (t .sizes .n) s))) rest, length-tab (t .sizes .n) (level P (setIn (t .sizes .n) s)))
+        omega (arith, ap length e, length-append (tab (t .sizes .n) (levelOf G (setIn (t .sizes .n) s))) rest, length-tab (t .sizes .n) (levelOf G (setIn (t .sizes .n) s)))
 
-    pub front-room : {f : List ℕ} (rest : List ℕ) → f ≡ tab (t .sizes .n) (level P (setIn (t .sizes .n) s)) ++ rest → t .sizes .n ≤ length l → length (take (t .sizes .n) f) ≤ length l
+    pub front-room : {f : List ℕ} (rest : List ℕ) → f ≡ tab (t .sizes .n) (levelOf G (setIn (t .sizes .n) s)) ++ rest → t .sizes .n ≤ length l → length (take (t .sizes .n) f) ≤ length l
     front-room {f} rest e h = subst (λ (k : ℕ). k ≤ length l) (sym (length-take-le (t .sizes .n) f (found-room rest e))) h
 
     -- the atoms have bytes in the filled-out values
-    pub filled-room : {c : List ℕ} (rest : List ℕ) → c ≡ valueBytes (fill P (t .sizes .w) (setIn (t .sizes .n) s)) ++ rest → t .sizes .n ≤ length c
+    pub filled-room : {c : List ℕ} (rest : List ℕ) → c ≡ valueBytes (codeFill G (setIn (t .sizes .n) s)) ++ rest → t .sizes .n ≤ length c
     filled-room {c} rest e =
-        let vs = fill P (t .sizes .w) (setIn (t .sizes .n) s) in
+        let vs = codeFill G (setIn (t .sizes .n) s) in
         let k = length-map {B = ℕ} vs (λ b. cond b 1 0) in
-        let v = ap (λ (i : ℕ). length (fill P i (setIn (t .sizes .n) s))) width-is ∙ fill-length P (width (P .atoms)) (T .limits .all-atoms) (width-enough (P .atoms)) (setIn (t .sizes .n) s) in
+        let v = fill-vars G (setIn (t .sizes .n) s) in
         let w = ap length e ∙ length-append (valueBytes vs) rest in
-        omega (arith, k, v, w, atoms-is, atoms-within P)
+        omega (arith, k, v, w, atoms-is, atoms-within G)
 
     -- f holds the levels found
-    module _ {f : List ℕ} (rest : List ℕ) (e : f ≡ tab (t .sizes .n) (level P (setIn (t .sizes .n) s)) ++ rest) {d : ℕ} (g : d ≡ firstDifference (t .sizes .n) s f) where
-      found-is : f ≡ tab (P .atoms) (level P M) ++ rest
-      found-is = e ∙ ap (λ (k : ℕ). tab k (level P (setIn k s)) ++ rest) atoms-is
+    module _ {f : List ℕ} (rest : List ℕ) (e : f ≡ tab (t .sizes .n) (levelOf G (setIn (t .sizes .n) s)) ++ rest) {d : ℕ} (g : d ≡ firstDifference (t .sizes .n) s f) where
+      found-is : f ≡ tab (G .n) (levelOf G M) ++ rest
+      found-is = e ∙ ap (λ (k : ℕ). tab k (levelOf G (setIn k s)) ++ rest) atoms-is
 
-      differ-is : d ≡ differ P M
-      differ-is = g ∙ ap (λ (k : ℕ). firstDifference k s f) atoms-is ∙ unlike-differ P s f rest found-is
+      differ-is : d ≡ differ (programOf G) M
+      differ-is =
+          g ∙ ap (λ (k : ℕ). firstDifference k s f) atoms-is
+          ∙ unlike-differ (programOf G) s f rest (found-is ∙ ap (λ (ℓ : ℕ → ℕ). tab (G .n) ℓ ++ rest) (fun-ext (code-level (T .limits) M)))
 
-      pub founded-refused : 0 < d → FillGives P (foundedResult P (setIn (t .sizes .n) s)) (Refused (Unfounded d)) b b l l
+      pub founded-refused : 0 < d → FillGives G (foundedResult G (setIn (t .sizes .n) s)) (Refused (Unfounded d)) b b l l
       founded-refused h =
-          subst (λ (X : Atoms). FillGives P (foundedResult P X) (Refused (Unfounded d)) b b l l) (sym set-is)
-          (gives-refused P (founded-by (lt-ltb 0 (differ P M) (subst (λ (k : ℕ). 0 < k) differ-is h)) ∙ ap (λ (k : ℕ). fillRefused (Unfounded k)) (sym differ-is)) b l)
+          subst (λ (X : Atoms). FillGives G (foundedResult G X) (Refused (Unfounded d)) b b l l) (sym set-is)
+          (gives-refused G (founded-by (lt-ltb 0 (differ (programOf G) M) (subst (λ (k : ℕ). 0 < k) differ-is h)) ∙ ap (λ (k : ℕ). fillRefused (Unfounded k)) (sym differ-is)) b l)
 
-      pub founded-accepted : d ≤ 0 → {c m : List ℕ} {j k h : ℕ} → c ≡ valueBytes (fill P (t .sizes .w) (setIn (t .sizes .n) s)) ++ drop (t .vars) b
+      pub founded-accepted : d ≤ 0 → {c m : List ℕ} {j k h : ℕ} → c ≡ valueBytes (codeFill G (setIn (t .sizes .n) s)) ++ drop (t .vars) b
           → (j ≡ length (take (t .sizes .n) f)) × (m ≡ take (t .sizes .n) f ++ drop j l)
           → k ≡ trueCount (t .sizes .n) c → h ≡ highest (t .sizes .n) (levelByte m)
-          → FillGives P (foundedResult P (setIn (t .sizes .n) s)) (Filled k h) b c l m
+          → FillGives G (foundedResult G (setIn (t .sizes .n) s)) (Filled k h) b c l m
       founded-accepted z {c} {m} {j} {k} {h} u x y w =
-          subst (λ (X : Atoms). FillGives P (foundedResult P X) (Filled k h) b c l m) (sym set-is)
-          (subst (λ (q : Result FillRefusal). FillGives P q (Filled k h) b c l m) (sym (founded-by (le-ltb 0 (differ P M) (subst (λ (k : ℕ). k ≤ 0) differ-is z))))
+          subst (λ (X : Atoms). FillGives G (foundedResult G X) (Filled k h) b c l m) (sym set-is)
+          (subst (λ (q : Result FillRefusal). FillGives G q (Filled k h) b c l m) (sym (founded-by (le-ltb 0 (differ (programOf G) M) (subst (λ (k : ℕ). k ≤ 0) differ-is z))))
           (ap₂ Filled count-is highest-is, values-are, levels-are))
         where
           vs : List ℕ
-          vs = valueBytes (fill P (width (P .atoms)) M)
+          vs = valueBytes (codeFill G M)
 
           ls : List ℕ
-          ls = tab (P .atoms) (level P M)
+          ls = tab (G .n) (levelOf G M)
 
-          values-are : c ≡ vs ++ drop (varTotal P) b
+          values-are : c ≡ vs ++ drop (variablesOf G) b
           values-are =
-              u ∙ ap (λ (X : Atoms). valueBytes (fill P (t .sizes .w) X) ++ drop (t .vars) b) set-is
-              ∙ ap₂ (λ (i v : ℕ). valueBytes (fill P i M) ++ drop v b) width-is vars-is
+              u ∙ ap (λ (X : Atoms). valueBytes (codeFill G X) ++ drop (t .vars) b) set-is
+              ∙ ap (λ (v : ℕ). valueBytes (codeFill G M) ++ drop v b) vars-is
 
-          values-length : length vs ≡ varTotal P
-          values-length = length-map (fill P (width (P .atoms)) M) (λ b. cond b 1 0) ∙ fill-length P (width (P .atoms)) (T .limits .all-atoms) (width-enough (P .atoms)) M
+          values-length : length vs ≡ variablesOf G
+          values-length = length-map (codeFill G M) (λ b. cond b 1 0) ∙ fill-vars G M
 
           front-is : take (t .sizes .n) f ≡ ls
-          front-is = ap₂ take atoms-is found-is ∙ take-at ls rest (P .atoms) (length-tab (P .atoms) (level P M))
+          front-is = ap₂ take atoms-is found-is ∙ take-at ls rest (G .n) (length-tab (G .n) (levelOf G M))
 
-          levels-are : m ≡ ls ++ drop (P .atoms) l
-          levels-are = x .1 ∙ ap₂ (λ (y : List ℕ) (i : ℕ). y ++ drop i l) front-is (x .0 ∙ ap length front-is ∙ length-tab (P .atoms) (level P M))
+          levels-are : m ≡ ls ++ drop (G .n) l
+          levels-are = x .1 ∙ ap₂ (λ (y : List ℕ) (i : ℕ). y ++ drop i l) front-is (x .0 ∙ ap length front-is ∙ length-tab (G .n) (levelOf G M))
 
-          count-is : k ≡ trueCount (P .atoms) vs
+          count-is : k ≡ trueCount (G .n) vs
           count-is =
-              y ∙ ap₂ trueCount atoms-is values-are ∙ true-here (P .atoms) vs (drop (varTotal P) b) (omega (arith, atoms-within P, values-length))
+              y ∙ ap₂ trueCount atoms-is values-are ∙ true-here (G .n) vs (drop (variablesOf G) b) (omega (arith, atoms-within G, values-length))
 
-          highest-is : h ≡ highest (P .atoms) (levelByte ls)
+          highest-is : h ≡ highest (G .n) (levelByte ls)
           highest-is =
               w ∙ ap₂ (λ (i : ℕ) (y : List ℕ). highest i (levelByte y)) atoms-is levels-are
-              ∙ highest-same (P .atoms) (levelByte (ls ++ drop (P .atoms) l)) (levelByte ls) (λ i g. getD-here ls (drop (P .atoms) l) 0 (P .atoms) i (length-tab (P .atoms) (level P M)) g)
+              ∙ highest-same (G .n) (levelByte (ls ++ drop (G .n) l)) (levelByte ls) (λ i g. getD-here ls (drop (G .n) l) 0 (G .n) i (length-tab (G .n) (levelOf G M)) g)
 
     -- ---- rows 8 and 17
 
     abbrev x : Result FillRefusal
-    x = fillResult P s (length b) (length l)
+    x = fillResult G s (length b) (length l)
 
     abbrev by : Bool → Bool → Bool → Bool → Result FillRefusal
     by c d e f =
-        cond c (fillRefused (ShortBuffer (varTotal P)))
-        (cond d (fillRefused (ShortBuffer (P .atoms)))
-        (cond e (fillRefused (BadSet (P .atoms))) (cond f (fillRefused (BadSet (firstBad s - 1))) (foundedResult P M))))
+        cond c (fillRefused (ShortBuffer (variablesOf G)))
+        (cond d (fillRefused (ShortBuffer (G .n)))
+        (cond e (fillRefused (BadSet (G .n))) (cond f (fillRefused (BadSet (firstBad s - 1))) (foundedResult G M))))
 
     abbrev test2 : Bool
-    test2 = ltb (length l) (P .atoms)
+    test2 = ltb (length l) (G .n)
 
     abbrev test3 : Bool
-    test3 = not (eqb (length s) (P .atoms))
+    test3 = not (eqb (length s) (G .n))
 
     abbrev test4 : Bool
     test4 = ltb 0 (firstBad s)
 
-    pub short-assignment : length b < t .vars → FillGives P x (Refused (ShortBuffer (t .vars))) b b l l
+    pub short-assignment : length b < t .vars → FillGives G x (Refused (ShortBuffer (t .vars))) b b l l
     short-assignment h =
-        subst (λ (v : ℕ). FillGives P x (Refused (ShortBuffer v)) b b l l) (sym vars-is)
-        (gives-refused P (ap (λ c. by c test2 test3 test4) (lt-ltb (length b) (varTotal P) (subst (λ (v : ℕ). length b < v) vars-is h))) b l)
+        subst (λ (v : ℕ). FillGives G x (Refused (ShortBuffer v)) b b l l) (sym vars-is)
+        (gives-refused G (ap (λ c. by c test2 test3 test4) (lt-ltb (length b) (variablesOf G) (subst (λ (v : ℕ). length b < v) vars-is h))) b l)
 
     module _ (h1 : t .vars ≤ length b) where
       past1 : x ≡ by false test2 test3 test4
-      past1 = ap (λ c. by c test2 test3 test4) (le-ltb (length b) (varTotal P) (subst (λ (v : ℕ). v ≤ length b) vars-is h1))
+      past1 = ap (λ c. by c test2 test3 test4) (le-ltb (length b) (variablesOf G) (subst (λ (v : ℕ). v ≤ length b) vars-is h1))
 
-      pub short-levels : length l < t .sizes .n → FillGives P x (Refused (ShortBuffer (t .sizes .n))) b b l l
+      pub short-levels : length l < t .sizes .n → FillGives G x (Refused (ShortBuffer (t .sizes .n))) b b l l
       short-levels h =
-          subst (λ (v : ℕ). FillGives P x (Refused (ShortBuffer v)) b b l l) (sym atoms-is)
-          (gives-refused P (past1 ∙ ap (λ d. by false d test3 test4) (lt-ltb (length l) (P .atoms) (subst (λ (v : ℕ). length l < v) atoms-is h))) b l)
+          subst (λ (v : ℕ). FillGives G x (Refused (ShortBuffer v)) b b l l) (sym atoms-is)
+          (gives-refused G (past1 ∙ ap (λ d. by false d test3 test4) (lt-ltb (length l) (G .n) (subst (λ (v : ℕ). length l < v) atoms-is h))) b l)
 
       module _ (h2 : t .sizes .n ≤ length l) where
         past2 : x ≡ by false false test3 test4
-        past2 = past1 ∙ ap (λ d. by false d test3 test4) (le-ltb (length l) (P .atoms) (subst (λ (v : ℕ). v ≤ length l) atoms-is h2))
+        past2 = past1 ∙ ap (λ d. by false d test3 test4) (le-ltb (length l) (G .n) (subst (λ (v : ℕ). v ≤ length l) atoms-is h2))
 
-        pub wrong-size : (length s ≡ t .sizes .n → ⊥) → FillGives P x (Refused (BadSet (t .sizes .n))) b b l l
+        pub wrong-size : (length s ≡ t .sizes .n → ⊥) → FillGives G x (Refused (BadSet (t .sizes .n))) b b l l
         wrong-size h =
-            subst (λ (v : ℕ). FillGives P x (Refused (BadSet v)) b b l l) (sym atoms-is)
-            (gives-refused P (past2 ∙ ap (λ e. by false false (not e) test4) (ne-eqb (length s) (P .atoms) (λ q. h (q ∙ sym atoms-is)))) b l)
+            subst (λ (v : ℕ). FillGives G x (Refused (BadSet v)) b b l l) (sym atoms-is)
+            (gives-refused G (past2 ∙ ap (λ e. by false false (not e) test4) (ne-eqb (length s) (G .n) (λ q. h (q ∙ sym atoms-is)))) b l)
 
         module _ (h3 : length s ≡ t .sizes .n) {i : ℕ} (e : i ≡ firstBad s) where
           past3 : x ≡ by false false false test4
-          past3 = past2 ∙ ap (λ e. by false false (not e) test4) (eq-eqb (length s) (P .atoms) (h3 ∙ atoms-is))
+          past3 = past2 ∙ ap (λ e. by false false (not e) test4) (eq-eqb (length s) (G .n) (h3 ∙ atoms-is))
 
-          pub bad-at : 0 < i → FillGives P x (Refused (BadSet (i - 1))) b b l l
+          pub bad-at : 0 < i → FillGives G x (Refused (BadSet (i - 1))) b b l l
           bad-at h =
-              gives-refused P (past3 ∙ ap (λ e. by false false false e) (lt-ltb 0 (firstBad s) (subst (λ (k : ℕ). 0 < k) e h)) ∙ ap (λ (k : ℕ). fillRefused (BadSet (k - 1))) (sym e)) b l
+              gives-refused G (past3 ∙ ap (λ e. by false false false e) (lt-ltb 0 (firstBad s) (subst (λ (k : ℕ). 0 < k) e h)) ∙ ap (λ (k : ℕ). fillRefused (BadSet (k - 1))) (sym e)) b l
 
-          pub set-founded : i ≤ 0 → {r : FillVerdict} {c m : List ℕ} → FillGives P (foundedResult P (setIn (t .sizes .n) s)) r b c l m → FillGives P x r b c l m
+          pub set-founded : i ≤ 0 → {r : FillVerdict} {c m : List ℕ} → FillGives G (foundedResult G (setIn (t .sizes .n) s)) r b c l m → FillGives G x r b c l m
           set-founded h {r} {c} {m} u =
-              subst (λ (y : Result FillRefusal). FillGives P y r b c l m) (sym (past3 ∙ ap (λ e. by false false false e) (le-ltb 0 (firstBad s) (subst (λ (k : ℕ). k ≤ 0) e h))))
-              (subst (λ (X : Atoms). FillGives P (foundedResult P X) r b c l m) set-is u)
+              subst (λ (y : Result FillRefusal). FillGives G y r b c l m) (sym (past3 ∙ ap (λ e. by false false false e) (le-ltb 0 (firstBad s) (subst (λ (k : ℕ). k ≤ 0) e h))))
+              (subst (λ (X : Atoms). FillGives G (foundedResult G X) r b c l m) set-is u)
 
 -- ---- on a program that was read, and on a text
 
 module _ (s b l : List ℕ) {r : FillVerdict} {c m : List ℕ} where
-  pub same-program : {P Q : Program} → P ≡ Q → FillGives P (fillResult P s (length b) (length l)) r b c l m → FillGives Q (fillResult Q s (length b) (length l)) r b c l m
-  same-program e u = subst (λ (X : Program). FillGives X (fillResult X s (length b) (length l)) r b c l m) e u
+  pub same-code : {G H : Code} → G ≡ H → FillGives G (fillResult G s (length b) (length l)) r b c l m → FillGives H (fillResult H s (length b) (length l)) r b c l m
+  same-code e u = subst (λ (X : Code). FillGives X (fillResult X s (length b) (length l)) r b c l m) e u
 
 -- the answer and the buffers are those of the call
 abbrev pub Called : List ℕ → List ℕ → List ℕ → List ℕ → FillVerdict → List ℕ → List ℕ → Type 0
 Called t s b l r c m = (r ≡ fillAnswer t s (length b) (length l)) × (c ≡ fillAssignment t s b (length l)) × (m ≡ fillLevels t s (length b) l)
 
 module _ (t s b l : List ℕ) {x : ReadResult} (e : x ≡ readOf t) {r : FillVerdict} {c m : List ℕ} where
-  called : {q : ReadVerdict} → x .verdict ≡ q → FillGives (programRead x) (fillAfterReading q (fillResult (programRead x) s (length b) (length l))) r b c l m → Called t s b l r c m
+  called : {q : ReadVerdict} → x .verdict ≡ q → FillGives (codeOf (programRead x)) (fillAfterReading q (fillResult (codeOf (programRead x)) s (length b) (length l))) r b c l m → Called t s b l r c m
   unfolding fillOf fillAnswer fillAssignment fillLevels
   called v u =
-      subst (λ (y : ReadResult). FillGives (programRead y) (fillAfterReading (y .verdict) (fillResult (programRead y) s (length b) (length l))) r b c l m) e
-      (subst (λ (q : ReadVerdict). FillGives (programRead x) (fillAfterReading q (fillResult (programRead x) s (length b) (length l))) r b c l m) (sym v) u)
+      subst (λ (y : ReadResult). FillGives (codeOf (programRead y)) (fillAfterReading (y .verdict) (fillResult (codeOf (programRead y)) s (length b) (length l))) r b c l m) e
+      (subst (λ (q : ReadVerdict). FillGives (codeOf (programRead x)) (fillAfterReading q (fillResult (codeOf (programRead x)) s (length b) (length l))) r b c l m) (sym v) u)
 
-  pub read-accepted : x .verdict ≡ Accepted → FillGives (programRead x) (fillResult (programRead x) s (length b) (length l)) r b c l m → Called t s b l r c m
+  pub read-accepted : x .verdict ≡ Accepted → FillGives (codeOf (programRead x)) (fillResult (codeOf (programRead x)) s (length b) (length l)) r b c l m → Called t s b l r c m
   read-accepted v u = called v u
 
 pub read-refused : (t s b l : List ℕ) {x : ReadResult} → x ≡ readOf t → {q : TextRefusal} → x .verdict ≡ TextRefused q → Called t s b l (Refused (Text q)) b l
-read-refused t s b l {x} e {q} v = called t s b l e v (gives-refused (programRead x) refl b l)
+read-refused t s b l {x} e {q} v = called t s b l e v (gives-refused (codeOf (programRead x)) refl b l)

@@ -19,6 +19,7 @@ use Rattle.lists.proofs.Tests.{le-or-lt}
 use Rattle.lists.proofs.Tables.{sum-ext}
 use Rattle.meaning.specs.Program.{Program, Atoms, isAtom, wellFormed}
 use Rattle.meaning.specs.Stage.{Stable, level, differ}
+use Rattle.encoding.specs.Code.{codeOf}
 use Rattle.encoding.specs.Width.{width}
 use Rattle.encoding.specs.Literal.{valueOf}
 use Rattle.encoding.specs.Fill.{fill}
@@ -80,7 +81,7 @@ is-program t P A = ap (λ (x : ReadResult). decoded (x .program)) (admitted-answ
 
 refused-answer : (t s : List ℕ) (a l : ℕ) (r : TextRefusal) → readOf t .verdict ≡ TextRefused r → fillAnswer t s a l ≡ Refused (Text r)
 unfolding fillAnswer fillOf
-refused-answer t s a l r v = ap (λ (y : ReadVerdict). fillVerdictOf (programRead (readOf t) .atoms) (fillAfterReading y (fillResult (programRead (readOf t)) s a l))) v
+refused-answer t s a l r v = ap (λ (y : ReadVerdict). fillVerdictOf (programRead (readOf t) .atoms) (fillAfterReading y (fillResult (codeOf (programRead (readOf t))) s a l))) v
 
 module _ (t s b l : List ℕ) where
   module _ (v : readOf t .verdict ≡ Accepted) where

@@ -5,8 +5,8 @@ use mathlib.Core.Path.{_≡_, sym, _∙_, ap, subst}
 use mathlib.Core.Logic.{⊎-elim}
 use mathlib.Core.List.{List}
 use Rattle.lists.proofs.Tests.{le-or-lt}
-use Rattle.meaning.specs.Program.{Program}
 use Rattle.encoding.specs.Clauses.{pairCount, emptyBodies}
+use Rattle.encoding.specs.Code.{Code, codeOf}
 use Rattle.program.specs.declared.Program.{Program as Arrays}
 use Rattle.program.specs.Arrays.{decoded}
 use Rattle.reader.specs.declared.ReadResult.{ReadResult}
@@ -18,8 +18,8 @@ use Rattle.reader_laws.proofs.Rows.{not-both}
 use Rattle.reader_laws.proofs.Contents.{accepted-admitted, admitted-answer}
 use Rattle.clause_tables.specs.declared.Pairs.{Pairs}
 use Rattle.clause_tables.specs.declared.Totals.{Totals}
-use Rattle.clause_tables.specs.Tables.{Stored, Tabled, pairTable, totalsOf, programIn, Ready}
-use Rattle.clause_table_laws.proofs.Elements.{programIn-is, ready, kept-stored}
+use Rattle.clause_tables.specs.Tables.{Stored, Tabled, pairTable, totalsOf, codeIn, Ready}
+use Rattle.clause_table_laws.proofs.Elements.{codeIn-is, ready, kept-stored}
 
 -- ---- from the arrays of a program
 
@@ -29,18 +29,18 @@ module _ {A : Arrays} (S : Stored A) where
     unfolding pairTable
     totals-asks = (S, ap (λ (x : Pairs). x .count) e, ap (λ (x : Pairs). x .empty) e)
 
-    pub ready-of : {t : Totals} → t ≡ totalsOf (decoded A) → Ready t (A .heads) (A .starts) (A .bodies) (k .before) (k .bodies) (k .heads)
+    pub ready-of : {t : Totals} → t ≡ totalsOf (codeOf (decoded A)) → Ready t (A .heads) (A .starts) (A .bodies) (k .before) (k .bodies) (k .heads)
     ready-of {t} f =
         subst (λ (x : Pairs). Ready t (A .heads) (A .starts) (A .bodies) (x .before) (x .bodies) (x .heads)) (sym e)
         (subst (λ (x : Totals). Ready x (A .heads) (A .starts) (A .bodies) (pairTable (decoded A) .before) (pairTable (decoded A) .bodies) (pairTable (decoded A) .heads)) (sym f) (ready A S))
 
-pub program-is : (A : Arrays) {t : Totals} → t ≡ totalsOf (decoded A) → programIn (t .sizes) (A .heads) (A .starts) (A .bodies) ≡ decoded A
-program-is A {t} f = programIn-is A t f
+pub code-is : (A : Arrays) {t : Totals} → t ≡ totalsOf (codeOf (decoded A)) → codeIn t (A .heads) (A .starts) (A .bodies) ≡ codeOf (decoded A)
+code-is A {t} f = codeIn-is A t f
 
-pub tabled : {A : Arrays} → Stored A → {k : Pairs} → k ≡ pairTable (decoded A) → {t : Totals} → t ≡ totalsOf (decoded A)
-    → Tabled (decoded A) t (A .heads) (A .starts) (A .bodies) (k .before) (k .bodies) (k .heads)
+pub tabled : {A : Arrays} → Stored A → {k : Pairs} → k ≡ pairTable (decoded A) → {t : Totals} → t ≡ totalsOf (codeOf (decoded A))
+    → Tabled (codeOf (decoded A)) t (A .heads) (A .starts) (A .bodies) (k .before) (k .bodies) (k .heads)
 tabled {A} S {k} e {t} f =
-    subst (λ (P : Program). Tabled P t (A .heads) (A .starts) (A .bodies) (k .before) (k .bodies) (k .heads)) (program-is A f) (ready-of S e f)
+    subst (λ (G : Code). Tabled G t (A .heads) (A .starts) (A .bodies) (k .before) (k .bodies) (k .heads)) (code-is A f) (ready-of S e f)
 
 -- ---- from the text
 

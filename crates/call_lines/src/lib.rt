@@ -15,9 +15,10 @@ use refusals::LineRefusal;
 ghost use Prim.Native.Nat.{_-_};
 ghost use mathlib.Core.Path.{_≡_};
 ghost use lib.ListN.{length};
+ghost use Rattle.encoding.specs.Code.{codeOf};
 ghost use Rattle.program.specs.Arrays.{decoded};
-ghost use Rattle.clause_tables.specs.Tables.{Stored, programIn, Ready};
-ghost use Rattle.clause_runs.specs.Lines.{runBytesIn};
+ghost use Rattle.clause_tables.specs.Tables.{Stored, codeIn, Ready};
+ghost use Rattle.clause_runs.specs.Lines.{codeRunBytes};
 ghost use Rattle.call_lines_rows.specs.Lines.{answerIn, lineBytesIn, lineAnswer, lineBytes, runAnswerIn, runAnswer, runBytes};
 
 // Line j into the buffer from place `from` on.
@@ -35,9 +36,9 @@ fn line_in<'a>(
 ) -> LineVerdict
     requires { ⌜ Ready t (now heads) (now starts) (now bodies) (now before) (now partners) (now owners) ⌝ }
     ensures { λ r. ⌜ (r
-        ≡ answerIn (programIn (t .sizes) (now (heads .entry)) (now (starts .entry)) (now (bodies .entry))) j (length (now (buf .entry)) - from))
+        ≡ answerIn (codeIn t (now (heads .entry)) (now (starts .entry)) (now (bodies .entry))) j (length (now (buf .entry)) - from))
         × (now (buf .exit)
-        ≡ lineBytesIn (programIn (t .sizes) (now (heads .entry)) (now (starts .entry)) (now (bodies .entry))) j from (now (buf .entry))) ⌝ }
+        ≡ lineBytesIn (codeIn t (now (heads .entry)) (now (starts .entry)) (now (bodies .entry))) j from (now (buf .entry))) ⌝ }
 {
     if t.clauses < j {
         return LineVerdict::Refused(LineRefusal::NoSuchClause(t.clauses));
@@ -77,8 +78,8 @@ fn run_in<'a>(
 ) -> RunVerdict
     requires { ⌜ Ready t (now heads) (now starts) (now bodies) (now before) (now partners) (now owners) ⌝ }
     ensures { λ r. ⌜ (r
-        ≡ runAnswerIn (programIn (t .sizes) (now (heads .entry)) (now (starts .entry)) (now (bodies .entry))) j (length (now (buf .entry))))
-        × (now (buf .exit) ≡ runBytesIn (programIn (t .sizes) (now (heads .entry)) (now (starts .entry)) (now (bodies .entry))) j (now (buf .entry))) ⌝ }
+        ≡ runAnswerIn (codeIn t (now (heads .entry)) (now (starts .entry)) (now (bodies .entry))) j (length (now (buf .entry))))
+        × (now (buf .exit) ≡ codeRunBytes (codeIn t (now (heads .entry)) (now (starts .entry)) (now (bodies .entry))) j (now (buf .entry))) ⌝ }
 {
     if t.clauses < j {
         return RunVerdict::RefusedRun(LineRefusal::NoSuchClause(t.clauses));
@@ -105,7 +106,7 @@ fn run_in<'a>(
 // Line j of a program that was read.
 fn line_of(p: Program, j: usize, from: usize, buf: &mut [u8]) -> LineVerdict
     requires { ⌜ Stored p ⌝ }
-    ensures { λ r. ⌜ (r ≡ answerIn (decoded p) j (length (now (buf .entry)) - from)) × (now (buf .exit) ≡ lineBytesIn (decoded p) j from (now (buf .entry))) ⌝ }
+    ensures { λ r. ⌜ (r ≡ answerIn (codeOf (decoded p)) j (length (now (buf .entry)) - from)) × (now (buf .exit) ≡ lineBytesIn (codeOf (decoded p)) j from (now (buf .entry))) ⌝ }
 {
     let k = pairs_of(p);
     let t = totals_of(p, k.count, k.empty);
@@ -126,7 +127,7 @@ fn line_of(p: Program, j: usize, from: usize, buf: &mut [u8]) -> LineVerdict
 // A run of lines of a program that was read, from line j on.
 fn run_of(p: Program, j: usize, buf: &mut [u8]) -> RunVerdict
     requires { ⌜ Stored p ⌝ }
-    ensures { λ r. ⌜ (r ≡ runAnswerIn (decoded p) j (length (now (buf .entry)))) × (now (buf .exit) ≡ runBytesIn (decoded p) j (now (buf .entry))) ⌝ }
+    ensures { λ r. ⌜ (r ≡ runAnswerIn (codeOf (decoded p)) j (length (now (buf .entry)))) × (now (buf .exit) ≡ codeRunBytes (codeOf (decoded p)) j (now (buf .entry))) ⌝ }
 {
     let k = pairs_of(p);
     let t = totals_of(p, k.count, k.empty);

@@ -19,6 +19,7 @@ use borrow.Author.Tests.{le-leb, lt-leb, ltb-true, ltb-false}
 use Rattle.lists.specs.Lists.{tab, joined}
 use Rattle.lists.proofs.Tests.{le-or-lt}
 use Rattle.meaning.specs.Program.{Program}
+use Rattle.encoding.specs.Code.{codeOf}
 use Rattle.reader.specs.declared.ReadResult.{ReadResult}
 use Rattle.reader.specs.declared.ReadVerdict.{ReadVerdict}
 use Rattle.reader.specs.declared.ReadVerdict.the-variants.{Accepted, Refused as TextRefused}
@@ -34,7 +35,7 @@ use Rattle.call_lines_rows.specs.declared.LineVerdict.{LineVerdict}
 use Rattle.call_lines_rows.specs.declared.LineVerdict.the-variants.{Written, Refused}
 use Rattle.call_lines_rows.specs.declared.RunVerdict.{RunVerdict}
 use Rattle.call_lines_rows.specs.declared.RunVerdict.the-variants.{WrittenRun, RefusedRun}
-use Rattle.clause_runs.specs.Lines.{clauseTotal, linesOf, lineOf, fitting, runIn, runBytesIn}
+use Rattle.clause_runs.specs.Lines.{clauseTotal, linesOf, lineOf, fitting, runIn, codeRunBytes}
 use Rattle.call_lines_rows.specs.Lines.{afterText, keptBytes, answerIn, lineBytesIn, lineAnswer, lineBytes, afterTextRun, runAnswerIn, runAnswer, runBytes}
 use Rattle.call_lines_rows.specs.Rows.{RunWritten}
 use Rattle.clause_runs.proofs.Placed.{total-is, lines-count}
@@ -88,7 +89,7 @@ pub line-stays : (t : List ℕ) (j k : ℕ) (b : List ℕ) (r : LineRefusal) →
 unfolding lineAnswer lineBytes
 line-stays t j k b r = go (readOf t .verdict)
   where
-    go : (v : ReadVerdict) → afterText v (answerIn (decoded (readOf t .program)) j (length b - k)) ≡ Refused r → keptBytes v (lineBytesIn (decoded (readOf t .program)) j k b) b ≡ b
+    go : (v : ReadVerdict) → afterText v (answerIn (codeOf (decoded (readOf t .program))) j (length b - k)) ≡ Refused r → keptBytes v (lineBytesIn (codeOf (decoded (readOf t .program))) j k b) b ≡ b
     go Accepted e = stays _ _ _ b _ (ltb (clauseTotal (decoded (readOf t .program))) j) (ltb (length b - k) (length (lineOf (decoded (readOf t .program)) j))) e
     go (TextRefused q) e = refl
 
@@ -106,11 +107,11 @@ line-writes t j k b x e P a =
     let w = writes _ _ (length (lineOf P j)) b (take k b ++ (lineOf P j ++ drop (k + length (lineOf P j)) b)) (ltb (clauseTotal P) j) (ltb (length b - k) (length (lineOf P j))) (sym answer ∙ e) in
     (w .0, bytes ∙ w .1 ∙ ap (λ (n : ℕ). take k b ++ (lineOf P j ++ drop (k + n) b)) (sym (w .0)))
   where
-    answer : afterText (readOf t .verdict) (answerIn (decoded (readOf t .program)) j (length b - k)) ≡ answerIn P j (length b - k)
-    answer = ap₂ (λ (v : ReadVerdict) (Q : Program). afterText v (answerIn Q j (length b - k))) (verdict-read t P a) (program-read t P a)
+    answer : afterText (readOf t .verdict) (answerIn (codeOf (decoded (readOf t .program))) j (length b - k)) ≡ answerIn (codeOf P) j (length b - k)
+    answer = ap₂ (λ (v : ReadVerdict) (Q : Program). afterText v (answerIn (codeOf Q) j (length b - k))) (verdict-read t P a) (program-read t P a)
 
-    bytes : keptBytes (readOf t .verdict) (lineBytesIn (decoded (readOf t .program)) j k b) b ≡ lineBytesIn P j k b
-    bytes = ap₂ (λ (v : ReadVerdict) (Q : Program). keptBytes v (lineBytesIn Q j k b) b) (verdict-read t P a) (program-read t P a)
+    bytes : keptBytes (readOf t .verdict) (lineBytesIn (codeOf (decoded (readOf t .program))) j k b) b ≡ lineBytesIn (codeOf P) j k b
+    bytes = ap₂ (λ (v : ReadVerdict) (Q : Program). keptBytes v (lineBytesIn (codeOf Q) j k b) b) (verdict-read t P a) (program-read t P a)
 
 -- ---- a run is refused as its first line
 
@@ -132,17 +133,17 @@ pub run-refused-as : (t : List ℕ) (j n : ℕ) (r : LineRefusal) → (runAnswer
 unfolding lineAnswer runAnswer
 run-refused-as t j n r = (to (readOf t .verdict), from (readOf t .verdict))
   where
-    to : (v : ReadVerdict) → afterTextRun v (runAnswerIn (decoded (readOf t .program)) j n) ≡ RefusedRun r → afterText v (answerIn (decoded (readOf t .program)) j (n - 0)) ≡ Refused r
+    to : (v : ReadVerdict) → afterTextRun v (runAnswerIn (codeOf (decoded (readOf t .program))) j n) ≡ RefusedRun r → afterText v (answerIn (codeOf (decoded (readOf t .program))) j (n - 0)) ≡ Refused r
     to Accepted e =
-        ap (answerIn (decoded (readOf t .program)) j) (no-place n)
+        ap (answerIn (codeOf (decoded (readOf t .program))) j) (no-place n)
         ∙ sym (as-line _ _ (length (lineOf (decoded (readOf t .program)) j)) _ _ (ltb (clauseTotal (decoded (readOf t .program))) j) (ltb n (length (lineOf (decoded (readOf t .program)) j))))
         ∙ ap (asLine (length (lineOf (decoded (readOf t .program)) j))) e
     to (TextRefused q) e = ap (asLine 0) e
 
-    from : (v : ReadVerdict) → afterText v (answerIn (decoded (readOf t .program)) j (n - 0)) ≡ Refused r → afterTextRun v (runAnswerIn (decoded (readOf t .program)) j n) ≡ RefusedRun r
+    from : (v : ReadVerdict) → afterText v (answerIn (codeOf (decoded (readOf t .program))) j (n - 0)) ≡ Refused r → afterTextRun v (runAnswerIn (codeOf (decoded (readOf t .program))) j n) ≡ RefusedRun r
     from Accepted e =
         sym (as-run _ _ (length (lineOf (decoded (readOf t .program)) j)) (fitting n (drop j (linesOf (decoded (readOf t .program))))) (length (joined (runIn (decoded (readOf t .program)) j n))) (ltb (clauseTotal (decoded (readOf t .program))) j) (ltb n (length (lineOf (decoded (readOf t .program)) j))))
-        ∙ ap (asRun (fitting n (drop j (linesOf (decoded (readOf t .program))))) (length (joined (runIn (decoded (readOf t .program)) j n)))) (ap (answerIn (decoded (readOf t .program)) j) (sym (no-place n)) ∙ e)
+        ∙ ap (asRun (fitting n (drop j (linesOf (decoded (readOf t .program))))) (length (joined (runIn (decoded (readOf t .program)) j n)))) (ap (answerIn (codeOf (decoded (readOf t .program))) j) (sym (no-place n)) ∙ e)
     from (TextRefused q) e = ap (asRun 0 0) e
 
 -- ---- the lines of a run
@@ -192,7 +193,7 @@ module _ (t : List ℕ) (v : readOf t .verdict ≡ Accepted) where
   abbrev P : Program
   P = decoded (readOf t .program)
 
-  T : Tabled P (totalsOf P) (readOf t .program .heads) (readOf t .program .starts) (readOf t .program .bodies) (pairTable P .before) (pairTable P .bodies) (pairTable P .heads)
+  T : Tabled (codeOf P) (totalsOf (codeOf P)) (readOf t .program .heads) (readOf t .program .starts) (readOf t .program .bodies) (pairTable P .before) (pairTable P .bodies) (pairTable P .heads)
   T = tabled (stored t v) refl refl
 
   lines-many : length (linesOf P) ≡ suc (clauseTotal P)
@@ -215,28 +216,28 @@ module _ (t : List ℕ) (v : readOf t .verdict ≡ Accepted) where
           ap (fitting n) (drop-cons (linesOf P) j [] h)
           ∙ ap (λ (d : Bool). cond d (suc (fitting (n - length (lineOf P j)) (drop (suc j) (linesOf P)))) 0) (lt-leb (length (lineOf P j)) n q)
 
-  run-none-bytes : (j : ℕ) (b : List ℕ) {r : LineRefusal} → runAnswerIn P j (length b) ≡ RefusedRun r → runBytesIn P j b ≡ b
+  run-none-bytes : (j : ℕ) (b : List ℕ) {r : LineRefusal} → runAnswerIn (codeOf P) j (length b) ≡ RefusedRun r → codeRunBytes (codeOf P) j b ≡ b
   run-none-bytes j b e = go (run-refuses _ _ _ _ (ltb (clauseTotal P) j) (ltb (length b) (length (lineOf P j))) e)
     where
-      empty : fitting (length b) (drop j (linesOf P)) ≡ 0 → runBytesIn P j b ≡ b
+      empty : fitting (length b) (drop j (linesOf P)) ≡ 0 → codeRunBytes (codeOf P) j b ≡ b
       empty z = ap (λ (k : ℕ). joined (take k (drop j (linesOf P))) ++ drop (length (joined (take k (drop j (linesOf P))))) b) z
 
-      go : (ltb (clauseTotal P) j ≡ true) ⊎ (ltb (length b) (length (lineOf P j)) ≡ true) → runBytesIn P j b ≡ b
+      go : (ltb (clauseTotal P) j ≡ true) ⊎ (ltb (length b) (length (lineOf P j)) ≡ true) → codeRunBytes (codeOf P) j b ≡ b
       go (inl h) =
           empty (ap (fitting (length b)) (drop-of-length-le (linesOf P) (subst (λ (k : ℕ). k ≤ j) (sym lines-many) (ltb-true (clauseTotal P) j h))))
       go (inr h) = empty (none-fits j (length b) (ltb-true (length b) (length (lineOf P j)) h))
 
-  run-written : (j : ℕ) (b : List ℕ) {m x : ℕ} → runAnswerIn P j (length b) ≡ WrittenRun m x → RunWritten P j b m x (runBytesIn P j b)
+  run-written : (j : ℕ) (b : List ℕ) {m x : ℕ} → runAnswerIn (codeOf P) j (length b) ≡ WrittenRun m x → RunWritten P j b m x (codeRunBytes (codeOf P) j b)
   run-written j b {m} {x} e =
       let g = run-gives _ _ _ _ (ltb (clauseTotal P) j) (ltb (length b) (length (lineOf P j))) e in
-      subst (λ (k : ℕ). RunWritten P j b k x (runBytesIn P j b)) (sym (g .2))
-      (subst (λ (k : ℕ). RunWritten P j b M k (runBytesIn P j b)) (sym (g .3))
+      subst (λ (k : ℕ). RunWritten P j b k x (codeRunBytes (codeOf P) j b)) (sym (g .2))
+      (subst (λ (k : ℕ). RunWritten P j b M k (codeRunBytes (codeOf P) j b)) (sym (g .3))
       (whole (ltb-false (clauseTotal P) j (g .0)) (ltb-false (length b) (length (lineOf P j)) (g .1))))
     where
       M : ℕ
       M = fitting (length b) (drop j (linesOf P))
 
-      whole : j ≤ clauseTotal P → length (lineOf P j) ≤ length b → RunWritten P j b M (length (joined (runIn P j (length b)))) (runBytesIn P j b)
+      whole : j ≤ clauseTotal P → length (lineOf P j) ≤ length b → RunWritten P j b M (length (joined (runIn P j (length b)))) (codeRunBytes (codeOf P) j b)
       whole h q =
           record {
             some = first-fits j (length b) h q;
@@ -259,7 +260,7 @@ pub run-stays : (t : List ℕ) (j : ℕ) (b : List ℕ) (r : LineRefusal) → ru
 unfolding runAnswer runBytes
 run-stays t j b r = go (readOf t .verdict) refl
   where
-    go : (v : ReadVerdict) → readOf t .verdict ≡ v → afterTextRun v (runAnswerIn (decoded (readOf t .program)) j (length b)) ≡ RefusedRun r → keptBytes v (runBytesIn (decoded (readOf t .program)) j b) b ≡ b
+    go : (v : ReadVerdict) → readOf t .verdict ≡ v → afterTextRun v (runAnswerIn (codeOf (decoded (readOf t .program))) j (length b)) ≡ RefusedRun r → keptBytes v (codeRunBytes (codeOf (decoded (readOf t .program))) j b) b ≡ b
     go Accepted v e = run-none-bytes t v j b e
     go (TextRefused q) v e = refl
 
@@ -267,6 +268,6 @@ pub run-writes : (t : List ℕ) (j : ℕ) (b : List ℕ) (m x : ℕ) → runAnsw
     → RunWritten P j b m x (runBytes t j b)
 unfolding runAnswer runBytes
 run-writes t j b m x e P a =
-    subst (λ (Q : Program). RunWritten Q j b m x (keptBytes (readOf t .verdict) (runBytesIn (decoded (readOf t .program)) j b) b)) (program-read t P a)
-    (subst (RunWritten (decoded (readOf t .program)) j b m x) (sym (ap (λ (v : ReadVerdict). keptBytes v (runBytesIn (decoded (readOf t .program)) j b) b) (verdict-read t P a)))
-    (run-written t (verdict-read t P a) j b (sym (ap (λ (v : ReadVerdict). afterTextRun v (runAnswerIn (decoded (readOf t .program)) j (length b))) (verdict-read t P a)) ∙ e)))
+    subst (λ (Q : Program). RunWritten Q j b m x (keptBytes (readOf t .verdict) (codeRunBytes (codeOf (decoded (readOf t .program))) j b) b)) (program-read t P a)
+    (subst (RunWritten (decoded (readOf t .program)) j b m x) (sym (ap (λ (v : ReadVerdict). keptBytes v (codeRunBytes (codeOf (decoded (readOf t .program))) j b) b) (verdict-read t P a)))
+    (run-written t (verdict-read t P a) j b (sym (ap (λ (v : ReadVerdict). afterTextRun v (runAnswerIn (codeOf (decoded (readOf t .program))) j (length b))) (verdict-read t P a)) ∙ e)))

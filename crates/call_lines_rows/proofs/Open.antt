@@ -4,7 +4,7 @@ use Prim.Native.Nat.{ℕ, _-_}
 use mathlib.Core.Path.{_≡_, sym, _∙_, ap, subst}
 use mathlib.Core.List.{List}
 use lib.ListN.{length}
-use Rattle.meaning.specs.Program.{Program}
+use Rattle.encoding.specs.Code.{Code, codeOf}
 use Rattle.reader.specs.declared.ReadResult.{ReadResult}
 use Rattle.refusals.specs.declared.TextRefusal.{TextRefusal}
 use Rattle.reader.specs.declared.ReadVerdict.{ReadVerdict}
@@ -16,48 +16,48 @@ use Rattle.call_lines_rows.specs.declared.LineVerdict.{LineVerdict}
 use Rattle.call_lines_rows.specs.declared.LineVerdict.the-variants.{Refused}
 use Rattle.call_lines_rows.specs.declared.RunVerdict.{RunVerdict}
 use Rattle.call_lines_rows.specs.declared.RunVerdict.the-variants.{RefusedRun}
-use Rattle.clause_runs.specs.Lines.{runBytesIn}
+use Rattle.clause_runs.specs.Lines.{codeRunBytes}
 use Rattle.call_lines_rows.specs.Lines.{answerIn, lineBytesIn, afterText, keptBytes, lineAnswer, lineBytes, runAnswerIn, afterTextRun, runAnswer, runBytes}
 
-module _ {P Q : Program} (e : P ≡ Q) (j k : ℕ) (b : List ℕ) where
-  pub same-line : {x : LineVerdict} {c : List ℕ} → (x ≡ answerIn P j (length b - k)) × (c ≡ lineBytesIn P j k b) → (x ≡ answerIn Q j (length b - k)) × (c ≡ lineBytesIn Q j k b)
-  same-line {x} {c} u = subst (λ (X : Program). (x ≡ answerIn X j (length b - k)) × (c ≡ lineBytesIn X j k b)) e u
+module _ {G H : Code} (e : G ≡ H) (j k : ℕ) (b : List ℕ) where
+  pub same-line : {x : LineVerdict} {c : List ℕ} → (x ≡ answerIn G j (length b - k)) × (c ≡ lineBytesIn G j k b) → (x ≡ answerIn H j (length b - k)) × (c ≡ lineBytesIn H j k b)
+  same-line {x} {c} u = subst (λ (X : Code). (x ≡ answerIn X j (length b - k)) × (c ≡ lineBytesIn X j k b)) e u
 
-module _ {P Q : Program} (e : P ≡ Q) (j : ℕ) (b : List ℕ) where
-  pub same-run : {x : RunVerdict} {c : List ℕ} → (x ≡ runAnswerIn P j (length b)) × (c ≡ runBytesIn P j b) → (x ≡ runAnswerIn Q j (length b)) × (c ≡ runBytesIn Q j b)
-  same-run {x} {c} u = subst (λ (X : Program). (x ≡ runAnswerIn X j (length b)) × (c ≡ runBytesIn X j b)) e u
+module _ {G H : Code} (e : G ≡ H) (j : ℕ) (b : List ℕ) where
+  pub same-run : {x : RunVerdict} {c : List ℕ} → (x ≡ runAnswerIn G j (length b)) × (c ≡ codeRunBytes G j b) → (x ≡ runAnswerIn H j (length b)) × (c ≡ codeRunBytes H j b)
+  same-run {x} {c} u = subst (λ (X : Code). (x ≡ runAnswerIn X j (length b)) × (c ≡ codeRunBytes X j b)) e u
 
 module _ (t : List ℕ) {r : ReadResult} (e : r ≡ readOf t) where
   verdict-is : readOf t .verdict ≡ r .verdict
   verdict-is = ap (λ (x : ReadResult). x .verdict) (sym e)
 
-  program-same : decoded (r .program) ≡ decoded (readOf t .program)
-  program-same = ap (λ (x : ReadResult). decoded (x .program)) e
+  program-same : codeOf (decoded (r .program)) ≡ codeOf (decoded (readOf t .program))
+  program-same = ap (λ (x : ReadResult). codeOf (decoded (x .program))) e
 
   module _ (j k : ℕ) (b : List ℕ) where
     pub line-accepted : r .verdict ≡ Accepted → {x : LineVerdict} {c : List ℕ}
-        → (x ≡ answerIn (decoded (r .program)) j (length b - k)) × (c ≡ lineBytesIn (decoded (r .program)) j k b)
+        → (x ≡ answerIn (codeOf (decoded (r .program))) j (length b - k)) × (c ≡ lineBytesIn (codeOf (decoded (r .program))) j k b)
         → (x ≡ lineAnswer t j k (length b)) × (c ≡ lineBytes t j k b)
     unfolding lineAnswer lineBytes
     line-accepted v {x} {c} u =
         let w = same-line program-same j k b u in
-        (w .0 ∙ sym (ap (λ (y : ReadVerdict). afterText y (answerIn (decoded (readOf t .program)) j (length b - k))) (verdict-is ∙ v)), w .1 ∙ sym (ap (λ (y : ReadVerdict). keptBytes y (lineBytesIn (decoded (readOf t .program)) j k b) b) (verdict-is ∙ v)))
+        (w .0 ∙ sym (ap (λ (y : ReadVerdict). afterText y (answerIn (codeOf (decoded (readOf t .program))) j (length b - k))) (verdict-is ∙ v)), w .1 ∙ sym (ap (λ (y : ReadVerdict). keptBytes y (lineBytesIn (codeOf (decoded (readOf t .program))) j k b) b) (verdict-is ∙ v)))
 
     pub line-refused : {q : TextRefusal} → r .verdict ≡ TextRefused q → (Refused (Text q) ≡ lineAnswer t j k (length b)) × (b ≡ lineBytes t j k b)
     unfolding lineAnswer lineBytes
     line-refused {q} v =
-        (sym (ap (λ (y : ReadVerdict). afterText y (answerIn (decoded (readOf t .program)) j (length b - k))) (verdict-is ∙ v)), sym (ap (λ (y : ReadVerdict). keptBytes y (lineBytesIn (decoded (readOf t .program)) j k b) b) (verdict-is ∙ v)))
+        (sym (ap (λ (y : ReadVerdict). afterText y (answerIn (codeOf (decoded (readOf t .program))) j (length b - k))) (verdict-is ∙ v)), sym (ap (λ (y : ReadVerdict). keptBytes y (lineBytesIn (codeOf (decoded (readOf t .program))) j k b) b) (verdict-is ∙ v)))
 
   module _ (j : ℕ) (b : List ℕ) where
     pub run-accepted : r .verdict ≡ Accepted → {x : RunVerdict} {c : List ℕ}
-        → (x ≡ runAnswerIn (decoded (r .program)) j (length b)) × (c ≡ runBytesIn (decoded (r .program)) j b)
+        → (x ≡ runAnswerIn (codeOf (decoded (r .program))) j (length b)) × (c ≡ codeRunBytes (codeOf (decoded (r .program))) j b)
         → (x ≡ runAnswer t j (length b)) × (c ≡ runBytes t j b)
     unfolding runAnswer runBytes
     run-accepted v {x} {c} u =
         let w = same-run program-same j b u in
-        (w .0 ∙ sym (ap (λ (y : ReadVerdict). afterTextRun y (runAnswerIn (decoded (readOf t .program)) j (length b))) (verdict-is ∙ v)), w .1 ∙ sym (ap (λ (y : ReadVerdict). keptBytes y (runBytesIn (decoded (readOf t .program)) j b) b) (verdict-is ∙ v)))
+        (w .0 ∙ sym (ap (λ (y : ReadVerdict). afterTextRun y (runAnswerIn (codeOf (decoded (readOf t .program))) j (length b))) (verdict-is ∙ v)), w .1 ∙ sym (ap (λ (y : ReadVerdict). keptBytes y (codeRunBytes (codeOf (decoded (readOf t .program))) j b) b) (verdict-is ∙ v)))
 
     pub run-refused : {q : TextRefusal} → r .verdict ≡ TextRefused q → (RefusedRun (Text q) ≡ runAnswer t j (length b)) × (b ≡ runBytes t j b)
     unfolding runAnswer runBytes
     run-refused {q} v =
-        (sym (ap (λ (y : ReadVerdict). afterTextRun y (runAnswerIn (decoded (readOf t .program)) j (length b))) (verdict-is ∙ v)), sym (ap (λ (y : ReadVerdict). keptBytes y (runBytesIn (decoded (readOf t .program)) j b) b) (verdict-is ∙ v)))
+        (sym (ap (λ (y : ReadVerdict). afterTextRun y (runAnswerIn (codeOf (decoded (readOf t .program))) j (length b))) (verdict-is ∙ v)), sym (ap (λ (y : ReadVerdict). keptBytes y (codeRunBytes (codeOf (decoded (readOf t .program))) j b) b) (verdict-is ∙ v)))

@@ -10,13 +10,12 @@ use borrow.Author.Tests.{le-leb}
 use Rattle.lists.specs.Lists.{joined}
 use Rattle.meaning.specs.Program.{Program}
 use Rattle.text.specs.Limits.{Limits}
-use Rattle.encoding.specs.Width.{width}
-use Rattle.encoding.specs.Clauses.{clauses}
+use Rattle.encoding.specs.Code.{codeOf, clausesOf}
 use Rattle.digits.specs.Bytes.{lineText}
-use Rattle.clause_runs.specs.Lines.{clauseTotal, linesOf, lineOf, fitting}
+use Rattle.clause_runs.specs.Lines.{codeLines, clauseTotal, linesOf, lineOf, fitting}
 use Rattle.clause_runs.proofs.Runs.{joined-append}
 use Rattle.call_lines_rows.specs.Parts.{partsOf}
-use Rattle.call_lines_rows.proofs.File.{clause-total, short-lines}
+use Rattle.call_lines_rows.proofs.File.{short-lines}
 
 -- ---- any lines that fit n bytes
 
@@ -49,8 +48,8 @@ joined-parts (suc k) n (l ∷ ls) s h =
 
 module _ (P : Program) (L : Limits P) where
   pub lines-many : length (linesOf P) ≡ suc (clauseTotal P)
-  unfolding linesOf
-  lines-many = ap suc (length-map (clauses P (width (P .atoms))) lineText ∙ sym (clause-total P L))
+  unfolding codeLines
+  lines-many = ap suc (length-map (clausesOf (codeOf P)) lineText)
 
   module _ (n : ℕ) (room : 3008 ≤ n) where
     pub file-parts : joined (partsOf n (suc (clauseTotal P)) (linesOf P)) ≡ joined (linesOf P)

@@ -29,6 +29,7 @@ use Rattle.refusals.specs.declared.LineRefusal.the-variants.{Text, NoSuchClause
 use Rattle.call_lines_rows.specs.declared.LineVerdict.{LineVerdict}
 use Rattle.call_lines_rows.specs.declared.LineVerdict.the-variants.{Written, Refused}
 use Rattle.call_laws.proofs.Texts.{admitted-program, one-admitted, refused-row, refused-admits-none}
+use Rattle.encoding.specs.Code.{codeOf}
 use Rattle.clause_runs.specs.Lines.{clauseTotal, lineOf}
 use Rattle.refusals.specs.Numbers.{lineNumber, lineSpot}
 use Rattle.call_lines_rows.specs.Lines.{answerIn, afterText, lineAnswer}
@@ -79,7 +80,7 @@ module _ (t : List ℕ) (j k n : ℕ) where
         at-row (textNumber x) (textSpot x) (record { met = of-text (F .met); first = text-first })
         (record {
           refusal = Text x;
-          answer-is = ap (λ (w : ReadVerdict). afterText w (answerIn (decoded (readOf t .program)) j (n - k))) v;
+          answer-is = ap (λ (w : ReadVerdict). afterText w (answerIn (codeOf (decoded (readOf t .program))) j (n - k))) v;
           row-is = refl;
           spot-is = refl;
         })
@@ -96,16 +97,16 @@ module _ (t : List ℕ) (j k n : ℕ) where
     same : (Q : Program) → Admitted t Q → Q ≡ P
     same Q a = one-admitted A a
 
-    answer : lineAnswer t j k n ≡ answerIn P j (n - k)
+    answer : lineAnswer t j k n ≡ answerIn (codeOf P) j (n - k)
     unfolding lineAnswer
-    answer = ap (λ (w : ReadVerdict). afterText w (answerIn P j (n - k))) v
+    answer = ap (λ (w : ReadVerdict). afterText w (answerIn (codeOf P) j (n - k))) v
 
     none-such : clauseTotal P < j → LineTold t j k n
     none-such h =
         at-row 9 (clauseTotal P) (record { met = no-such-clause P A h; first = go })
         (record {
           refusal = NoSuchClause (clauseTotal P);
-          answer-is = answer ∙ answer-none P j (n - k) h;
+          answer-is = answer ∙ answer-none (codeOf P) j (n - k) h;
           row-is = refl;
           spot-is = refl;
         })
@@ -124,7 +125,7 @@ module _ (t : List ℕ) (j k n : ℕ) where
           at-row 8 (length (lineOf P j)) (record { met = short-buffer P A f; first = go })
           (record {
             refusal = ShortBuffer (length (lineOf P j));
-            answer-is = answer ∙ answer-short P j (n - k) h f;
+            answer-is = answer ∙ answer-short (codeOf P) j (n - k) h f;
             row-is = refl;
             spot-is = refl;
           })
@@ -137,7 +138,7 @@ module _ (t : List ℕ) (j k n : ℕ) where
       enough : length (lineOf P j) ≤ roomFrom k n → LineTold t j k n
       enough f =
           written (length (lineOf P j))
-          (answer ∙ answer-fits P j (n - k) h f)
+          (answer ∙ answer-fits (codeOf P) j (n - k) h f)
           go
         where
           go : (l u : ℕ) → LineRow t j k n l u → ⊥

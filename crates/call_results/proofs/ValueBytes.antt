@@ -14,15 +14,15 @@ use lib.ListN.{length, getD}
 use Rattle.lists.specs.Lists.{tab, sum, highest}
 use Rattle.lists.proofs.Tables.{length-tab, getD-tab, getD-here}
 use Rattle.lists.proofs.Highest.{highest-same}
-use Rattle.meaning.specs.Program.{Program, isAtom}
+use Rattle.meaning.specs.Program.{isAtom}
+use Rattle.encoding.specs.Code.{Code, variablesOf}
 use Rattle.encoding.specs.Literal.{Assignment, valueOf}
 use Rattle.encoding.specs.Variables.{Sizes}
-use Rattle.encoding.specs.Clauses.{variables}
 use Rattle.encoding.specs.Fill.{counter}
 use Rattle.theory.proofs.Atoms.{by-place}
 use Rattle.answer_offers.specs.Offered.{valueBytes}
 use Rattle.truth_clauses.specs.Truth.{valueIn}
-use Rattle.call_results.specs.Results.{trueCount, levelByte, counters, varTotal}
+use Rattle.call_results.specs.Results.{trueCount, levelByte, counters}
 
 byte-true : (bs : List Bool) (k : ℕ) → not (eqb (getD (valueBytes bs) k 0) 0) ≡ getD bs k false
 byte-true [] k = refl
@@ -49,9 +49,8 @@ levels-same n f = highest-same n (levelByte (tab n f)) f (λ i h. getD-tab n f 0
 
 -- ---- at the front of a list
 
-pub atoms-within : (P : Program) → P .atoms ≤ varTotal P
-unfolding variables
-atoms-within P = omega arith
+pub atoms-within : (G : Code) → G .n ≤ variablesOf G
+atoms-within G = omega arith
 
 pub value-here : (xs ys : List ℕ) (i : ℕ) → i < length xs → valueIn (xs ++ ys) (suc i) ≡ valueIn xs (suc i)
 value-here xs ys i h = ap (λ (x : ℕ). not (eqb x 0)) (getD-here xs ys 0 (length xs) i refl h)

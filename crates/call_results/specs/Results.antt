@@ -15,18 +15,17 @@ use mathlib.Core.List.{List, _++_}
 use lib.ListN.{getD, drop}
 use Rattle.lists.specs.Lists.{tab, sum}
 use Rattle.meaning.specs.Program.{Program}
-use Rattle.encoding.specs.Width.{width}
 use Rattle.encoding.specs.Variables.{Sizes}
-use Rattle.encoding.specs.Clauses.{variables}
+use Rattle.encoding.specs.Code.{codeOf, variablesOf}
 use Rattle.encoding.specs.Fill.{counter}
 use Rattle.reader.specs.declared.ReadResult.{ReadResult}
 use Rattle.program.specs.Arrays.{decoded}
 use Rattle.answer_values.specs.Assign.{overwritten}
 use Rattle.truth_clauses.specs.Truth.{valueIn}
 
--- V, with document 01's width
+-- V
 abbrev pub varTotal : Program → ℕ
-varTotal P = variables P (width (P .atoms))
+varTotal P = variablesOf (codeOf P)
 
 -- the program that a reading accepted
 abbrev pub programRead : ReadResult → Program

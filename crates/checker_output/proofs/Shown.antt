@@ -18,6 +18,7 @@ use lib.Seq.{take-all}
 use types.Run.{OneOf, miss}
 use denote.Enum.Declared.{tagOf}
 use borrow.Author.Tests.{lt-ltb}
+use Rattle.encoding.specs.Code.{codeOf}
 use Rattle.lists.proofs.Tests.{le-or-lt}
 use Rattle.reader.specs.declared.ReadResult.{ReadResult}
 use Rattle.reader.specs.Verdict.{readOf}
@@ -47,11 +48,11 @@ shown-accepted n (TextRefused r) y e = absurd (false≢true e)
 
 -- v, bs and ls are what the check of the answer t of k bytes gives and leaves, with buffers of zeros
 module _ (x : ReadResult) (t : List ℕ) (k : ℕ) {v : CheckVerdict} {bs ls : List ℕ}
-    (g : CheckGives (programRead x) (callResult x t k 9890 126) v (replicate 9890 0) bs (replicate 126 0) ls) where
+    (g : CheckGives (codeOf (programRead x)) (callResult x t k 9890 126) v (replicate 9890 0) bs (replicate 126 0) ls) where
   pub model-atoms : (x .verdict ≡ Accepted → Stored (x .program)) → {i j c : ℕ} → v ≡ Model i j c → x .program .atoms ≤ 126
   unfolding decoded
   model-atoms s m =
-      s (shown-accepted (programRead x .atoms) (x .verdict) (checkResult (programRead x) t k 9890 126) (ap isModel (sym (g .0) ∙ m))) .limits .few-atoms
+      s (shown-accepted (programRead x .atoms) (x .verdict) (checkResult (codeOf (programRead x)) t k 9890 126) (ap isModel (sym (g .0) ∙ m))) .limits .few-atoms
 
   said : checkerVerdictText (programRead x .atoms) v bs ls ≡ checkerOutputOf x t k
   unfolding checkerOutputOf

@@ -1,4 +1,4 @@
--- The blocks of groups 4 and 5, in a program whose tables are given.
+-- The blocks of groups 4 and 5, in a code whose tables are given.
 --   bit-block, next-block   the lines of a chain's bit, and of a block of group 4, are those of the walk's block
 --   bit-short               the variables of the bit are from 1 to 9,999
 --   next-block-asks         what `put_next_block` asks
@@ -17,7 +17,7 @@ use lib.ListN.{length, drop, length-append}
 use borrow.Author.Tests.{eqb-true}
 use Rattle.lists.specs.Lists.{each}
 use Rattle.lists.proofs.Tables.{each-ext}
-use Rattle.meaning.specs.Program.{Program}
+use Rattle.encoding.specs.Code.{Code, its}
 use Rattle.encoding.specs.Literal.{Literal, literalNumber, variable}
 use Rattle.encoding.proofs.Literals.{number-size}
 use Rattle.clause_literals.specs.Sizes.{sizesOf, Bounded}
@@ -64,44 +64,44 @@ slot-short ls (holds x q p h) =
       literal-fits 3 (literalNumber x) (omega (arith, number-size x, h)),
     ))
 
-module _ {P : Program} {t : Totals} {hs ss bs ks xs ys : List ℕ} (T : Tabled P t hs ss bs ks xs ys) where
+module _ {G : Code} {t : Totals} {hs ss bs ks xs ys : List ℕ} (T : Tabled G t hs ss bs ks xs ys) where
   abbrev w : ℕ
   w = t .sizes .w
 
-  slots-short : {g a i y : ℕ} → At P w g a i y → (l : ℕ) → l ≤ slots P w g a i y → length (literalsText (each l (slot P w g a i y))) ≤ l * 6
+  slots-short : {g a i y : ℕ} → At G g a i y → (l : ℕ) → l ≤ slots G g a i y → length (literalsText (each l (slot G g a i y))) ≤ l * 6
   slots-short A zero h = omega arith
   slots-short {g} {a} {i} {y} A (suc l) h =
       omega (
         arith,
-        literals-append-length (each l (slot P w g a i y)) (slot P w g a i y (suc l)),
+        literals-append-length (each l (slot G g a i y)) (slot G g a i y (suc l)),
         slots-short A l (omega (arith, h)),
-        slot-short (slot P w g a i y (suc l)) (slotted T A (suc l) (omega arith) h),
+        slot-short (slot G g a i y (suc l)) (slotted T A (suc l) (omega arith) h),
       )
 
-  module _ {g a i : ℕ} (R : BlockAt P w g a i) where
-    clause-at : (y : ℕ) → y < size P w g a i → At P w g a i (suc y)
+  module _ {g a i : ℕ} (R : BlockAt G g a i) where
+    clause-at : (y : ℕ) → y < size G g a i → At G g a i (suc y)
     clause-at y h = record { block-at = R; clause-some = omega arith; clause-in = h }
 
     -- ---- group 5
 
-    pub bit-block : {c : Chain} {j : ℕ} → g ≡ 5 → c ≡ chainOfBlock P w g a i → j ≡ chainBit w i → bitText c j ≡ blockText P w g a i
+    pub bit-block : {c : Chain} {j : ℕ} → g ≡ 5 → c ≡ chainOfBlock G g a i → j ≡ chainBit w i → bitText c j ≡ blockText G g a i
     bit-block {c} {j} e p q =
-        each-ext (chainSize j) (λ y. lineText (chainClause c j y)) (λ y. lineText (clauseAt P w g a i y))
+        each-ext (chainSize j) (λ y. lineText (chainClause c j y)) (λ y. lineText (clauseAt G g a i y))
         (λ y h. ap lineText (chain-clause T (clause-at y (subst (λ (n : ℕ). y < n) many h)) e p q))
-        ∙ ap (λ (n : ℕ). each n (λ y. lineText (clauseAt P w g a i y))) many
+        ∙ ap (λ (n : ℕ). each n (λ y. lineText (clauseAt G g a i y))) many
       where
-        many : chainSize j ≡ size P w g a i
+        many : chainSize j ≡ size G g a i
         many = size-pair T R e q refl
 
     -- a slot of a chain's clause holds a literal
-    slot-some : (y l : ℕ) → g ≡ 5 → slot P w g a i y l ≡ [] → ⊥
+    slot-some : (y l : ℕ) → g ≡ 5 → slot G g a i y l ≡ [] → ⊥
     unfolding slot
-    slot-some y l e r = none (sym (ap (λ (k : ℕ). slot P w k a i y l) e) ∙ r)
+    slot-some y l e r = none (sym (ap (λ (k : ℕ). slot G k a i y l) e) ∙ r)
       where
         none : {x : Literal} → x ∷ [] ≡ [] → ⊥
         none q = omega (arith, ap length q)
 
-    module _ {c : Chain} {j : ℕ} (e : g ≡ 5) (p : c ≡ chainOfBlock P w g a i) (q : j ≡ chainBit w i) where
+    module _ {c : Chain} {j : ℕ} (e : g ≡ 5) (p : c ≡ chainOfBlock G g a i) (q : j ≡ chainBit w i) where
       abbrev literal : ℕ → ℕ → Literal
       literal y l = chainSlot (c .z .0) (c .x .0) (c .y .0) (c .g .0) j y l
 
@@ -109,13 +109,13 @@ module _ {P : Program} {t : Totals} {hs ss bs ks xs ys : List ℕ} (T : Tabled P
       literal-short : (y l : ℕ) → y < chainSize j → l < chainSlots j (suc y) → Short (variable (literal (suc y) (suc l)))
       literal-short y l h k = go (slotted T A (suc l) (omega arith) (subst (λ (n : ℕ). l < n) (slots-pair T A e q refl) k))
         where
-          A : At P w g a i (suc y)
+          A : At G g a i (suc y)
           A = clause-at y (subst (λ (n : ℕ). y < n) (size-pair T R e q refl) h)
 
-          is : literal (suc y) (suc l) ≡ slotLiteral (slot P w g a i (suc y) (suc l))
+          is : literal (suc y) (suc l) ≡ slotLiteral (slot G g a i (suc y) (suc l))
           is = literal-pair T R (suc y) (suc l) e p q refl
 
-          go : Slotted (slot P w g a i (suc y) (suc l)) → Short (variable (literal (suc y) (suc l)))
+          go : Slotted (slot G g a i (suc y) (suc l)) → Short (variable (literal (suc y) (suc l)))
           go (empty r) = absurd (slot-some (suc y) (suc l) e r)
           go (holds z r u v) =
               record { some = subst (λ (n : ℕ). 0 < n) (sym same) u; fits = omega (arith, v, same) }
@@ -153,30 +153,30 @@ module _ {P : Program} {t : Totals} {hs ss bs ks xs ys : List ℕ} (T : Tabled P
 
     -- ---- group 4
 
-    next-clause : (y : ℕ) → At P w g a i y → g ≡ 4 → nextClause (sizesOf (t .sizes)) a i y ≡ clauseAt P w g a i y
+    next-clause : (y : ℕ) → At G g a i y → g ≡ 4 → nextClause (sizesOf (t .sizes)) a i y ≡ clauseAt G g a i y
     next-clause y A e =
-        each-ext (slots4 i y) (λ l. shownLiteral (slot4 (sizesOf (t .sizes)) a i y l)) (slot P w g a i y)
-        (λ l h. ap shownLiteral (slot-next T A (suc l) e refl) ∙ shown-held (slot P w g a i y (suc l)) (slotted T A (suc l) (omega arith) (subst (λ (n : ℕ). suc l ≤ n) many h)))
-        ∙ ap (λ (n : ℕ). each n (slot P w g a i y)) many
+        each-ext (slots4 i y) (λ l. shownLiteral (slot4 (sizesOf (t .sizes)) a i y l)) (slot G g a i y)
+        (λ l h. ap shownLiteral (slot-next T A (suc l) e refl) ∙ shown-held (slot G g a i y (suc l)) (slotted T A (suc l) (omega arith) (subst (λ (n : ℕ). suc l ≤ n) many h)))
+        ∙ ap (λ (n : ℕ). each n (slot G g a i y)) many
       where
-        many : slots4 i y ≡ slots P w g a i y
+        many : slots4 i y ≡ slots G g a i y
         many = slots-next T A e refl
 
-    pub next-block : g ≡ 4 → nextBlockText (sizesOf (t .sizes)) a i ≡ blockText P w g a i
+    pub next-block : g ≡ 4 → nextBlockText (sizesOf (t .sizes)) a i ≡ blockText G g a i
     next-block e =
         sym (next-blocks (t .sizes) (bounded T) a (atom4 T R e) i (R .block-some) (bits4 T R e))
-        ∙ each-ext (2 * i) (λ y. lineText (nextClause (sizesOf (t .sizes)) a i y)) (λ y. lineText (clauseAt P w g a i y))
+        ∙ each-ext (2 * i) (λ y. lineText (nextClause (sizesOf (t .sizes)) a i y)) (λ y. lineText (clauseAt G g a i y))
         (λ y h. ap lineText (next-clause (suc y) (clause-at y (subst (λ (n : ℕ). y < n) (size-next T R e) h)) e))
-        ∙ ap (λ (n : ℕ). each n (λ y. lineText (clauseAt P w g a i y))) (size-next T R e)
+        ∙ ap (λ (n : ℕ). each n (λ y. lineText (clauseAt G g a i y))) (size-next T R e)
 
-    pub next-block-asks : {n : ℕ} → g ≡ 4 → length (blockText P w g a i) ≤ n
+    pub next-block-asks : {n : ℕ} → g ≡ 4 → length (blockText G g a i) ≤ n
         → (Bounded (t .sizes)) × (0 < a) × (a ≤ 126) × (0 < i) × (i ≤ 7) × (length (nextBlockText (sizesOf (t .sizes)) a i) ≤ n)
     next-block-asks {n} e f =
         (bounded T, R .item-some, atom4 T R e, R .block-some, bits4 T R e, subst (λ (s : List ℕ). length s ≤ n) (sym (next-block e)) f)
 
     -- ---- the length of a block
 
-    few-clauses : (g ≡ 4) ⊎ (g ≡ 5) → size P w g a i ≤ 14
+    few-clauses : (g ≡ 4) ⊎ (g ≡ 5) → size G g a i ≤ 14
     few-clauses (inl e) = omega (arith, size-next T R e, bits4 T R e)
     few-clauses (inr e) = subst (λ (n : ℕ). n ≤ 14) (size-pair T R e refl refl) (go (eqb (chainBit w i) 1))
       where
@@ -184,7 +184,7 @@ module _ {P : Program} {t : Totals} {hs ss bs ks xs ys : List ℕ} (T : Tabled P
         go true = omega arith
         go false = omega arith
 
-    few-slots : (y : ℕ) → At P w g a i y → (g ≡ 4) ⊎ (g ≡ 5) → slots P w g a i y ≤ 8
+    few-slots : (y : ℕ) → At G g a i y → (g ≡ 4) ⊎ (g ≡ 5) → slots G g a i y ≤ 8
     few-slots y A (inl e) = subst (λ (n : ℕ). n ≤ 8) (slots-next T A e refl) (go (ltb (bitOf y) i) (bits4 T R e))
       where
         go : (d : Bool) → i ≤ 7 → cond d 3 (suc i) ≤ 8
@@ -197,15 +197,15 @@ module _ {P : Program} {t : Totals} {hs ss bs ks xs ys : List ℕ} (T : Tabled P
         go true false = omega arith
         go false f = omega arith
 
-    pub block-short : isBlockwise g ≡ true → length (blockText P w g a i) ≤ 3008
+    pub block-short : isBlockwise g ≡ true → length (blockText G g a i) ≤ 3008
     block-short e =
         omega (
           arith,
-          lines-short (λ y. lineText (clauseAt P w g a i y)) 50 (size P w g a i)
+          lines-short (λ y. lineText (clauseAt G g a i y)) 50 (size G g a i)
               (λ y h. omega (
                 arith,
-                line-length (clauseAt P w g a i (suc y)),
-                slots-short (clause-at y h) (slots P w g a i (suc y)) (omega arith),
+                line-length (clauseAt G g a i (suc y)),
+                slots-short (clause-at y h) (slots G g a i (suc y)) (omega arith),
                 few-slots (suc y) (clause-at y h) (blockwise-is g e),
               )),
           few-clauses (blockwise-is g e),

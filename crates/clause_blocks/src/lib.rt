@@ -20,7 +20,7 @@ ghost use Rattle.encoding.specs.Variables.{levelVar};
 ghost use Rattle.clause_literals.specs.Sizes.{sizesOf, Bounded};
 ghost use Rattle.digits.specs.Digits.{digitsOf};
 ghost use Rattle.clause_walk.specs.Walk.{BlockAt};
-ghost use Rattle.clause_tables.specs.Tables.{programIn, Ready};
+ghost use Rattle.clause_tables.specs.Tables.{Ready, codeIn};
 ghost use Rattle.clause_text.specs.Blocks.{isBlockwise, blockText};
 ghost use Rattle.clause_blocks.specs.Texts.{signText, twoText, threeText, firstText, nextText, ShortBit};
 ghost use Rattle.clause_blocks.specs.Texts.{bitText, lowerText, pairText, pairsText, longText, nextBlockText};
@@ -201,12 +201,12 @@ pub fn put_block<'a>(
     buf: &mut [u8],
 ) -> usize
     requires { ⌜ (Ready t (now heads) (now starts) (now bodies) (now before) (now partners) (now owners))
-        × (BlockAt (programIn (t .sizes) (now heads) (now starts) (now bodies)) (t .sizes .w) g a i) × (isBlockwise g ≡ true)
-        × (length (blockText (programIn (t .sizes) (now heads) (now starts) (now bodies)) (t .sizes .w) g a i) ≤ length (now buf)) ⌝ }
+        × (BlockAt (codeIn t (now heads) (now starts) (now bodies)) g a i) × (isBlockwise g ≡ true)
+        × (length (blockText (codeIn t (now heads) (now starts) (now bodies)) g a i) ≤ length (now buf)) ⌝ }
     ensures { λ r. ⌜ (r
-        ≡ length (blockText (programIn (t .sizes) (now (heads .entry)) (now (starts .entry)) (now (bodies .entry))) (t .sizes .w) g a i))
+        ≡ length (blockText (codeIn t (now (heads .entry)) (now (starts .entry)) (now (bodies .entry))) g a i))
         × (now (buf .exit)
-        ≡ blockText (programIn (t .sizes) (now (heads .entry)) (now (starts .entry)) (now (bodies .entry))) (t .sizes .w) g a i
+        ≡ blockText (codeIn t (now (heads .entry)) (now (starts .entry)) (now (bodies .entry))) g a i
         ++ drop r (now (buf .entry))) ⌝ }
 {
     if g == 5 {

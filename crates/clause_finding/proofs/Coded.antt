@@ -22,10 +22,10 @@ use lib.Seq.{getD-take, length-take-le}
 use mir.Syntax.{w16}
 use mir.Val.{Fits}
 use borrow.Author.Tests.{eq-eqb, ne-eqb, le-leb, lt-leb}
+use Rattle.encoding.specs.Code.{Code}
 use Rattle.lists.proofs.Tables.{sum-ext}
 use Rattle.lists.proofs.Growing.{count-le}
 use Rattle.lists.specs.Lists.{sum}
-use Rattle.meaning.specs.Program.{Program}
 use Rattle.clause_literals.specs.Sizes.{Bounded}
 use Rattle.clause_walk.specs.Walk.{itemCount, blockCount, size, BlockAt, At}
 use Rattle.clause_tables.specs.declared.Totals.{Totals}
@@ -106,24 +106,24 @@ count-front m hs a h =
 
 -- ---- from the tables
 
-module _ {P : Program} {t : Totals} {hs ss bs ks xs ys : List ℕ} (T : Tabled P t hs ss bs ks xs ys) where
+module _ {G : Code} {t : Totals} {hs ss bs ks xs ys : List ℕ} (T : Tabled G t hs ss bs ks xs ys) where
   abbrev w : ℕ
   w = t .sizes .w
 
   abbrev gs : ℕ → ℕ
-  gs = groupSize P w
+  gs = groupSize G
 
   pub sizes-in : Bounded (t .sizes)
-  sizes-in = elements.bounded P t hs ss bs ks xs ys T
+  sizes-in = elements.bounded G t hs ss bs ks xs ys T
 
   pub width-asks : {x : ℕ} → x ≡ w → (0 < x) × (x ≤ 7)
-  width-asks e = (omega (arith, e, elements.width-pos P t hs ss bs ks xs ys T), omega (arith, e, sizes-in .bits))
+  width-asks e = (omega (arith, e, elements.width-pos G t hs ss bs ks xs ys T), omega (arith, e, sizes-in .bits))
 
   pub bodies-asks : (t .sizes .m ≤ 500) × (length ss ≡ 1001)
-  bodies-asks = (sizes-in .rules, elements.starts-length P t hs ss bs ks xs ys T)
+  bodies-asks = (sizes-in .rules, elements.starts-length G t hs ss bs ks xs ys T)
 
   pub heads-asks : (t .sizes .m ≤ 500) × (t .sizes .m ≤ length hs)
-  heads-asks = (sizes-in .rules, omega (arith, sizes-in .rules, elements.heads-length P t hs ss bs ks xs ys T))
+  heads-asks = (sizes-in .rules, omega (arith, sizes-in .rules, elements.heads-length G t hs ss bs ks xs ys T))
 
   -- ---- groups
 
@@ -141,8 +141,8 @@ module _ {P : Program} {t : Totals} {hs ss bs ks xs ys : List ℕ} (T : Tabled P
       pub product-fits : x * y ≤ 39000
       product-fits =
           mul-le-mul {n₂ = 500} {m₂ = 78}
-          (subst (λ (n : ℕ). n ≤ 500) (sym (q ∙ p ∙ items-is T g)) (items-fit P (T .limits) g))
-          (subst (λ (n : ℕ). n ≤ 78) (sym size-is) (size-fits g w (elements.width-pos P t hs ss bs ks xs ys T) (sizes-in .bits) .1))
+          (subst (λ (n : ℕ). n ≤ 500) (sym (q ∙ p ∙ items-is T g)) (items-fit G (T .limits) g))
+          (subst (λ (n : ℕ). n ≤ 78) (sym size-is) (size-fits g w (elements.width-pos G t hs ss bs ks xs ys T) (sizes-in .bits) .1))
 
       pub group-rest : 0 < g → g ≤ 5 → (g ≡ 1 → ⊥) → (g ≡ 2 → ⊥) → x * y ≡ gs g
       group-rest h l a b = ap₂ _*_ (q ∙ p) size-is ∙ fixed-group T g h (omega (arith, l)) (fixed-of g a b l)
@@ -166,22 +166,22 @@ module _ {P : Program} {t : Totals} {hs ss bs ks xs ys : List ℕ} (T : Tabled P
 
   -- ---- items
 
-  pub atoms-before : (a : ℕ) {x : ℕ} → x ≡ lowCount (t .sizes .m) hs a + a → x ≡ sum a (itemSize P w 2)
+  pub atoms-before : (a : ℕ) {x : ℕ} → x ≡ lowCount (t .sizes .m) hs a + a → x ≡ sum a (itemSize G 2)
   atoms-before a e = e ∙ atoms-sum T a
 
-  pub rule-size : (g a : ℕ) → 0 < g → g ≤ 7 → isFixed g ≡ false → (g ≡ 2 → ⊥) → {x y : ℕ} → x ≡ size P w g a 1 → y ≡ x → y ≡ itemSize P w g a
-  rule-size g a h l f n p q = q ∙ p ∙ rule-item P w g h l f n a
+  pub rule-size : (g a : ℕ) → 0 < g → g ≤ 7 → isFixed g ≡ false → (g ≡ 2 → ⊥) → {x y : ℕ} → x ≡ size G g a 1 → y ≡ x → y ≡ itemSize G g a
+  rule-size g a h l f n p q = q ∙ p ∙ rule-item G g h l f n a
 
   -- all atoms
-  pub atoms-all : {left : ℕ} → left < gs 2 → Between (itemCount P 2) (itemSize P w 2) left 0 (t .sizes .n)
-  atoms-all {left} h = subst (λ (n : ℕ). Between (itemCount P 2) (itemSize P w 2) left 0 n) (sym (items-is T 2)) (between-all h)
+  pub atoms-all : {left : ℕ} → left < gs 2 → Between (itemCount G 2) (itemSize G 2) left 0 (t .sizes .n)
+  atoms-all {left} h = subst (λ (n : ℕ). Between (itemCount G 2) (itemSize G 2) left 0 n) (sym (items-is T 2)) (between-all h)
 
-  pub atoms-fit : {left a b : ℕ} → Between (itemCount P 2) (itemSize P w 2) left a b → b ≤ 500
-  atoms-fit B = omega (arith, B .within, items-fit P (T .limits) 2)
+  pub atoms-fit : {left a b : ℕ} → Between (itemCount G 2) (itemSize G 2) left a b → b ≤ 500
+  atoms-fit B = omega (arith, B .within, items-fit G (T .limits) 2)
 
   -- in group g, which is 2
-  pub falls-2 : {g left : ℕ} {r : PartFound} → g ≡ 2 → Falls (itemCount P 2) (itemSize P w 2) left r → Falls (itemCount P g) (itemSize P w g) left r
-  falls-2 {g} {left} {r} e F = subst (λ (k : ℕ). Falls (itemCount P k) (itemSize P w k) left r) (sym e) F
+  pub falls-2 : {g left : ℕ} {r : PartFound} → g ≡ 2 → Falls (itemCount G 2) (itemSize G 2) left r → Falls (itemCount G g) (itemSize G g) left r
+  falls-2 {g} {left} {r} e F = subst (λ (k : ℕ). Falls (itemCount G k) (itemSize G k) left r) (sym e) F
 
   pub left-2 : {g left : ℕ} → g ≡ 2 → left < gs g → left < gs 2
   left-2 {g} {left} e h = subst (λ (k : ℕ). left < gs k) e h
@@ -191,55 +191,55 @@ module _ {P : Program} {t : Totals} {hs ss bs ks xs ys : List ℕ} (T : Tabled P
     even-is = r ∙ ap (λ (b : ℕ). fixedSize b g) u
 
     pub even-some : 0 < k
-    even-some = subst (λ (n : ℕ). 0 < n) (sym even-is) (size-fits g w (elements.width-pos P t hs ss bs ks xs ys T) (sizes-in .bits) .0)
+    even-some = subst (λ (n : ℕ). 0 < n) (sym even-is) (size-fits g w (elements.width-pos G t hs ss bs ks xs ys T) (sizes-in .bits) .0)
 
-    pub item-even : Falls (itemCount P g) (itemSize P w g) left (record { number = left / k + 1; left = left % k })
-    item-even = falls-even even-some (λ a q. fixed-item P w (elements.width-pos P t hs ss bs ks xs ys T) g h l f (suc a) ∙ sym even-is) b
+    pub item-even : Falls (itemCount G g) (itemSize G g) left (record { number = left / k + 1; left = left % k })
+    item-even = falls-even even-some (λ a q. fixed-item G (T .limits .some-bit) g h l f (suc a) ∙ ap (λ (v : ℕ). fixedSize v g) (sym (elements.width-are G t hs ss bs ks xs ys T)) ∙ sym even-is) b
 
     pub even-fits : left / k < 500
-    even-fits = omega (arith, item-even .at .within, items-fit P (T .limits) g)
+    even-fits = omega (arith, item-even .at .within, items-fit G (T .limits) g)
 
   -- ---- the numbers of blocks and items
 
   module _ (g : ℕ) {n i : ℕ} where
-    pub block-below : n ≡ blocksOf (t .sizes) g → i < n → i < blockCount P w g
+    pub block-below : n ≡ blocksOf (t .sizes) g → i < n → i < blockCount G g
     block-below e h = subst (λ (k : ℕ). i < k) (e ∙ blocks-is T g) h
 
-    pub blocks-end : n ≡ blocksOf (t .sizes) g → n ≤ i → blockCount P w g ≤ i
+    pub blocks-end : n ≡ blocksOf (t .sizes) g → n ≤ i → blockCount G g ≤ i
     blocks-end e h = subst (λ (k : ℕ). k ≤ i) (e ∙ blocks-is T g) h
 
-    pub item-below : n ≡ itemsOf t g → i < n → i < itemCount P g
+    pub item-below : n ≡ itemsOf t g → i < n → i < itemCount G g
     item-below e h = subst (λ (k : ℕ). i < k) (e ∙ items-is T g) h
 
-    pub items-end : n ≡ itemsOf t g → n ≤ i → itemCount P g ≤ i
+    pub items-end : n ≡ itemsOf t g → n ≤ i → itemCount G g ≤ i
     items-end e h = subst (λ (k : ℕ). k ≤ i) (e ∙ items-is T g) h
 
   -- block i of the item, where the search is
-  pub block-here : {g a i left at : ℕ} → 0 < g → g ≤ 7 → 0 < a → a ≤ itemCount P g → Passed (blockCount P w g) (size P w g a) left i at → BlockAt P w g a i
+  pub block-here : {g a i left at : ℕ} → 0 < g → g ≤ 7 → 0 < a → a ≤ itemCount G g → Passed (blockCount G g) (size G g a) left i at → BlockAt G g a i
   block-here h l p q s = record { group-some = h; group-in = l; item-some = p; item-in = q; block-some = s .some; block-in = s .within }
 
   -- block 1 of item a, where the search is
-  pub item-here : {g a left at : ℕ} → 0 < g → g ≤ 7 → Passed (itemCount P g) (itemSize P w g) left a at → BlockAt P w g a 1
+  pub item-here : {g a left at : ℕ} → 0 < g → g ≤ 7 → Passed (itemCount G g) (itemSize G g) left a at → BlockAt G g a 1
   item-here {g} h l s = record { group-some = h; group-in = l; item-some = s .some; item-in = s .within; block-some = omega arith; block-in = block-some }
     where
-      block-some : 0 < blockCount P w g
+      block-some : 0 < blockCount G g
       block-some = subst (λ (k : ℕ). 0 < k) (blocks-is T g) (go (eqb g 2) (eqb g 4) (eqb g 5))
         where
           go : (b2 b4 b5 : Bool) → 0 < cond b2 (suc (t .sizes .m)) (cond b4 w (cond b5 (w + w) 1))
           go true b4 b5 = omega arith
-          go false true b5 = elements.width-pos P t hs ss bs ks xs ys T
-          go false false true = omega (arith, elements.width-pos P t hs ss bs ks xs ys T)
+          go false true b5 = elements.width-pos G t hs ss bs ks xs ys T
+          go false false true = omega (arith, elements.width-pos G t hs ss bs ks xs ys T)
           go false false false = omega arith
 
-  module _ {g a i y : ℕ} (A : At P w g a i y) where
+  module _ {g a i y : ℕ} (A : At G g a i y) where
     pub blocks-left : {r : ℕ} → r ≡ blocksOf (t .sizes) g → i ≤ r
     blocks-left e = subst (λ (k : ℕ). i ≤ k) (sym (e ∙ blocks-is T g)) (A .block-at .block-in)
 
     pub items-left : {n : ℕ} → n ≡ itemsOf t g → a ≤ n
     items-left e = subst (λ (k : ℕ). a ≤ k) (sym (e ∙ items-is T g)) (A .block-at .item-in)
 
-    pub coordinates-is : {x r n : ℕ} → x ≡ size P w g a i → r ≡ blocksOf (t .sizes) g → n ≡ itemsOf t g
-        → record { group = g; item = a; block = i; clause = y; clauses = x - y; blocks = r - i; items = n - a } ≡ coordinates P w g a i y
+    pub coordinates-is : {x r n : ℕ} → x ≡ size G g a i → r ≡ blocksOf (t .sizes) g → n ≡ itemsOf t g
+        → record { group = g; item = a; block = i; clause = y; clauses = x - y; blocks = r - i; items = n - a } ≡ coordinates G g a i y
     coordinates-is p q e =
         λ j. record {
           group = g;

@@ -16,16 +16,16 @@ use mathlib.Core.List.{List}
 use lib.Dec.{eqb, leb}
 use lib.ListN.{length, getD}
 use borrow.Author.Tests.{eq-eqb, ne-eqb, le-leb, lt-leb}
+use Rattle.encoding.specs.Code.{Code}
 use Rattle.lists.specs.Lists.{sum}
 use Rattle.lists.proofs.Tests.{le-or-lt}
 use Rattle.lists.proofs.Growing.{one}
 use Rattle.lists.proofs.Tables.{sum-ext, sum-add, sum-const, sum-zero, length-tab, length-each, sum-twice}
-use Rattle.meaning.specs.Program.{Program}
 use Rattle.clause_walk.specs.Walk.{itemCount, blockCount, size, size2, headOf, bodyCount, chainSize, chainBit}
 use Rattle.program.specs.Arrays.{kept}
 use Rattle.clause_tables.specs.declared.Totals.{Totals}
 use Rattle.clause_tables.specs.Tables.{Tabled}
-use Rattle.clause_table_laws.proofs.Elements.{rules-are, atoms-are, width-pos, head-is, head-atom, start-at}
+use Rattle.clause_table_laws.proofs.Elements.{rules-are, atoms-are, width-are, head-is, head-atom, start-at}
 use Rattle.clause_layout.specs.Numbers.{itemsOf}
 use Rattle.clause_places.specs.Places.{coordinates, blockCoordinates, itemCoordinates, groupCoordinates, allCoordinates}
 use Rattle.clause_places.proofs.Steps.{items-is}
@@ -56,19 +56,19 @@ low-more m hs a =
 
 -- ---- the coordinates
 
-module _ (P : Program) (w : ℕ) where
-  pub item-length : (g a : ℕ) → length (itemCoordinates P w g a) ≡ itemSize P w g a
+module _ (G : Code) where
+  pub item-length : (g a : ℕ) → length (itemCoordinates G g a) ≡ itemSize G g a
   item-length g a =
-      length-each (blockCount P w g) (blockCoordinates P w g a)
-      ∙ sum-ext (blockCount P w g) _ (size P w g a) (λ i h. length-tab (size P w g a (suc i)) (coordinates P w g a (suc i)))
+      length-each (blockCount G g) (blockCoordinates G g a)
+      ∙ sum-ext (blockCount G g) _ (size G g a) (λ i h. length-tab (size G g a (suc i)) (coordinates G g a (suc i)))
 
-  pub group-length : (g : ℕ) → length (groupCoordinates P w g) ≡ groupSize P w g
+  pub group-length : (g : ℕ) → length (groupCoordinates G g) ≡ groupSize G g
   group-length g =
-      length-each (itemCount P g) (itemCoordinates P w g) ∙ sum-ext (itemCount P g) _ (itemSize P w g) (λ a h. item-length g (suc a))
+      length-each (itemCount G g) (itemCoordinates G g) ∙ sum-ext (itemCount G g) _ (itemSize G g) (λ a h. item-length g (suc a))
 
-  all-coordinates-length : length (allCoordinates P w) ≡ sum 7 (groupSize P w)
+  all-coordinates-length : length (allCoordinates G) ≡ sum 7 (groupSize G)
   unfolding allCoordinates
-  all-coordinates-length = length-each 7 (groupCoordinates P w) ∙ sum-ext 7 (λ g. length (groupCoordinates P w g)) (groupSize P w) (λ g h. group-length (suc g))
+  all-coordinates-length = length-each 7 (groupCoordinates G) ∙ sum-ext 7 (λ g. length (groupCoordinates G g)) (groupSize G) (λ g h. group-length (suc g))
 
 -- ---- items
 
@@ -90,116 +90,116 @@ pair-sum (suc k) p =
     back : (n i : ℕ) → n + i - n ≡ i
     back n i = omega arith
 
-module _ (P : Program) (w : ℕ) where
-  pub fixed-item : 0 < w → (g : ℕ) → 0 < g → g ≤ 7 → isFixed g ≡ true → (a : ℕ) → itemSize P w g a ≡ fixedSize w g
+module _ (G : Code) where
+  pub fixed-item : 0 < G .w → (g : ℕ) → 0 < g → g ≤ 7 → isFixed g ≡ true → (a : ℕ) → itemSize G g a ≡ fixedSize (G .w) g
   unfolding blockCount size
   fixed-item p zero h k e a = absurd (not-suc-le-zero h)
   fixed-item p (suc zero) h k e a = absurd (false≢true e)
   fixed-item p (suc (suc zero)) h k e a = absurd (false≢true e)
-  fixed-item p (suc (suc (suc zero))) h k e a = zero-add w
-  fixed-item p (suc (suc (suc (suc zero)))) h k e a = sum-twice w
-  fixed-item p (suc (suc (suc (suc (suc zero))))) h k e a = pair-sum w p
+  fixed-item p (suc (suc (suc zero))) h k e a = zero-add (G .w)
+  fixed-item p (suc (suc (suc (suc zero)))) h k e a = sum-twice (G .w)
+  fixed-item p (suc (suc (suc (suc (suc zero))))) h k e a = pair-sum (G .w) p
   fixed-item p (suc (suc (suc (suc (suc (suc zero)))))) h k e a = absurd (false≢true e)
   fixed-item p (suc (suc (suc (suc (suc (suc (suc zero))))))) h k e a = refl
   fixed-item p (suc (suc (suc (suc (suc (suc (suc (suc g)))))))) h k e a = absurd (omega (arith, k))
 
-  pub rule-item : (g : ℕ) → 0 < g → g ≤ 7 → isFixed g ≡ false → (g ≡ 2 → ⊥) → (a : ℕ) → size P w g a 1 ≡ itemSize P w g a
+  pub rule-item : (g : ℕ) → 0 < g → g ≤ 7 → isFixed g ≡ false → (g ≡ 2 → ⊥) → (a : ℕ) → size G g a 1 ≡ itemSize G g a
   unfolding blockCount size
   rule-item zero h k e f a = absurd (not-suc-le-zero h)
-  rule-item (suc zero) h k e f a = sym (zero-add (size P w 1 a 1))
+  rule-item (suc zero) h k e f a = sym (zero-add (size G 1 a 1))
   rule-item (suc (suc zero)) h k e f a = absurd (f refl)
   rule-item (suc (suc (suc zero))) h k e f a = absurd (true≢false e)
   rule-item (suc (suc (suc (suc zero)))) h k e f a = absurd (true≢false e)
   rule-item (suc (suc (suc (suc (suc zero))))) h k e f a = absurd (true≢false e)
-  rule-item (suc (suc (suc (suc (suc (suc zero)))))) h k e f a = sym (zero-add (size P w 6 a 1))
+  rule-item (suc (suc (suc (suc (suc (suc zero)))))) h k e f a = sym (zero-add (size G 6 a 1))
   rule-item (suc (suc (suc (suc (suc (suc (suc zero))))))) h k e f a = absurd (true≢false e)
   rule-item (suc (suc (suc (suc (suc (suc (suc (suc g)))))))) h k e f a = absurd (omega (arith, k))
 
 -- ---- from the tables
 
-rule-clauses : (P : Program) (w r : ℕ) → itemSize P w 1 r ≡ suc (bodyCount P r)
+rule-clauses : (G : Code) (r : ℕ) → itemSize G 1 r ≡ suc (bodyCount G r)
 unfolding blockCount size
-rule-clauses P w r = zero-add (suc (bodyCount P r))
+rule-clauses G r = zero-add (suc (bodyCount G r))
 
-first-start : {P : Program} {t : Totals} {hs ss bs ks xs ys : List ℕ} → Tabled P t hs ss bs ks xs ys → getD ss 0 0 + 0 ≡ 0
+first-start : {G : Code} {t : Totals} {hs ss bs ks xs ys : List ℕ} → Tabled G t hs ss bs ks xs ys → getD ss 0 0 + 0 ≡ 0
 unfolding kept
 first-start T = ap (λ (l : List ℕ). getD l 0 0 + 0) (T .starts-are)
 
-module _ {P : Program} {t : Totals} {hs ss bs ks xs ys : List ℕ} (T : Tabled P t hs ss bs ks xs ys) where
+module _ {G : Code} {t : Totals} {hs ss bs ks xs ys : List ℕ} (T : Tabled G t hs ss bs ks xs ys) where
   abbrev w : ℕ
   w = t .sizes .w
 
   abbrev m : ℕ
   m = t .sizes .m
 
-  rules : m ≡ length (P .rules)
-  rules = rules-are P t hs ss bs ks xs ys T
+  rules : m ≡ length (G .rules)
+  rules = rules-are G t hs ss bs ks xs ys T
 
   -- head r, from 0
-  head-at : (i : ℕ) → i < length (P .rules) → getD hs i 0 ≡ headOf P (suc i)
-  head-at i h = ap (λ (k : ℕ). getD hs k 0) (less i) ∙ head-is P t hs ss bs ks xs ys T (suc i) (omega arith) h
+  head-at : (i : ℕ) → i < length (G .rules) → getD hs i 0 ≡ headOf G (suc i)
+  head-at i h = ap (λ (k : ℕ). getD hs k 0) (less i) ∙ head-is G t hs ss bs ks xs ys T (suc i) (omega arith) h
     where
       less : (i : ℕ) → i ≡ suc i - 1
       less i = omega arith
 
-  atom-item : (a : ℕ) → headCount m hs a + 1 ≡ itemSize P w 2 a
+  atom-item : (a : ℕ) → headCount m hs a + 1 ≡ itemSize G 2 a
   unfolding blockCount size
   atom-item a =
       ap₂ _+_
       (ap (λ (k : ℕ). headCount k hs a) rules
-      ∙ sum-ext (length (P .rules)) _ (size2 P a)
-      (λ i h. ap (λ (k : ℕ). cond (eqb k a) 1 0) (head-at i h) ∙ sym (ap (λ (b : Bool). cond b (cond (eqb (headOf P (suc i)) a) 1 0) 1) (le-leb (suc i) (length (P .rules)) h))))
-      (sym (ap (λ (b : Bool). cond b (cond (eqb (headOf P (suc (length (P .rules)))) a) 1 0) 1) (lt-leb (suc (length (P .rules))) (length (P .rules)) (omega arith))))
+      ∙ sum-ext (length (G .rules)) _ (size2 G a)
+      (λ i h. ap (λ (k : ℕ). cond (eqb k a) 1 0) (head-at i h) ∙ sym (ap (λ (b : Bool). cond b (cond (eqb (headOf G (suc i)) a) 1 0) 1) (le-leb (suc i) (length (G .rules)) h))))
+      (sym (ap (λ (b : Bool). cond b (cond (eqb (headOf G (suc (length (G .rules)))) a) 1 0) 1) (lt-leb (suc (length (G .rules))) (length (G .rules)) (omega arith))))
 
-  pub bodies-group : getD ss (2 * m) 0 + m ≡ groupSize P w 1
+  pub bodies-group : getD ss (2 * m) 0 + m ≡ groupSize G 1
   unfolding itemCount
-  bodies-group = ap (λ (k : ℕ). getD ss (2 * k) 0 + k) rules ∙ sym (go (length (P .rules)) (le-refl (length (P .rules))))
+  bodies-group = ap (λ (k : ℕ). getD ss (2 * k) 0 + k) rules ∙ sym (go (length (G .rules)) (le-refl (length (G .rules))))
     where
       twice : (i : ℕ) → 2 * suc i ≡ 2 * i + 2
       twice i = omega arith
 
-      go : (i : ℕ) → i ≤ length (P .rules) → sum i (itemSize P w 1) ≡ getD ss (2 * i) 0 + i
+      go : (i : ℕ) → i ≤ length (G .rules) → sum i (itemSize G 1) ≡ getD ss (2 * i) 0 + i
       go zero h = sym (first-start T)
       go (suc i) h =
-          let L = start-at P t hs ss bs ks xs ys T i h in
+          let L = start-at G t hs ss bs ks xs ys T i h in
           omega (
             arith,
             go i (omega (arith, h)),
-            rule-clauses P w (suc i),
+            rule-clauses G (suc i),
             L .first-up,
             L .second-up,
             L .count-are,
             ap (λ (k : ℕ). getD ss k 0) (twice i),
           )
 
-  head-in : (r : ℕ) → r < m → (0 < getD hs r 0) × (getD hs r 0 ≤ P .atoms)
+  head-in : (r : ℕ) → r < m → (0 < getD hs r 0) × (getD hs r 0 ≤ G .n)
   head-in r h =
       let k = subst (λ (n : ℕ). r < n) rules h in
-      subst (λ (a : ℕ). (0 < a) × (a ≤ P .atoms)) (sym (head-at r k)) (head-atom P (T .limits) (suc r) (omega arith) k)
+      subst (λ (a : ℕ). (0 < a) × (a ≤ G .n)) (sym (head-at r k)) (head-atom G (T .limits) (suc r) (omega arith) k)
 
-  pub atoms-sum : (a : ℕ) → lowCount m hs a + a ≡ sum a (itemSize P w 2)
+  pub atoms-sum : (a : ℕ) → lowCount m hs a + a ≡ sum a (itemSize G 2)
   atoms-sum zero =
       ap (λ (k : ℕ). k + 0)
       (sum-ext m _ (λ r. 0) (λ r h. ap {B = ℕ} (λ (b : Bool). cond b 1 0) (lt-leb (getD hs r 0) 0 (head-in r h .0))) ∙ sum-zero m)
   atoms-sum (suc a) = omega (arith, atoms-sum a, low-more m hs a, atom-item (suc a))
 
-  pub atoms-group : m + t .sizes .n ≡ groupSize P w 2
+  pub atoms-group : m + t .sizes .n ≡ groupSize G 2
   unfolding itemCount
   atoms-group =
       ap₂ _+_
-      (sym (sum-ext m _ (λ r. 1) (λ r h. ap {B = ℕ} (λ (b : Bool). cond b 1 0) (le-leb (getD hs r 0) (P .atoms) (head-in r h .1))) ∙ sum-const m 1 ∙ omega arith))
-      (atoms-are P t hs ss bs ks xs ys T)
-      ∙ atoms-sum (P .atoms)
+      (sym (sum-ext m _ (λ r. 1) (λ r h. ap {B = ℕ} (λ (b : Bool). cond b 1 0) (le-leb (getD hs r 0) (G .n) (head-in r h .1))) ∙ sum-const m 1 ∙ omega arith))
+      (atoms-are G t hs ss bs ks xs ys T)
+      ∙ atoms-sum (G .n)
 
-  pub fixed-group : (g : ℕ) → 0 < g → g ≤ 7 → isFixed g ≡ true → itemsOf t g * fixedSize w g ≡ groupSize P w g
+  pub fixed-group : (g : ℕ) → 0 < g → g ≤ 7 → isFixed g ≡ true → itemsOf t g * fixedSize w g ≡ groupSize G g
   fixed-group g h k e =
-      ap (λ (n : ℕ). n * fixedSize w g) (items-is T g)
+      ap₂ (λ (n v : ℕ). n * fixedSize v g) (items-is T g) (width-are G t hs ss bs ks xs ys T)
       ∙ sym
-      (sum-ext (itemCount P g) (itemSize P w g) (λ a. fixedSize w g) (λ a l. fixed-item P w (width-pos P t hs ss bs ks xs ys T) g h k e (suc a))
-      ∙ sum-const (itemCount P g) (fixedSize w g))
+      (sum-ext (itemCount G g) (itemSize G g) (λ a. fixedSize (G .w) g) (λ a l. fixed-item G (T .limits .some-bit) g h k e (suc a))
+      ∙ sum-const (itemCount G g) (fixedSize (G .w) g))
 
-  pub groups-all : sum 7 (groupSize P w) ≡ t .clauses
-  groups-all = sym (all-coordinates-length P w) ∙ count-is T
+  pub groups-all : sum 7 (groupSize G) ≡ t .clauses
+  groups-all = sym (all-coordinates-length G) ∙ count-is T
 
-  pub last-group : groupSize P w 7 ≡ t .sizes .n
+  pub last-group : groupSize G 7 ≡ t .sizes .n
   last-group = sym (fixed-group 7 (omega arith) (omega arith) refl) ∙ omega arith

@@ -1,6 +1,6 @@
 -- How many clauses items and groups have.
---   itemSize P w g a    item a of group g
---   groupSize P w g     group g
+--   itemSize G g a    item a of group g
+--   groupSize G g     group g
 --   lowCount m hs a     how many of the first m heads are at most a
 --   isFixed g           whether the items of group g have one size: not in groups 1, 2 and 6
 --   fixedSize w g       that size
@@ -10,15 +10,15 @@ use mathlib.Core.Bool.{Bool, false, not, cond}
 use mathlib.Core.List.{List}
 use lib.Dec.{eqb, leb}
 use lib.ListN.{getD}
+use Rattle.encoding.specs.Code.{Code}
 use Rattle.lists.specs.Lists.{sum}
-use Rattle.meaning.specs.Program.{Program}
 use Rattle.clause_walk.specs.Walk.{itemCount, blockCount, size}
 
-abbrev pub itemSize : Program → ℕ → ℕ → ℕ → ℕ
-itemSize P w g a = sum (blockCount P w g) (size P w g a)
+abbrev pub itemSize : Code → ℕ → ℕ → ℕ
+itemSize G g a = sum (blockCount G g) (size G g a)
 
-abbrev pub groupSize : Program → ℕ → ℕ → ℕ
-groupSize P w g = sum (itemCount P g) (itemSize P w g)
+abbrev pub groupSize : Code → ℕ → ℕ
+groupSize G g = sum (itemCount G g) (itemSize G g)
 
 abbrev pub lowCount : ℕ → List ℕ → ℕ → ℕ
 lowCount m hs a = sum m (λ r. cond (leb (getD hs (pred r) 0) a) 1 0)

@@ -12,7 +12,7 @@ ghost use mathlib.Core.Path.{_≡_};
 ghost use mathlib.Core.Bool.{false};
 ghost use lib.ListN.{length, getD};
 ghost use Rattle.clause_walk.specs.Walk.{itemCount, blockCount, size as sizeAt, At};
-ghost use Rattle.clause_tables.specs.Tables.{programIn, Ready};
+ghost use Rattle.clause_tables.specs.Tables.{codeIn, Ready};
 ghost use Rattle.clause_places.specs.Places.{coordinates, placeAt};
 ghost use Rattle.clause_finding.specs.Falls.{Falls};
 ghost use Rattle.clause_finding.specs.Sizes.{itemSize, groupSize, lowCount, isFixed, fixedSize};
@@ -98,7 +98,7 @@ fn group_size<'a>(
     g: u16,
 ) -> usize
     requires { ⌜ (Ready t (now heads) (now starts) (now bodies) (now before) (now partners) (now owners)) × (0 < g) × (g ≤ 5) ⌝ }
-    ensures { λ r. ⌜ r ≡ groupSize (programIn (t .sizes) (now (heads .entry)) (now (starts .entry)) (now (bodies .entry))) (t .sizes .w) g ⌝ }
+    ensures { λ r. ⌜ r ≡ groupSize (codeIn t (now (heads .entry)) (now (starts .entry)) (now (bodies .entry))) g ⌝ }
 {
     if g == 1 {
         return bodies_size(t.sizes.m, starts);
@@ -121,7 +121,7 @@ fn find_group<'a>(
     left: usize,
 ) -> PartFound
     requires { ⌜ (Ready t (now heads) (now starts) (now bodies) (now before) (now partners) (now owners)) × (left < t .clauses) ⌝ }
-    ensures { λ r. ⌜ Falls 7 (groupSize (programIn (t .sizes) (now (heads .entry)) (now (starts .entry)) (now (bodies .entry))) (t .sizes .w)) left r ⌝ }
+    ensures { λ r. ⌜ Falls 7 (groupSize (codeIn t (now (heads .entry)) (now (starts .entry)) (now (bodies .entry)))) left r ⌝ }
 {
     let last = t.clauses - wide(t.sizes.n);
     if last <= left {
@@ -161,9 +161,9 @@ fn find_atom<'a>(
     left: usize,
 ) -> PartFound
     requires { ⌜ (Ready t (now heads) (now starts) (now bodies) (now before) (now partners) (now owners))
-        × (left < groupSize (programIn (t .sizes) (now heads) (now starts) (now bodies)) (t .sizes .w) 2) ⌝ }
-    ensures { λ r. ⌜ Falls (itemCount (programIn (t .sizes) (now (heads .entry)) (now (starts .entry)) (now (bodies .entry))) 2)
-        (itemSize (programIn (t .sizes) (now (heads .entry)) (now (starts .entry)) (now (bodies .entry))) (t .sizes .w) 2) left r ⌝ }
+        × (left < groupSize (codeIn t (now heads) (now starts) (now bodies)) 2) ⌝ }
+    ensures { λ r. ⌜ Falls (itemCount (codeIn t (now (heads .entry)) (now (starts .entry)) (now (bodies .entry))) 2)
+        (itemSize (codeIn t (now (heads .entry)) (now (starts .entry)) (now (bodies .entry))) 2) left r ⌝ }
 {
     let mut low: u16 = 0;
     let mut high = t.sizes.n;
@@ -194,9 +194,9 @@ fn find_rule<'a>(
     left: usize,
 ) -> PartFound
     requires { ⌜ (Ready t (now heads) (now starts) (now bodies) (now before) (now partners) (now owners)) × (0 < g) × (g ≤ 7) × (isFixed g ≡ false)
-        × (g ≡ 2 → ⊥) × (left < groupSize (programIn (t .sizes) (now heads) (now starts) (now bodies)) (t .sizes .w) g) ⌝ }
-    ensures { λ r. ⌜ Falls (itemCount (programIn (t .sizes) (now (heads .entry)) (now (starts .entry)) (now (bodies .entry))) g)
-        (itemSize (programIn (t .sizes) (now (heads .entry)) (now (starts .entry)) (now (bodies .entry))) (t .sizes .w) g) left r ⌝ }
+        × (g ≡ 2 → ⊥) × (left < groupSize (codeIn t (now heads) (now starts) (now bodies)) g) ⌝ }
+    ensures { λ r. ⌜ Falls (itemCount (codeIn t (now (heads .entry)) (now (starts .entry)) (now (bodies .entry))) g)
+        (itemSize (codeIn t (now (heads .entry)) (now (starts .entry)) (now (bodies .entry))) g) left r ⌝ }
 {
     let n = items(t, g);
     let mut a: u16 = 1;
@@ -231,9 +231,9 @@ fn find_item<'a>(
     left: usize,
 ) -> PartFound
     requires { ⌜ (Ready t (now heads) (now starts) (now bodies) (now before) (now partners) (now owners)) × (0 < g) × (g ≤ 7)
-        × (left < groupSize (programIn (t .sizes) (now heads) (now starts) (now bodies)) (t .sizes .w) g) ⌝ }
-    ensures { λ r. ⌜ Falls (itemCount (programIn (t .sizes) (now (heads .entry)) (now (starts .entry)) (now (bodies .entry))) g)
-        (itemSize (programIn (t .sizes) (now (heads .entry)) (now (starts .entry)) (now (bodies .entry))) (t .sizes .w) g) left r ⌝ }
+        × (left < groupSize (codeIn t (now heads) (now starts) (now bodies)) g) ⌝ }
+    ensures { λ r. ⌜ Falls (itemCount (codeIn t (now (heads .entry)) (now (starts .entry)) (now (bodies .entry))) g)
+        (itemSize (codeIn t (now (heads .entry)) (now (starts .entry)) (now (bodies .entry))) g) left r ⌝ }
 {
     if is_fixed(g) {
         let k = fixed_size(wide(t.sizes.w), g);
@@ -263,10 +263,10 @@ fn find_block<'a>(
     left: usize,
 ) -> PartFound
     requires { ⌜ (Ready t (now heads) (now starts) (now bodies) (now before) (now partners) (now owners)) × (0 < g) × (g ≤ 7) × (0 < a)
-        × (a ≤ itemCount (programIn (t .sizes) (now heads) (now starts) (now bodies)) g)
-        × (left < itemSize (programIn (t .sizes) (now heads) (now starts) (now bodies)) (t .sizes .w) g a) ⌝ }
-    ensures { λ r. ⌜ Falls (blockCount (programIn (t .sizes) (now (heads .entry)) (now (starts .entry)) (now (bodies .entry))) (t .sizes .w) g)
-        (sizeAt (programIn (t .sizes) (now (heads .entry)) (now (starts .entry)) (now (bodies .entry))) (t .sizes .w) g a) left r ⌝ }
+        × (a ≤ itemCount (codeIn t (now heads) (now starts) (now bodies)) g)
+        × (left < itemSize (codeIn t (now heads) (now starts) (now bodies)) g a) ⌝ }
+    ensures { λ r. ⌜ Falls (blockCount (codeIn t (now (heads .entry)) (now (starts .entry)) (now (bodies .entry))) g)
+        (sizeAt (codeIn t (now (heads .entry)) (now (starts .entry)) (now (bodies .entry))) g a) left r ⌝ }
 {
     let n = block_count(t.sizes, g);
     let mut i: u16 = 1;
@@ -303,8 +303,8 @@ fn coordinates_at<'a>(
     y: u16,
 ) -> Coordinates
     requires { ⌜ (Ready t (now heads) (now starts) (now bodies) (now before) (now partners) (now owners))
-        × (At (programIn (t .sizes) (now heads) (now starts) (now bodies)) (t .sizes .w) g a i y) ⌝ }
-    ensures { λ r. ⌜ r ≡ coordinates (programIn (t .sizes) (now (heads .entry)) (now (starts .entry)) (now (bodies .entry))) (t .sizes .w) g a i y ⌝ }
+        × (At (codeIn t (now heads) (now starts) (now bodies)) g a i y) ⌝ }
+    ensures { λ r. ⌜ r ≡ coordinates (codeIn t (now (heads .entry)) (now (starts .entry)) (now (bodies .entry))) g a i y ⌝ }
 {
     Coordinates {
         group: g,
@@ -329,7 +329,7 @@ pub fn place_of<'a>(
     j: usize,
 ) -> Place
     requires { ⌜ (Ready t (now heads) (now starts) (now bodies) (now before) (now partners) (now owners)) × (j ≤ t .clauses) ⌝ }
-    ensures { λ r. ⌜ r ≡ placeAt (programIn (t .sizes) (now (heads .entry)) (now (starts .entry)) (now (bodies .entry))) (t .sizes .w) j ⌝ }
+    ensures { λ r. ⌜ r ≡ placeAt (codeIn t (now (heads .entry)) (now (starts .entry)) (now (bodies .entry))) j ⌝ }
 {
     if j == 0 {
         return start(t, heads, starts, bodies, before, partners, owners);

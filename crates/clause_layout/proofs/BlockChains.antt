@@ -6,9 +6,8 @@ use mathlib.Core.Bool.{Bool, cond}
 use mathlib.Core.List.{List}
 use lib.ListN.{getD}
 use borrow.Author.Tests.{eq-eqb, ne-eqb}
-use Rattle.meaning.specs.Program.{Program}
+use Rattle.encoding.specs.Code.{Code, codeSizes, pairBody, pairHead}
 use Rattle.encoding.specs.Literal.{Literal}
-use Rattle.encoding.specs.Clauses.{sizes, pairs, pairAt}
 use Rattle.encoding.specs.Variables.{Sizes}
 use Rattle.clause_literals.specs.Sizes.{sizesOf}
 use Rattle.clause_walk.specs.Walk.{slot, chainSlot, chainBit, BlockAt}
@@ -22,28 +21,28 @@ use Rattle.clause_table_laws.proofs.Elements as elements
 use Rattle.clause_layout.specs.BlockChain.{chainOfBlock}
 use Rattle.clause_layout.proofs.Groups.{sizes-are, pair5}
 
-module _ (P : Program) (w g a i : ℕ) where
-  chain-five : g ≡ 5 → chainOfBlock P w g a i ≡ chainOf (sizes P w) a (pairAt (pairs P) a .body) (pairAt (pairs P) a .head) i
+module _ (G : Code) (g a i : ℕ) where
+  chain-five : g ≡ 5 → chainOfBlock G g a i ≡ chainOf (codeSizes G) a (pairBody G a) (pairHead G a) i
   unfolding chainOfBlock
-  chain-five e = ap (λ (d : Bool). cond d (chainOf (sizes P w) a (pairAt (pairs P) a .body) (pairAt (pairs P) a .head) i) (chainWith 0 0 0 0)) (eq-eqb g 5 e)
+  chain-five e = ap (λ (d : Bool). cond d (chainOf (codeSizes G) a (pairBody G a) (pairHead G a) i) (chainWith 0 0 0 0)) (eq-eqb g 5 e)
 
-  pub chain-none : (g ≡ 5 → ⊥) → chainWith 0 0 0 0 ≡ chainOfBlock P w g a i
+  pub chain-none : (g ≡ 5 → ⊥) → chainWith 0 0 0 0 ≡ chainOfBlock G g a i
   unfolding chainOfBlock
-  chain-none f = sym (ap (λ (d : Bool). cond d (chainOf (sizes P w) a (pairAt (pairs P) a .body) (pairAt (pairs P) a .head) i) (chainWith 0 0 0 0)) (ne-eqb g 5 f))
+  chain-none f = sym (ap (λ (d : Bool). cond d (chainOf (codeSizes G) a (pairBody G a) (pairHead G a) i) (chainWith 0 0 0 0)) (ne-eqb g 5 f))
 
-module _ {P : Program} {t : Totals} {hs ss bs ks xs ys : List ℕ} (T : Tabled P t hs ss bs ks xs ys) {g a i : ℕ} (R : BlockAt P (t .sizes .w) g a i) where
+module _ {G : Code} {t : Totals} {hs ss bs ks xs ys : List ℕ} (T : Tabled G t hs ss bs ks xs ys) {g a i : ℕ} (R : BlockAt G g a i) where
   abbrev w : ℕ
   w = t .sizes .w
 
-  pub chain-pair : {b h : ℕ} {c : Chain} → g ≡ 5 → b ≡ getD xs (a - 1) 0 → h ≡ getD ys (a - 1) 0 → c ≡ chainOf (sizesOf (t .sizes)) a b h i → c ≡ chainOfBlock P w g a i
+  pub chain-pair : {b h : ℕ} {c : Chain} → g ≡ 5 → b ≡ getD xs (a - 1) 0 → h ≡ getD ys (a - 1) 0 → c ≡ chainOf (sizesOf (t .sizes)) a b h i → c ≡ chainOfBlock G g a i
   chain-pair {b} {h} e p q u =
       u ∙ ap (λ (S : Sizes). chainOf S a b h i) (sizes-are T)
-      ∙ ap₂ (λ (b h : ℕ). chainOf (sizes P w) a b h i) (p ∙ elements.partner-is P t hs ss bs ks xs ys T a (R .item-some) (pair5 T R e)) (q ∙ elements.owner-is P t hs ss bs ks xs ys T a (R .item-some) (pair5 T R e))
-      ∙ sym (chain-five P w g a i e)
+      ∙ ap₂ (λ (b h : ℕ). chainOf (codeSizes G) a b h i) (p ∙ elements.partner-is G t hs ss bs ks xs ys T a (R .item-some) (pair5 T R e)) (q ∙ elements.owner-is G t hs ss bs ks xs ys T a (R .item-some) (pair5 T R e))
+      ∙ sym (chain-five G g a i e)
 
-  pub literal-pair : (y l : ℕ) {c : Chain} {j : ℕ} {x : Literal} → g ≡ 5 → c ≡ chainOfBlock P w g a i → j ≡ chainBit w i
-      → x ≡ chainSlot (c .z .0) (c .x .0) (c .y .0) (c .g .0) j y l → x ≡ slotLiteral (slot P w g a i y l)
+  pub literal-pair : (y l : ℕ) {c : Chain} {j : ℕ} {x : Literal} → g ≡ 5 → c ≡ chainOfBlock G g a i → j ≡ chainBit w i
+      → x ≡ chainSlot (c .z .0) (c .x .0) (c .y .0) (c .g .0) j y l → x ≡ slotLiteral (slot G g a i y l)
   unfolding slot
   literal-pair y l e p q u =
-      u ∙ by-chain (sizes P w) a (pairAt (pairs P) a .body) (pairAt (pairs P) a .head) i y l (p ∙ chain-five P w g a i e) q
-      ∙ ap (λ (k : ℕ). slotLiteral (slot P w k a i y l)) (sym e)
+      u ∙ by-chain (codeSizes G) a (pairBody G a) (pairHead G a) i y l (p ∙ chain-five G g a i e) (q ∙ ap (λ (x : ℕ). chainBit x i) (elements.width-are G t hs ss bs ks xs ys T))
+      ∙ ap (λ (k : ℕ). slotLiteral (slot G k a i y l)) (sym e)

@@ -1,4 +1,4 @@
--- Sizes, numbers of slots and slots of a program whose tables are given, group by group, as the code asks for them.
+-- Sizes, numbers of slots and slots of a code whose tables are given, group by group, as the code asks for them.
 -- Assumes nothing.
 use Prim.Native.Nat.{ℕ, suc, _+_, _-_, _*_, _≤_, _<_}
 use native.Mathlib.Nat.{le-trans, add-zero}
@@ -12,12 +12,11 @@ use mathlib.Core.List.{List, [], _∷_}
 use lib.Dec.{eqb, leb}
 use lib.ListN.{length, getD, take, drop}
 use borrow.Author.Tests.{ne-eqb, le-leb, lt-leb, lt-ltb, le-ltb}
-use Rattle.meaning.specs.Program.{Program}
+use Rattle.encoding.specs.Code.{Code, codeSizes, pairTotal, before}
 use Rattle.encoding.specs.Literal.{Literal}
-use Rattle.encoding.specs.Clauses.{sizes, pairCount, pairsBefore}
 use Rattle.encoding.specs.Variables.{Sizes, bodyVar, foundsVar}
 use Rattle.clause_literals.specs.Sizes.{sizesOf, Bounded}
-use Rattle.clause_walk.specs.Walk.{headsOf, headOf, positives, bodyOf, bodyCount, itemCount, blockCount, size, slots, slot, ofHead, slots1, slot1, slot3, slot4, slots4, slot5, slots6, slot6, size6, chainSize, chainSlots, chainBit, impliedSlot, bitOf, BlockAt, At}
+use Rattle.clause_walk.specs.Walk.{headsOf, headOf, positives, innerCount, bodyOf, bodyCount, itemCount, blockCount, size, slots, slot, ofHead, slots1, slot1, slot3, slot4, slots4, slot5, slots6, slot6, size6, chainSize, chainSlots, chainBit, impliedSlot, bitOf, BlockAt, At}
 use Rattle.clause_slots.specs.Signed.{slotLiteral}
 use Rattle.clause_tables.specs.declared.Totals.{Totals}
 use Rattle.clause_tables.specs.Tables.{Tabled}
@@ -35,70 +34,76 @@ pub record Last (g : ℕ) : Type 0 where
   pub not5 : g ≡ 5 → ⊥
   pub not6 : g ≡ 6 → ⊥
 
-module _ (P : Program) (w g a i y l : ℕ) (f : Last g) where
-  last-size : size P w g a i ≡ 1
+module _ (G : Code) (g a i y l : ℕ) (f : Last g) where
+  last-size : size G g a i ≡ 1
   unfolding size
   last-size = rw (ne-eqb g 1 (f .not1), ne-eqb g 2 (f .not2), ne-eqb g 3 (f .not3), ne-eqb g 4 (f .not4), ne-eqb g 5 (f .not5), ne-eqb g 6 (f .not6))
 
-  last-slots : slots P w g a i y ≡ suc (length (P .rules))
+  last-slots : slots G g a i y ≡ suc (length (G .rules))
   unfolding slots
   last-slots = rw (ne-eqb g 1 (f .not1), ne-eqb g 2 (f .not2), ne-eqb g 3 (f .not3), ne-eqb g 4 (f .not4), ne-eqb g 5 (f .not5), ne-eqb g 6 (f .not6))
 
-  pub last-slot : slot P w g a i y l ≡ ofHead (headsOf P) a (foundsVar (sizes P w)) l
+  pub last-slot : slot G g a i y l ≡ ofHead (headsOf G) a (foundsVar (codeSizes G)) l
   unfolding slot
   last-slot = rw (ne-eqb g 1 (f .not1), ne-eqb g 2 (f .not2), ne-eqb g 3 (f .not3), ne-eqb g 4 (f .not4), ne-eqb g 5 (f .not5), ne-eqb g 6 (f .not6))
 
 -- items of the other groups
-module _ (P : Program) (w a i y l : ℕ) where
-  items1 : itemCount P 1 ≡ length (P .rules)
+module _ (G : Code) (a i y l : ℕ) where
+  items1 : itemCount G 1 ≡ length (G .rules)
   unfolding itemCount
   items1 = refl
 
-  items5 : itemCount P 5 ≡ pairCount P
+  items5 : itemCount G 5 ≡ pairTotal G
   unfolding itemCount
   items5 = refl
 
-  items6 : itemCount P 6 ≡ length (P .rules)
+  items6 : itemCount G 6 ≡ length (G .rules)
   unfolding itemCount
   items6 = refl
 
-  items3 : itemCount P 3 ≡ P .atoms
+  items3 : itemCount G 3 ≡ G .n
   unfolding itemCount
   items3 = refl
 
-  items4 : itemCount P 4 ≡ P .atoms
+  items4 : itemCount G 4 ≡ G .n
   unfolding itemCount
   items4 = refl
 
-  blocks4 : blockCount P w 4 ≡ w
+  blocks4 : blockCount G 4 ≡ G .w
   unfolding blockCount
   blocks4 = refl
 
-  blocks5 : blockCount P w 5 ≡ w + w
+  blocks5 : blockCount G 5 ≡ G .w + G .w
   unfolding blockCount
   blocks5 = refl
 
-module _ {P : Program} {t : Totals} {hs ss bs ks xs ys : List ℕ} (T : Tabled P t hs ss bs ks xs ys) where
+module _ {G : Code} {t : Totals} {hs ss bs ks xs ys : List ℕ} (T : Tabled G t hs ss bs ks xs ys) where
   abbrev w : ℕ
   w = t .sizes .w
 
   abbrev m : ℕ
   m = t .sizes .m
 
-  pub sizes-are : sizesOf (t .sizes) ≡ sizes P w
-  sizes-are = λ i. record { n = elements.atoms-are P t hs ss bs ks xs ys T i; m = elements.rules-are P t hs ss bs ks xs ys T i; w = w }
+  width-are : w ≡ G .w
+  width-are = elements.width-are G t hs ss bs ks xs ys T
 
-  rules-are : m ≡ length (P .rules)
-  rules-are = elements.rules-are P t hs ss bs ks xs ys T
+  pub sizes-are : sizesOf (t .sizes) ≡ codeSizes G
+  sizes-are = λ i. record { n = elements.atoms-are G t hs ss bs ks xs ys T i; m = elements.rules-are G t hs ss bs ks xs ys T i; w = width-are i }
 
-  listed : (r : ℕ) → 0 < r → r ≤ length (P .rules) → elements.Listed P ss bs r (r - 1)
-  listed = elements.start-first P t hs ss bs ks xs ys T
+  rules-are : m ≡ length (G .rules)
+  rules-are = elements.rules-are G t hs ss bs ks xs ys T
 
-  rules-fit : length (P .rules) ≤ 500
-  rules-fit = elements.rules-fit P t hs ss bs ks xs ys T
+  listed : (r : ℕ) → 0 < r → r ≤ length (G .rules) → elements.Listed G ss bs r (r - 1)
+  listed = elements.start-first G t hs ss bs ks xs ys T
+
+  inner-is : (r : ℕ) → innerCount G r ≡ positives G r
+  inner-is = elements.inner-positives G (T .limits)
+
+  rules-fit : length (G .rules) ≤ 500
+  rules-fit = elements.rules-fit G t hs ss bs ks xs ys T
 
   pub bounded : Bounded (t .sizes)
-  bounded = elements.bounded P t hs ss bs ks xs ys T
+  bounded = elements.bounded G t hs ss bs ks xs ys T
 
   -- entry 2i of the starts, as code has it
   from-first : (i : ℕ) → getD ss (2 * i + 0) 0 ≡ getD ss (2 * i) 0
@@ -106,45 +111,45 @@ module _ {P : Program} {t : Totals} {hs ss bs ks xs ys : List ℕ} (T : Tabled P
 
   -- ---- items by group
 
-  module _ {g a i : ℕ} (R : BlockAt P w g a i) where
-    item-is : (k : ℕ) → g ≡ k → a ≤ itemCount P k
-    item-is k e = subst (λ (x : ℕ). a ≤ itemCount P x) e (R .item-in)
+  module _ {g a i : ℕ} (R : BlockAt G g a i) where
+    item-is : (k : ℕ) → g ≡ k → a ≤ itemCount G k
+    item-is k e = subst (λ (x : ℕ). a ≤ itemCount G x) e (R .item-in)
 
-    block-is : (k : ℕ) → g ≡ k → i ≤ blockCount P w k
-    block-is k e = subst (λ (x : ℕ). i ≤ blockCount P w x) e (R .block-in)
+    block-is : (k : ℕ) → g ≡ k → i ≤ blockCount G k
+    block-is k e = subst (λ (x : ℕ). i ≤ blockCount G x) e (R .block-in)
 
-    pub rule1 : g ≡ 1 → a ≤ length (P .rules)
-    rule1 e = subst (λ (x : ℕ). a ≤ x) (items1 P w a i 0 0) (item-is 1 e)
+    pub rule1 : g ≡ 1 → a ≤ length (G .rules)
+    rule1 e = subst (λ (x : ℕ). a ≤ x) (items1 G a i 0 0) (item-is 1 e)
 
-    pub rule6 : g ≡ 6 → a ≤ length (P .rules)
-    rule6 e = subst (λ (x : ℕ). a ≤ x) (items6 P w a i 0 0) (item-is 6 e)
+    pub rule6 : g ≡ 6 → a ≤ length (G .rules)
+    rule6 e = subst (λ (x : ℕ). a ≤ x) (items6 G a i 0 0) (item-is 6 e)
 
-    pub pair5 : g ≡ 5 → a ≤ pairCount P
-    pair5 e = subst (λ (x : ℕ). a ≤ x) (items5 P w a i 0 0) (item-is 5 e)
+    pub pair5 : g ≡ 5 → a ≤ pairTotal G
+    pair5 e = subst (λ (x : ℕ). a ≤ x) (items5 G a i 0 0) (item-is 5 e)
 
     pub atom3 : g ≡ 3 → a ≤ 126
-    atom3 e = le-trans (subst (λ (x : ℕ). a ≤ x) (items3 P w a i 0 0) (item-is 3 e)) (elements.atoms-fit P t hs ss bs ks xs ys T)
+    atom3 e = le-trans (subst (λ (x : ℕ). a ≤ x) (items3 G a i 0 0) (item-is 3 e)) (elements.atoms-fit G t hs ss bs ks xs ys T)
 
     pub atom4 : g ≡ 4 → a ≤ 126
-    atom4 e = le-trans (subst (λ (x : ℕ). a ≤ x) (items4 P w a i 0 0) (item-is 4 e)) (elements.atoms-fit P t hs ss bs ks xs ys T)
+    atom4 e = le-trans (subst (λ (x : ℕ). a ≤ x) (items4 G a i 0 0) (item-is 4 e)) (elements.atoms-fit G t hs ss bs ks xs ys T)
 
     pub block4 : g ≡ 4 → i ≤ w
-    block4 e = subst (λ (x : ℕ). i ≤ x) (blocks4 P w a i 0 0) (block-is 4 e)
+    block4 e = subst (λ (x : ℕ). i ≤ x) (blocks4 G a i 0 0 ∙ sym width-are) (block-is 4 e)
 
     pub block5 : g ≡ 5 → i ≤ w + w
-    block5 e = subst (λ (x : ℕ). i ≤ x) (blocks5 P w a i 0 0) (block-is 5 e)
+    block5 e = subst (λ (x : ℕ). i ≤ x) (blocks5 G a i 0 0 ∙ ap (λ (x : ℕ). x + x) (sym width-are)) (block-is 5 e)
 
     -- ---- the starts of a rule
 
-    module _ (h : a ≤ length (P .rules)) where
+    module _ (h : a ≤ length (G .rules)) where
       pub rule-fits : a ≤ 500
       rule-fits = le-trans h rules-fit
 
-      L : elements.Listed P ss bs a (a - 1)
+      L : elements.Listed G ss bs a (a - 1)
       L = listed a (R .item-some) h
 
       pub start-asks : (k : ℕ) → k ≤ 2 → (0 < a) × (a ≤ 500) × (k ≤ 2) × (length ss ≡ 1001)
-      start-asks k q = (R .item-some, rule-fits, q, elements.starts-length P t hs ss bs ks xs ys T)
+      start-asks k q = (R .item-some, rule-fits, q, elements.starts-length G t hs ss bs ks xs ys T)
 
       pub first-middle : getD ss (2 * (a - 1) + 0) 0 ≤ getD ss (2 * (a - 1) + 1) 0
       first-middle = subst (λ (x : ℕ). x ≤ getD ss (2 * (a - 1) + 1) 0) (sym (from-first (a - 1))) (L .first-up)
@@ -152,64 +157,65 @@ module _ {P : Program} {t : Totals} {hs ss bs ks xs ys : List ℕ} (T : Tabled P
       pub first-end : getD ss (2 * (a - 1) + 0) 0 ≤ getD ss (2 * (a - 1) + 2) 0
       first-end = le-trans first-middle (L .second-up)
 
-      pub span1 : getD ss (2 * (a - 1) + 1) 0 - getD ss (2 * (a - 1) + 0) 0 ≡ positives P a
+      pub span1 : getD ss (2 * (a - 1) + 1) 0 - getD ss (2 * (a - 1) + 0) 0 ≡ positives G a
       span1 = ap (λ (x : ℕ). getD ss (2 * (a - 1) + 1) 0 - x) (from-first (a - 1)) ∙ L .positives-are
 
-      pub span2 : getD ss (2 * (a - 1) + 2) 0 - getD ss (2 * (a - 1) + 0) 0 ≡ bodyCount P a
+      pub span2 : getD ss (2 * (a - 1) + 2) 0 - getD ss (2 * (a - 1) + 0) 0 ≡ bodyCount G a
       span2 = ap (λ (x : ℕ). getD ss (2 * (a - 1) + 2) 0 - x) (from-first (a - 1)) ∙ L .count-are
 
-      pub body-is : take (getD ss (2 * (a - 1) + 2) 0 - getD ss (2 * (a - 1) + 0) 0) (drop (getD ss (2 * (a - 1) + 0) 0) bs) ≡ bodyOf P a
+      pub body-is : take (getD ss (2 * (a - 1) + 2) 0 - getD ss (2 * (a - 1) + 0) 0) (drop (getD ss (2 * (a - 1) + 0) 0) bs) ≡ bodyOf G a
       body-is = ap (λ (x : ℕ). take (getD ss (2 * (a - 1) + 2) 0 - x) (drop x bs)) (from-first (a - 1)) ∙ L .body-are
 
       pub end-in : getD ss (2 * (a - 1) + 2) 0 ≤ length bs
-      end-in = subst (λ (x : ℕ). getD ss (2 * (a - 1) + 2) 0 ≤ x) (sym (elements.bodies-length P t hs ss bs ks xs ys T)) (L .end-fits)
+      end-in = subst (λ (x : ℕ). getD ss (2 * (a - 1) + 2) 0 ≤ x) (sym (elements.bodies-length G t hs ss bs ks xs ys T)) (L .end-fits)
 
-      pub body-fits : bodyCount P a ≤ 500
-      body-fits = elements.body-fits P (T .limits) a (R .item-some) h
+      pub body-fits : bodyCount G a ≤ 500
+      body-fits = elements.body-fits G (T .limits) a (R .item-some) h
 
-      pub pairs-in : pairsBefore P a + positives P a ≤ 500
-      pairs-in = le-trans (elements.before-fits P (T .limits) a (R .item-some) h) (elements.pairs-fit P (T .limits))
+      pub pairs-in : before G a + positives G a ≤ 500
+      pairs-in =
+          le-trans (subst (λ (x : ℕ). before G a + x ≤ pairTotal G) (inner-is a) (elements.before-fits G (T .limits) a (R .item-some) h)) (elements.pairs-fit G (T .limits))
 
     -- ---- sizes
 
-    size-at : (k : ℕ) → g ≡ k → size P w k a i ≡ size P w g a i
-    size-at k e = ap (λ (x : ℕ). size P w x a i) (sym e)
+    size-at : (k : ℕ) → g ≡ k → size G k a i ≡ size G g a i
+    size-at k e = ap (λ (x : ℕ). size G x a i) (sym e)
 
-    pub size-body : {x : ℕ} → g ≡ 1 → x ≡ getD ss (2 * (a - 1) + 2) 0 - getD ss (2 * (a - 1) + 0) 0 → x + 1 ≡ size P w g a i
+    pub size-body : {x : ℕ} → g ≡ 1 → x ≡ getD ss (2 * (a - 1) + 2) 0 - getD ss (2 * (a - 1) + 0) 0 → x + 1 ≡ size G g a i
     unfolding size
-    size-body {x} e q = ap (λ (k : ℕ). k + 1) (q ∙ span2 (rule1 e)) ∙ add-one (bodyCount P a) ∙ size-at 1 e
+    size-body {x} e q = ap (λ (k : ℕ). k + 1) (q ∙ span2 (rule1 e)) ∙ add-one (bodyCount G a) ∙ size-at 1 e
 
-    pub size-implied : {x : ℕ} → g ≡ 2 → x ≡ impliedSize m hs a i → x ≡ size P w g a i
+    pub size-implied : {x : ℕ} → g ≡ 2 → x ≡ impliedSize m hs a i → x ≡ size G g a i
     unfolding size
-    size-implied {x} e q = q ∙ go (le-or-lt i (length (P .rules))) ∙ size-at 2 e
+    size-implied {x} e q = q ∙ go (le-or-lt i (length (G .rules))) ∙ size-at 2 e
       where
-        go : (i ≤ length (P .rules)) ⊎ (length (P .rules) < i) → impliedSize m hs a i ≡ cond (leb i (length (P .rules))) (cond (eqb (headOf P i) a) 1 0) 1
+        go : (i ≤ length (G .rules)) ⊎ (length (G .rules) < i) → impliedSize m hs a i ≡ cond (leb i (length (G .rules))) (cond (eqb (headOf G i) a) 1 0) 1
         go (inl h) =
             ap (λ (b : Bool). cond b 1 (cond (eqb (getD hs (i - 1) 0) a) 1 0)) (le-ltb m i (subst (λ (k : ℕ). i ≤ k) (sym rules-are) h))
-            ∙ ap (λ (k : ℕ). cond (eqb k a) 1 0) (elements.head-is P t hs ss bs ks xs ys T i (R .block-some) h)
-            ∙ sym (ap (λ (b : Bool). cond b (cond (eqb (headOf P i) a) 1 0) 1) (le-leb i (length (P .rules)) h))
+            ∙ ap (λ (k : ℕ). cond (eqb k a) 1 0) (elements.head-is G t hs ss bs ks xs ys T i (R .block-some) h)
+            ∙ sym (ap (λ (b : Bool). cond b (cond (eqb (headOf G i) a) 1 0) 1) (le-leb i (length (G .rules)) h))
         go (inr h) =
             ap (λ (b : Bool). cond b 1 (cond (eqb (getD hs (i - 1) 0) a) 1 0)) (lt-ltb m i (subst (λ (k : ℕ). k < i) (sym rules-are) h))
-            ∙ sym (ap (λ (b : Bool). cond b (cond (eqb (headOf P i) a) 1 0) 1) (lt-leb i (length (P .rules)) h))
+            ∙ sym (ap (λ (b : Bool). cond b (cond (eqb (headOf G i) a) 1 0) 1) (lt-leb i (length (G .rules)) h))
 
-    pub size-zero : g ≡ 3 → w ≡ size P w g a i
+    pub size-zero : g ≡ 3 → w ≡ size G g a i
     unfolding size
-    size-zero e = size-at 3 e
+    size-zero e = width-are ∙ size-at 3 e
 
-    pub size-next : g ≡ 4 → 2 * i ≡ size P w g a i
+    pub size-next : g ≡ 4 → 2 * i ≡ size G g a i
     unfolding size
     size-next e = size-at 4 e
 
-    pub size-pair : {b x : ℕ} → g ≡ 5 → b ≡ chainBit w i → x ≡ chainSize b → x ≡ size P w g a i
+    pub size-pair : {b x : ℕ} → g ≡ 5 → b ≡ chainBit w i → x ≡ chainSize b → x ≡ size G g a i
     unfolding size
-    size-pair e p q = q ∙ ap chainSize p ∙ size-at 5 e
+    size-pair e p q = q ∙ ap chainSize (p ∙ ap (λ (x : ℕ). chainBit x i) width-are) ∙ size-at 5 e
 
-    pub size-rule : {b x : ℕ} → g ≡ 6 → b ≡ getD ss (2 * (a - 1) + 1) 0 - getD ss (2 * (a - 1) + 0) 0 → x ≡ size6 w b → x ≡ size P w g a i
+    pub size-rule : {b x : ℕ} → g ≡ 6 → b ≡ getD ss (2 * (a - 1) + 1) 0 - getD ss (2 * (a - 1) + 0) 0 → x ≡ size6 w b → x ≡ size G g a i
     unfolding size
-    size-rule e p q = q ∙ ap (size6 w) (p ∙ span1 (rule6 e)) ∙ size-at 6 e
+    size-rule e p q = q ∙ ap₂ size6 width-are (p ∙ span1 (rule6 e) ∙ sym (inner-is a)) ∙ size-at 6 e
 
-    pub size-last : Last g → 1 ≡ size P w g a i
-    size-last f = sym (last-size P w g a i 0 0 f)
+    pub size-last : Last g → 1 ≡ size G g a i
+    size-last f = sym (last-size G g a i 0 0 f)
 
     -- ---- what the calls ask
 
@@ -217,160 +223,160 @@ module _ {P : Program} {t : Totals} {hs ss bs ks xs ys : List ℕ} (T : Tabled P
     bits4 e = le-trans (block4 e) (bounded .bits)
 
     pub heads-in : m ≤ length hs
-    heads-in = subst (λ (k : ℕ). m ≤ k) (sym (elements.heads-length P t hs ss bs ks xs ys T)) (bounded .rules)
+    heads-in = subst (λ (k : ℕ). m ≤ k) (sym (elements.heads-length G t hs ss bs ks xs ys T)) (bounded .rules)
 
-    pub span-asks1 : a ≤ length (P .rules)
+    pub span-asks1 : a ≤ length (G .rules)
         → (0 < a) × (a ≤ 500) × (1 ≤ 2) × (length ss ≡ 1001) × (getD ss (2 * (a - 1) + 0) 0 ≤ getD ss (2 * (a - 1) + 1) 0)
-    span-asks1 h = (R .item-some, rule-fits h, omega arith, elements.starts-length P t hs ss bs ks xs ys T, first-middle h)
+    span-asks1 h = (R .item-some, rule-fits h, omega arith, elements.starts-length G t hs ss bs ks xs ys T, first-middle h)
 
-    pub span-asks2 : a ≤ length (P .rules)
+    pub span-asks2 : a ≤ length (G .rules)
         → (0 < a) × (a ≤ 500) × (2 ≤ 2) × (length ss ≡ 1001) × (getD ss (2 * (a - 1) + 0) 0 ≤ getD ss (2 * (a - 1) + 2) 0)
-    span-asks2 h = (R .item-some, rule-fits h, omega arith, elements.starts-length P t hs ss bs ks xs ys T, first-end h)
+    span-asks2 h = (R .item-some, rule-fits h, omega arith, elements.starts-length G t hs ss bs ks xs ys T, first-end h)
 
-    pub span-fits1 : {x : ℕ} → a ≤ length (P .rules) → x ≡ getD ss (2 * (a - 1) + 1) 0 - getD ss (2 * (a - 1) + 0) 0 → x ≤ 500
-    span-fits1 {x} h q = subst (λ (k : ℕ). k ≤ 500) (sym (q ∙ span1 h)) (fits (pairsBefore P a) (positives P a) (pairs-in h))
+    pub span-fits1 : {x : ℕ} → a ≤ length (G .rules) → x ≡ getD ss (2 * (a - 1) + 1) 0 - getD ss (2 * (a - 1) + 0) 0 → x ≤ 500
+    span-fits1 {x} h q = subst (λ (k : ℕ). k ≤ 500) (sym (q ∙ span1 h)) (fits (before G a) (positives G a) (pairs-in h))
       where
         fits : (j k : ℕ) → j + k ≤ 500 → k ≤ 500
         fits j k h = omega (arith, h)
 
-    pub span-fits2 : {x : ℕ} → a ≤ length (P .rules) → x ≡ getD ss (2 * (a - 1) + 2) 0 - getD ss (2 * (a - 1) + 0) 0 → x ≤ 500
+    pub span-fits2 : {x : ℕ} → a ≤ length (G .rules) → x ≡ getD ss (2 * (a - 1) + 2) 0 - getD ss (2 * (a - 1) + 0) 0 → x ≤ 500
     span-fits2 {x} h q = subst (λ (k : ℕ). k ≤ 500) (sym (q ∙ span2 h)) (body-fits h)
 
     pub entry-asks5 : (zs : List ℕ) → length zs ≡ 500 → g ≡ 5 → (0 < a) × (a ≤ length zs)
-    entry-asks5 zs q e = (R .item-some, subst (λ (k : ℕ). a ≤ k) (sym q) (le-trans (pair5 e) (elements.pairs-fit P (T .limits))))
+    entry-asks5 zs q e = (R .item-some, subst (λ (k : ℕ). a ≤ k) (sym q) (le-trans (pair5 e) (elements.pairs-fit G (T .limits))))
 
     pub pair-asks : {b h : ℕ} → g ≡ 5 → b ≡ getD xs (a - 1) 0 → h ≡ getD ys (a - 1) 0
         → Bounded (t .sizes) × (0 < a) × (a ≤ 500) × (0 < b) × (b ≤ 126) × (0 < h) × (h ≤ 126) × (0 < i) × (i ≤ w + w)
     pair-asks {b} {h} e p q =
-        (bounded, R .item-some, le-trans (pair5 e) (elements.pairs-fit P (T .limits)), subst (λ (k : ℕ). 0 < k) (sym p) (x .0), subst (λ (k : ℕ). k ≤ 126) (sym p) (x .1), subst (λ (k : ℕ). 0 < k) (sym q) (z .0), subst (λ (k : ℕ). k ≤ 126) (sym q) (z .1), R .block-some, block5 e)
+        (bounded, R .item-some, le-trans (pair5 e) (elements.pairs-fit G (T .limits)), subst (λ (k : ℕ). 0 < k) (sym p) (x .0), subst (λ (k : ℕ). k ≤ 126) (sym p) (x .1), subst (λ (k : ℕ). 0 < k) (sym q) (z .0), subst (λ (k : ℕ). k ≤ 126) (sym q) (z .1), R .block-some, block5 e)
       where
         x : (0 < getD xs (a - 1) 0) × (getD xs (a - 1) 0 ≤ 126)
-        x = elements.partner-in P t hs ss bs ks xs ys T a (R .item-some) (pair5 e)
+        x = elements.partner-in G t hs ss bs ks xs ys T a (R .item-some) (pair5 e)
 
         z : (0 < getD ys (a - 1) 0) × (getD ys (a - 1) 0 ≤ 126)
-        z = elements.owner-in P t hs ss bs ks xs ys T a (R .item-some) (pair5 e)
+        z = elements.owner-in G t hs ss bs ks xs ys T a (R .item-some) (pair5 e)
 
   -- ---- slots
 
-  module _ {g a i y : ℕ} (A : At P w g a i y) where
-    R : BlockAt P w g a i
+  module _ {g a i y : ℕ} (A : At G g a i y) where
+    R : BlockAt G g a i
     R = A .block-at
 
-    slots-at : (k : ℕ) → g ≡ k → slots P w k a i y ≡ slots P w g a i y
-    slots-at k e = ap (λ (x : ℕ). slots P w x a i y) (sym e)
+    slots-at : (k : ℕ) → g ≡ k → slots G k a i y ≡ slots G g a i y
+    slots-at k e = ap (λ (x : ℕ). slots G x a i y) (sym e)
 
-    pub slots-body : {b x : ℕ} → g ≡ 1 → b ≡ getD ss (2 * (a - 1) + 2) 0 - getD ss (2 * (a - 1) + 0) 0 → x ≡ slots1 b y → x ≡ slots P w g a i y
+    pub slots-body : {b x : ℕ} → g ≡ 1 → b ≡ getD ss (2 * (a - 1) + 2) 0 - getD ss (2 * (a - 1) + 0) 0 → x ≡ slots1 b y → x ≡ slots G g a i y
     unfolding slots
     slots-body e p q = q ∙ ap (λ (k : ℕ). slots1 k y) (p ∙ span2 R (rule1 R e)) ∙ slots-at 1 e
 
-    one-more : m + 1 ≡ suc (length (P .rules))
+    one-more : m + 1 ≡ suc (length (G .rules))
     one-more = omega (arith, rules-are)
 
-    pub slots-supported : g ≡ 2 → m < i → m + 1 ≡ slots P w g a i y
+    pub slots-supported : g ≡ 2 → m < i → m + 1 ≡ slots G g a i y
     unfolding slots
     slots-supported e h =
         one-more
-        ∙ sym (ap (λ (b : Bool). cond b 2 (suc (length (P .rules)))) (lt-leb i (length (P .rules)) (subst (λ (k : ℕ). k < i) rules-are h)))
+        ∙ sym (ap (λ (b : Bool). cond b 2 (suc (length (G .rules)))) (lt-leb i (length (G .rules)) (subst (λ (k : ℕ). k < i) rules-are h)))
         ∙ slots-at 2 e
 
-    pub slots-implied : g ≡ 2 → i ≤ m → 2 ≡ slots P w g a i y
+    pub slots-implied : g ≡ 2 → i ≤ m → 2 ≡ slots G g a i y
     unfolding slots
     slots-implied e h =
-        sym (ap (λ (b : Bool). cond b 2 (suc (length (P .rules)))) (le-leb i (length (P .rules)) (subst (λ (k : ℕ). i ≤ k) rules-are h)))
+        sym (ap (λ (b : Bool). cond b 2 (suc (length (G .rules)))) (le-leb i (length (G .rules)) (subst (λ (k : ℕ). i ≤ k) rules-are h)))
         ∙ slots-at 2 e
 
-    pub slots-zero : g ≡ 3 → 2 ≡ slots P w g a i y
+    pub slots-zero : g ≡ 3 → 2 ≡ slots G g a i y
     unfolding slots
     slots-zero e = slots-at 3 e
 
-    pub slots-next : {x : ℕ} → g ≡ 4 → x ≡ slots4 i y → x ≡ slots P w g a i y
+    pub slots-next : {x : ℕ} → g ≡ 4 → x ≡ slots4 i y → x ≡ slots G g a i y
     unfolding slots
     slots-next e q = q ∙ slots-at 4 e
 
-    pub slots-pair : {b x : ℕ} → g ≡ 5 → b ≡ chainBit w i → x ≡ chainSlots b y → x ≡ slots P w g a i y
+    pub slots-pair : {b x : ℕ} → g ≡ 5 → b ≡ chainBit w i → x ≡ chainSlots b y → x ≡ slots G g a i y
     unfolding slots
-    slots-pair e p q = q ∙ ap (λ (k : ℕ). chainSlots k y) p ∙ slots-at 5 e
+    slots-pair e p q = q ∙ ap (λ (k : ℕ). chainSlots k y) (p ∙ ap (λ (x : ℕ). chainBit x i) width-are) ∙ slots-at 5 e
 
-    pub slots-rule : {b x : ℕ} → g ≡ 6 → b ≡ getD ss (2 * (a - 1) + 1) 0 - getD ss (2 * (a - 1) + 0) 0 → x ≡ slots6 b y → x ≡ slots P w g a i y
+    pub slots-rule : {b x : ℕ} → g ≡ 6 → b ≡ getD ss (2 * (a - 1) + 1) 0 - getD ss (2 * (a - 1) + 0) 0 → x ≡ slots6 b y → x ≡ slots G g a i y
     unfolding slots
-    slots-rule e p q = q ∙ ap (λ (k : ℕ). slots6 k y) (p ∙ span1 R (rule6 R e)) ∙ slots-at 6 e
+    slots-rule e p q = q ∙ ap (λ (k : ℕ). slots6 k y) (p ∙ span1 R (rule6 R e) ∙ sym (inner-is a)) ∙ slots-at 6 e
 
-    pub slots-last : Last g → m + 1 ≡ slots P w g a i y
-    slots-last f = one-more ∙ sym (last-slots P w g a i y 0 f)
+    pub slots-last : Last g → m + 1 ≡ slots G g a i y
+    slots-last f = one-more ∙ sym (last-slots G g a i y 0 f)
 
     -- ---- the literal in slot l
 
     module _ (l : ℕ) where
-      slot-at : (k : ℕ) → g ≡ k → slotLiteral (slot P w k a i y l) ≡ slotLiteral (slot P w g a i y l)
-      slot-at k e = ap (λ (x : ℕ). slotLiteral (slot P w x a i y l)) (sym e)
+      slot-at : (k : ℕ) → g ≡ k → slotLiteral (slot G k a i y l) ≡ slotLiteral (slot G g a i y l)
+      slot-at k e = ap (λ (x : ℕ). slotLiteral (slot G x a i y l)) (sym e)
 
       -- the group's literal is that of the program's sizes
-      with-sizes : (f : Sizes → Literal) {x : Literal} → x ≡ f (sizesOf (t .sizes)) → x ≡ f (sizes P w)
+      with-sizes : (f : Sizes → Literal) {x : Literal} → x ≡ f (sizesOf (t .sizes)) → x ≡ f (codeSizes G)
       with-sizes f q = q ∙ ap f sizes-are
 
       pub slot-pair : {b h : ℕ} {x : Literal} → g ≡ 5 → b ≡ getD xs (a - 1) 0 → h ≡ getD ys (a - 1) 0 → x ≡ slot5 (sizesOf (t .sizes)) a b h i y l
-          → x ≡ slotLiteral (slot P w g a i y l)
+          → x ≡ slotLiteral (slot G g a i y l)
       unfolding slot
       slot-pair {b} {h} e p q u =
           with-sizes (λ S. slot5 S a b h i y l) u
-          ∙ ap₂ (λ (b h : ℕ). slot5 (sizes P w) a b h i y l) (p ∙ elements.partner-is P t hs ss bs ks xs ys T a (R .item-some) (pair5 R e)) (q ∙ elements.owner-is P t hs ss bs ks xs ys T a (R .item-some) (pair5 R e))
+          ∙ ap₂ (λ (b h : ℕ). slot5 (codeSizes G) a b h i y l) (p ∙ elements.partner-is G t hs ss bs ks xs ys T a (R .item-some) (pair5 R e)) (q ∙ elements.owner-is G t hs ss bs ks xs ys T a (R .item-some) (pair5 R e))
           ∙ slot-at 5 e
 
       pub slot-body : {b c d : ℕ} {x : Literal} → g ≡ 1 → b ≡ getD ss (2 * (a - 1) + 0) 0 → c ≡ getD ss (2 * (a - 1) + 1) 0 → d ≡ getD ss (2 * (a - 1) + 2) 0
-          → x ≡ slot1 (sizesOf (t .sizes)) a (take (d - b) (drop b bs)) (c - b) y l → x ≡ slotLiteral (slot P w g a i y l)
+          → x ≡ slot1 (sizesOf (t .sizes)) a (take (d - b) (drop b bs)) (c - b) y l → x ≡ slotLiteral (slot G g a i y l)
       unfolding slot
       slot-body {b} {c} {d} e p q r u =
           with-sizes (λ S. slot1 S a (take (d - b) (drop b bs)) (c - b) y l) u
-          ∙ ap₂ (λ (xs : List ℕ) (k : ℕ). slot1 (sizes P w) a xs k y l)
+          ∙ ap₂ (λ (xs : List ℕ) (k : ℕ). slot1 (codeSizes G) a xs k y l)
           (ap₂ (λ (d b : ℕ). take (d - b) (drop b bs)) r p ∙ body-is R (rule1 R e)) (ap₂ (λ (c b : ℕ). c - b) q p ∙ span1 R (rule1 R e))
           ∙ slot-at 1 e
 
-      head-is : (base : ℕ) (v : ℕ → ℕ) → ((r : ℕ) → base + r ≡ v r) → slotLiteral (ofHead (take m hs) a (λ r. base + r) l) ≡ slotLiteral (ofHead (headsOf P) a v l)
+      head-is : (base : ℕ) (v : ℕ → ℕ) → ((r : ℕ) → base + r ≡ v r) → slotLiteral (ofHead (take m hs) a (λ r. base + r) l) ≡ slotLiteral (ofHead (headsOf G) a v l)
       head-is base v f =
-          ap₂ (λ (xs : List ℕ) (v : ℕ → ℕ). slotLiteral (ofHead xs a v l)) (elements.heads-taken P t hs ss bs ks xs ys T) (λ t r. f r t)
+          ap₂ (λ (xs : List ℕ) (v : ℕ → ℕ). slotLiteral (ofHead xs a v l)) (elements.heads-taken G t hs ss bs ks xs ys T) (λ t r. f r t)
 
-      pub supported-slot : g ≡ 2 → m < i → slot P w g a i y l ≡ ofHead (headsOf P) a (bodyVar (sizes P w)) l
+      pub supported-slot : g ≡ 2 → m < i → slot G g a i y l ≡ ofHead (headsOf G) a (bodyVar (codeSizes G)) l
       unfolding slot
       supported-slot e h =
-          ap (λ (x : ℕ). slot P w x a i y l) e
-          ∙ ap (λ (b : Bool). cond b (impliedSlot (sizes P w) a i l ∷ []) (ofHead (headsOf P) a (bodyVar (sizes P w)) l)) (lt-leb i (length (P .rules)) (subst (λ (k : ℕ). k < i) rules-are h))
+          ap (λ (x : ℕ). slot G x a i y l) e
+          ∙ ap (λ (b : Bool). cond b (impliedSlot (codeSizes G) a i l ∷ []) (ofHead (headsOf G) a (bodyVar (codeSizes G)) l)) (lt-leb i (length (G .rules)) (subst (λ (k : ℕ). k < i) rules-are h))
 
-      pub slot-supported : {x : Literal} → g ≡ 2 → m < i → x ≡ slotLiteral (ofHead (take m hs) a (λ r. t .sizes .n + r) l) → x ≡ slotLiteral (slot P w g a i y l)
+      pub slot-supported : {x : Literal} → g ≡ 2 → m < i → x ≡ slotLiteral (ofHead (take m hs) a (λ r. t .sizes .n + r) l) → x ≡ slotLiteral (slot G g a i y l)
       slot-supported e h u =
-          u ∙ head-is (t .sizes .n) (bodyVar (sizes P w)) (λ r. ap (λ (S : Sizes). bodyVar S r) sizes-are) ∙ sym (ap slotLiteral (supported-slot e h))
+          u ∙ head-is (t .sizes .n) (bodyVar (codeSizes G)) (λ r. ap (λ (S : Sizes). bodyVar S r) sizes-are) ∙ sym (ap slotLiteral (supported-slot e h))
 
-      pub slot-implied : {x : Literal} → g ≡ 2 → i ≤ m → x ≡ impliedSlot (sizesOf (t .sizes)) a i l → x ≡ slotLiteral (slot P w g a i y l)
+      pub slot-implied : {x : Literal} → g ≡ 2 → i ≤ m → x ≡ impliedSlot (sizesOf (t .sizes)) a i l → x ≡ slotLiteral (slot G g a i y l)
       unfolding slot
       slot-implied e h u =
           with-sizes (λ S. impliedSlot S a i l) u
-          ∙ sym (ap (λ (b : Bool). slotLiteral (cond b (impliedSlot (sizes P w) a i l ∷ []) (ofHead (headsOf P) a (bodyVar (sizes P w)) l))) (le-leb i (length (P .rules)) (subst (λ (k : ℕ). i ≤ k) rules-are h)))
+          ∙ sym (ap (λ (b : Bool). slotLiteral (cond b (impliedSlot (codeSizes G) a i l ∷ []) (ofHead (headsOf G) a (bodyVar (codeSizes G)) l))) (le-leb i (length (G .rules)) (subst (λ (k : ℕ). i ≤ k) rules-are h)))
           ∙ slot-at 2 e
 
-      pub slot-zero : {x : Literal} → g ≡ 3 → x ≡ slot3 (sizesOf (t .sizes)) a y l → x ≡ slotLiteral (slot P w g a i y l)
+      pub slot-zero : {x : Literal} → g ≡ 3 → x ≡ slot3 (sizesOf (t .sizes)) a y l → x ≡ slotLiteral (slot G g a i y l)
       unfolding slot
       slot-zero e u = with-sizes (λ S. slot3 S a y l) u ∙ slot-at 3 e
 
-      pub slot-next : {x : Literal} → g ≡ 4 → x ≡ slot4 (sizesOf (t .sizes)) a i y l → x ≡ slotLiteral (slot P w g a i y l)
+      pub slot-next : {x : Literal} → g ≡ 4 → x ≡ slot4 (sizesOf (t .sizes)) a i y l → x ≡ slotLiteral (slot G g a i y l)
       unfolding slot
       slot-next e u = with-sizes (λ S. slot4 S a i y l) u ∙ slot-at 4 e
 
       pub slot-rule : {h k b : ℕ} {x : Literal} → g ≡ 6 → h ≡ getD hs (a - 1) 0 → k ≡ getD ks (a - 1) 0 → b ≡ getD ss (2 * (a - 1) + 1) 0 - getD ss (2 * (a - 1) + 0) 0
-          → x ≡ slot6 (sizesOf (t .sizes)) a h k b y l → x ≡ slotLiteral (slot P w g a i y l)
+          → x ≡ slot6 (sizesOf (t .sizes)) a h k b y l → x ≡ slotLiteral (slot G g a i y l)
       unfolding slot
       slot-rule {h} {k} {b} e p q r u =
           with-sizes (λ S. slot6 S a h k b y l) u
-          ∙ ap₂ (λ (h k : ℕ). slot6 (sizes P w) a h k b y l) (p ∙ elements.head-is P t hs ss bs ks xs ys T a (R .item-some) (rule6 R e)) (q ∙ elements.before-is P t hs ss bs ks xs ys T a (R .item-some) (le-trans (rule6 R e) (omega arith)))
-          ∙ ap (λ (b : ℕ). slot6 (sizes P w) a (headOf P a) (pairsBefore P a) b y l) (r ∙ span1 R (rule6 R e))
+          ∙ ap₂ (λ (h k : ℕ). slot6 (codeSizes G) a h k b y l) (p ∙ elements.head-is G t hs ss bs ks xs ys T a (R .item-some) (rule6 R e)) (q ∙ elements.before-is G t hs ss bs ks xs ys T a (R .item-some) (le-trans (rule6 R e) (omega arith)))
+          ∙ ap (λ (b : ℕ). slot6 (codeSizes G) a (headOf G a) (before G a) b y l) (r ∙ span1 R (rule6 R e) ∙ sym (inner-is a))
           ∙ slot-at 6 e
 
-      pub slot-last : {x : Literal} → Last g → x ≡ slotLiteral (ofHead (take m hs) a (λ r. t .sizes .n + m + r) l) → x ≡ slotLiteral (slot P w g a i y l)
+      pub slot-last : {x : Literal} → Last g → x ≡ slotLiteral (ofHead (take m hs) a (λ r. t .sizes .n + m + r) l) → x ≡ slotLiteral (slot G g a i y l)
       slot-last f u =
-          u ∙ head-is (t .sizes .n + m) (foundsVar (sizes P w)) (λ r. ap (λ (S : Sizes). foundsVar S r) sizes-are) ∙ sym (ap slotLiteral (last-slot P w g a i y l f))
+          u ∙ head-is (t .sizes .n + m) (foundsVar (codeSizes G)) (λ r. ap (λ (S : Sizes). foundsVar S r) sizes-are) ∙ sym (ap slotLiteral (last-slot G g a i y l f))
 
       -- ---- what the calls ask
 
       pub body-asks : {b c d : ℕ} → g ≡ 1 → b ≡ getD ss (2 * (a - 1) + 0) 0 → c ≡ getD ss (2 * (a - 1) + 1) 0 → d ≡ getD ss (2 * (a - 1) + 2) 0
-          → 0 < l → l ≤ slots P w g a i y
+          → 0 < l → l ≤ slots G g a i y
           → Bounded (t .sizes) × (a ≤ 500) × (b ≤ c) × (b ≤ d) × (d ≤ length bs) × (0 < y) × (0 < l) × (l ≤ slots1 (d - b) y)
       body-asks {b} {c} {d} e p q r f n =
           (bounded, rule-fits R (rule1 R e), le-by p q (first-middle R (rule1 R e)), le-by p r (first-end R (rule1 R e)), subst (λ (k : ℕ). k ≤ length bs) (sym r) (end-in R (rule1 R e)), A .clause-some, f, subst (λ (k : ℕ). l ≤ k) (sym (slots-body e (ap₂ (λ (d b : ℕ). d - b) r p) refl)) n)
@@ -378,7 +384,7 @@ module _ {P : Program} {t : Totals} {hs ss bs ks xs ys : List ℕ} (T : Tabled P
           le-by : {j k u v : ℕ} → j ≡ u → k ≡ v → u ≤ v → j ≤ k
           le-by {j} {k} {u} {v} p q h = subst (λ (x : ℕ). x ≤ k) (sym p) (subst (λ (x : ℕ). u ≤ x) (sym q) h)
 
-      pub supported-asks : g ≡ 2 → m < i → 0 < l → l ≤ slots P w g a i y → (t .sizes .n ≤ 626) × (m ≤ 500) × (m ≤ length hs) × (0 < l) × (l ≤ m + 1)
+      pub supported-asks : g ≡ 2 → m < i → 0 < l → l ≤ slots G g a i y → (t .sizes .n ≤ 626) × (m ≤ 500) × (m ≤ length hs) × (0 < l) × (l ≤ m + 1)
       supported-asks e h f n = (le-trans (bounded .atoms) (omega arith), bounded .rules, heads-in R, f, subst (λ (k : ℕ). l ≤ k) (sym (slots-supported e h)) n)
 
       pub implied-asks : i ≤ m → Bounded (t .sizes) × (i ≤ 500)
@@ -387,7 +393,7 @@ module _ {P : Program} {t : Totals} {hs ss bs ks xs ys : List ℕ} (T : Tabled P
       pub zero-asks : g ≡ 3 → Bounded (t .sizes) × (0 < a) × (a ≤ 126) × (y ≤ 7)
       zero-asks e = (bounded, R .item-some, atom3 R e, le-trans (subst (λ (k : ℕ). y ≤ k) (sym (size-zero R e)) (A .clause-in)) (bounded .bits))
 
-      pub next-asks : g ≡ 4 → l ≤ slots P w g a i y
+      pub next-asks : g ≡ 4 → l ≤ slots G g a i y
           → Bounded (t .sizes) × (0 < a) × (a ≤ 126) × (i ≤ 7) × (0 < y) × (y ≤ 14) × (l ≤ 8)
       next-asks e n =
           (bounded, R .item-some, atom4 R e, bits4 R e, A .clause-some, omega (arith, subst (λ (k : ℕ). y ≤ k) (sym (size-next R e)) (A .clause-in), bits4 R e), few (subst (λ (k : ℕ). l ≤ k) (sym (slots-next e refl)) n))
@@ -398,27 +404,27 @@ module _ {P : Program} {t : Totals} {hs ss bs ks xs ys : List ℕ} (T : Tabled P
               (λ (h : bitOf y < i). omega (arith, subst (λ (b : Bool). l ≤ cond b 3 (suc i)) (lt-ltb (bitOf y) i h) n)) (le-or-lt i (bitOf y))
 
       pub head-asks : g ≡ 6 → (0 < a) × (a ≤ length hs)
-      head-asks e = (R .item-some, subst (λ (k : ℕ). a ≤ k) (sym (elements.heads-length P t hs ss bs ks xs ys T)) (rule-fits R (rule6 R e)))
+      head-asks e = (R .item-some, subst (λ (k : ℕ). a ≤ k) (sym (elements.heads-length G t hs ss bs ks xs ys T)) (rule-fits R (rule6 R e)))
 
       pub before-asks : g ≡ 6 → (0 < a) × (a ≤ length ks)
       before-asks e =
-          (R .item-some, subst (λ (k : ℕ). a ≤ k) (sym (elements.before-length P t hs ss bs ks xs ys T)) (le-trans (rule-fits R (rule6 R e)) (omega arith)))
+          (R .item-some, subst (λ (k : ℕ). a ≤ k) (sym (elements.before-length G t hs ss bs ks xs ys T)) (le-trans (rule-fits R (rule6 R e)) (omega arith)))
 
       pub rule-asks : {h k b : ℕ} → g ≡ 6 → h ≡ getD hs (a - 1) 0 → k ≡ getD ks (a - 1) 0 → b ≡ getD ss (2 * (a - 1) + 1) 0 - getD ss (2 * (a - 1) + 0) 0
-          → 0 < l → l ≤ slots P w g a i y
+          → 0 < l → l ≤ slots G g a i y
           → Bounded (t .sizes) × (a ≤ 500) × (0 < h) × (h ≤ 126) × (k + b ≤ 500) × (0 < y) × (y ≤ size6 w b) × (0 < l) × (l ≤ slots6 b y)
       rule-asks {h} {k} {b} e p q r f n =
           (bounded, rule-fits R (rule6 R e), subst (λ (k : ℕ). 0 < k) (sym p′) (x .0), subst (λ (k : ℕ). k ≤ 126) (sym p′) (x .1), subst (λ (k : ℕ). k ≤ 500) (sym (ap₂ (λ (k b : ℕ). k + b) q′ (r ∙ span1 R (rule6 R e)))) (pairs-in R (rule6 R e)), A .clause-some, subst (λ (k : ℕ). y ≤ k) (sym (size-rule R e r refl)) (A .clause-in), f, subst (λ (k : ℕ). l ≤ k) (sym (slots-rule e r refl)) n)
         where
-          x : (0 < headOf P a) × (headOf P a ≤ 126)
-          x = elements.head-in P (T .limits) a (R .item-some) (rule6 R e)
+          x : (0 < headOf G a) × (headOf G a ≤ 126)
+          x = elements.head-in G (T .limits) a (R .item-some) (rule6 R e)
 
-          p′ : h ≡ headOf P a
-          p′ = p ∙ elements.head-is P t hs ss bs ks xs ys T a (R .item-some) (rule6 R e)
+          p′ : h ≡ headOf G a
+          p′ = p ∙ elements.head-is G t hs ss bs ks xs ys T a (R .item-some) (rule6 R e)
 
-          q′ : k ≡ pairsBefore P a
-          q′ = q ∙ elements.before-is P t hs ss bs ks xs ys T a (R .item-some) (le-trans (rule6 R e) (omega arith))
+          q′ : k ≡ before G a
+          q′ = q ∙ elements.before-is G t hs ss bs ks xs ys T a (R .item-some) (le-trans (rule6 R e) (omega arith))
 
-      pub founded-asks : Last g → 0 < l → l ≤ slots P w g a i y → (t .sizes .n + m ≤ 626) × (m ≤ 500) × (m ≤ length hs) × (0 < l) × (l ≤ m + 1)
+      pub founded-asks : Last g → 0 < l → l ≤ slots G g a i y → (t .sizes .n + m ≤ 626) × (m ≤ 500) × (m ≤ length hs) × (0 < l) × (l ≤ m + 1)
       founded-asks f p n =
           (omega (arith, bounded .atoms, bounded .rules), bounded .rules, heads-in R, p, subst (λ (k : ℕ). l ≤ k) (sym (slots-last f)) n)

@@ -1,6 +1,6 @@
 -- Parts: parts of lists, and what stands in them
 -- Heads: the next rule whose head is an atom
--- Groups: the numbers of a program whose tables are given, group by group
+-- Groups: the numbers of a code whose tables are given, group by group
 -- Passed: the slots that are passed because they are empty
 pub mod Parts
 pub mod Heads

@@ -1,5 +1,5 @@
--- The slots that `past_empty` passes, in a program whose tables are given.
---   Passed P w g a i y l r    no slot of the clause after slot l, up to slot r, holds a literal
+-- The slots that `past_empty` passes, in a code whose tables are given.
+--   Passed G g a i y l r    no slot of the clause after slot l, up to slot r, holds a literal
 --   passed                    so it is with what `past_empty` gives
 --   passed-each               the literals of the first r slots are those of the first l
 -- Assumes nothing.
@@ -13,8 +13,7 @@ use lib.Dec.{eqb, ltb}
 use lib.ListN.{getD, take}
 use borrow.Author.Tests.{ne-eqb, eqb-true, ltb-true}
 use Rattle.lists.specs.Lists.{each}
-use Rattle.meaning.specs.Program.{Program}
-use Rattle.encoding.specs.Clauses.{sizes}
+use Rattle.encoding.specs.Code.{Code, codeSizes}
 use Rattle.encoding.specs.Variables.{bodyVar, foundsVar}
 use Rattle.clause_walk.specs.Walk.{headsOf, slots, slot, ofHead, At}
 use Rattle.clause_tables.specs.declared.Totals.{Totals}
@@ -43,32 +42,29 @@ others-empty : (hs : List ℕ) (a : ℕ) (v : ℕ → ℕ) (l q : ℕ) → 0 < l
 others-empty hs a v l q p h n =
     rw (ne-eqb q 1 (λ e. omega (arith, p, h, e)), ne-eqb (getD hs (pred (pred q)) 0) a (next-between hs a (l - 1) (pred (pred q)) (omega (arith, p, h)) (omega (arith, p, h, n))))
 
-pub record Passed (P : Program) (w g a i y l r : ℕ) : Type 0 where
+pub record Passed (G : Code) (g a i y l r : ℕ) : Type 0 where
   pub on : l ≤ r
-  pub within : r ≤ slots P w g a i y
-  pub empty : (q : ℕ) → l < q → q ≤ r → slot P w g a i y q ≡ []
+  pub within : r ≤ slots G g a i y
+  pub empty : (q : ℕ) → l < q → q ≤ r → slot G g a i y q ≡ []
 
-pub passed-each : {P : Program} {w g a i y l r : ℕ} → Passed P w g a i y l r → each r (slot P w g a i y) ≡ each l (slot P w g a i y)
-passed-each {P} {w} {g} {a} {i} {y} {l} {r} p = each-past (slot P w g a i y) l r (p .on) (p .empty)
+pub passed-each : {G : Code} {g a i y l r : ℕ} → Passed G g a i y l r → each r (slot G g a i y) ≡ each l (slot G g a i y)
+passed-each {G} {g} {a} {i} {y} {l} {r} p = each-past (slot G g a i y) l r (p .on) (p .empty)
 
-module _ {P : Program} {t : Totals} {hs ss bs ks xs ys : List ℕ} (T : Tabled P t hs ss bs ks xs ys) {g a i y : ℕ} (A : At P (t .sizes .w) g a i y) {l : ℕ} (p : 0 < l) (h : l ≤ slots P (t .sizes .w) g a i y) where
-  abbrev w : ℕ
-  w = t .sizes .w
-
+module _ {G : Code} {t : Totals} {hs ss bs ks xs ys : List ℕ} (T : Tabled G t hs ss bs ks xs ys) {g a i y : ℕ} (A : At G g a i y) {l : ℕ} (p : 0 < l) (h : l ≤ slots G g a i y) where
   abbrev m : ℕ
   m = t .sizes .m
 
   -- the slots of groups 2 and 7 that stand for rules
-  by-heads : (v : ℕ → ℕ) → m + 1 ≡ slots P w g a i y → ((q : ℕ) → slot P w g a i y q ≡ ofHead (headsOf P) a v q)
-      → Passed P w g a i y l (nextHead (take m hs) a (l - 1) + 1)
+  by-heads : (v : ℕ → ℕ) → m + 1 ≡ slots G g a i y → ((q : ℕ) → slot G g a i y q ≡ ofHead (headsOf G) a v q)
+      → Passed G g a i y l (nextHead (take m hs) a (l - 1) + 1)
   by-heads v e f =
       record {
         on = omega (arith, next-from (take m hs) a (l - 1));
         within = subst (λ (k : ℕ). nextHead (take m hs) a (l - 1) + 1 ≤ k) e (omega (arith, next-in hs m a (l - 1) (heads-in T (A .block-at)) (omega (arith, subst (λ (k : ℕ). l ≤ k) (sym e) h))));
-        empty = λ q n k. f q ∙ others-empty (headsOf P) a v l q p n (subst (λ (xs : List ℕ). q ≤ nextHead xs a (l - 1) + 1) (elements.heads-taken P t hs ss bs ks xs ys T) k);
+        empty = λ q n k. f q ∙ others-empty (headsOf G) a v l q p n (subst (λ (xs : List ℕ). q ≤ nextHead xs a (l - 1) + 1) (elements.heads-taken G t hs ss bs ks xs ys T) k);
       }
 
-  stay : Passed P w g a i y l l
+  stay : Passed G g a i y l l
   stay = record { on = le-refl l; within = h; empty = λ q n k. absurd (omega (arith, n, k)) }
 
   last7 : g ≡ 7 → Last g
@@ -82,14 +78,14 @@ module _ {P : Program} {t : Totals} {hs ss bs ks xs ys : List ℕ} (T : Tabled P
         not6 = λ q. omega (arith, e, q);
       }
 
-  pub passed : {r : ℕ} → r ≡ pastEmpty m hs g a i l → Passed P w g a i y l r
-  passed {r} u = subst (Passed P w g a i y l) (sym u) (go (eqb g 7) (eqb g 2) (ltb m i) refl refl refl)
+  pub passed : {r : ℕ} → r ≡ pastEmpty m hs g a i l → Passed G g a i y l r
+  passed {r} u = subst (Passed G g a i y l) (sym u) (go (eqb g 7) (eqb g 2) (ltb m i) refl refl refl)
     where
       go : (b c d : Bool) → eqb g 7 ≡ b → eqb g 2 ≡ c → ltb m i ≡ d
-          → Passed P w g a i y l (cond b (nextHead (take m hs) a (l - 1) + 1) (cond c (cond d (nextHead (take m hs) a (l - 1) + 1) l) l))
+          → Passed G g a i y l (cond b (nextHead (take m hs) a (l - 1) + 1) (cond c (cond d (nextHead (take m hs) a (l - 1) + 1) l) l))
       go true c d u v z =
-          let f : Last g = last7 (eqb-true g 7 u) in by-heads (foundsVar (sizes P w)) (slots-last T A f) (λ q. last-slot P w g a i y q f)
+          let f : Last g = last7 (eqb-true g 7 u) in by-heads (foundsVar (codeSizes G)) (slots-last T A f) (λ q. last-slot G g a i y q f)
       go false true true u v z =
-          by-heads (bodyVar (sizes P w)) (slots-supported T A (eqb-true g 2 v) (ltb-true m i z)) (λ q. supported-slot T A q (eqb-true g 2 v) (ltb-true m i z))
+          by-heads (bodyVar (codeSizes G)) (slots-supported T A (eqb-true g 2 v) (ltb-true m i z)) (λ q. supported-slot T A q (eqb-true g 2 v) (ltb-true m i z))
       go false true false u v z = stay
       go false false d u v z = stay

@@ -30,7 +30,7 @@ ghost use lib.ListN.{length, getD, take, drop};
 ghost use Rattle.clause_literals.specs.Sizes.{sizesOf, Bounded};
 ghost use Rattle.clause_slots.specs.Signed.{literalIn, slotLiteral};
 ghost use Rattle.clause_walk.specs.Walk.{slots1, slot1, ofHead, size as sizeAt, slots as slotsAt, slot as slotAt};
-ghost use Rattle.clause_tables.specs.Tables.{programIn, Ready};
+ghost use Rattle.clause_tables.specs.Tables.{Ready, codeIn};
 ghost use Rattle.clause_walk.specs.Walk.{BlockAt, At};
 ghost use Rattle.clause_layout.specs.BlockChain.{chainOfBlock};
 ghost use Rattle.clause_layout.specs.Numbers.{itemsOf, blocksOf, impliedSize, isAt, amongEight, nextHead, pastEmpty};
@@ -161,8 +161,8 @@ pub fn size<'a>(
     i: u16,
 ) -> u16
     requires { ⌜ (Ready t (now heads) (now starts) (now bodies) (now before) (now partners) (now owners))
-        × (BlockAt (programIn (t .sizes) (now heads) (now starts) (now bodies)) (t .sizes .w) g a i) ⌝ }
-    ensures { λ r. ⌜ r ≡ sizeAt (programIn (t .sizes) (now (heads .entry)) (now (starts .entry)) (now (bodies .entry))) (t .sizes .w) g a i ⌝ }
+        × (BlockAt (codeIn t (now heads) (now starts) (now bodies)) g a i) ⌝ }
+    ensures { λ r. ⌜ r ≡ sizeAt (codeIn t (now (heads .entry)) (now (starts .entry)) (now (bodies .entry))) g a i ⌝ }
 {
     let s = t.sizes;
     if g == 1 {
@@ -201,8 +201,8 @@ pub fn slots<'a>(
     y: u16,
 ) -> u16
     requires { ⌜ (Ready t (now heads) (now starts) (now bodies) (now before) (now partners) (now owners))
-        × (At (programIn (t .sizes) (now heads) (now starts) (now bodies)) (t .sizes .w) g a i y) ⌝ }
-    ensures { λ r. ⌜ r ≡ slotsAt (programIn (t .sizes) (now (heads .entry)) (now (starts .entry)) (now (bodies .entry))) (t .sizes .w) g a i y ⌝ }
+        × (At (codeIn t (now heads) (now starts) (now bodies)) g a i y) ⌝ }
+    ensures { λ r. ⌜ r ≡ slotsAt (codeIn t (now (heads .entry)) (now (starts .entry)) (now (bodies .entry))) g a i y ⌝ }
 {
     let s = t.sizes;
     if g == 1 {
@@ -245,10 +245,10 @@ pub fn slot<'a>(
     l: u16,
 ) -> Signed
     requires { ⌜ (Ready t (now heads) (now starts) (now bodies) (now before) (now partners) (now owners))
-        × (At (programIn (t .sizes) (now heads) (now starts) (now bodies)) (t .sizes .w) g a i y) × (0 < l)
-        × (l ≤ slotsAt (programIn (t .sizes) (now heads) (now starts) (now bodies)) (t .sizes .w) g a i y) ⌝ }
+        × (At (codeIn t (now heads) (now starts) (now bodies)) g a i y) × (0 < l)
+        × (l ≤ slotsAt (codeIn t (now heads) (now starts) (now bodies)) g a i y) ⌝ }
     ensures { λ x. ⌜ literalIn x
-        ≡ slotLiteral (slotAt (programIn (t .sizes) (now (heads .entry)) (now (starts .entry)) (now (bodies .entry))) (t .sizes .w) g a i y l) ⌝ }
+        ≡ slotLiteral (slotAt (codeIn t (now (heads .entry)) (now (starts .entry)) (now (bodies .entry))) g a i y l) ⌝ }
 {
     let s = t.sizes;
     if g == 5 {
@@ -374,8 +374,8 @@ pub fn chain_of_block<'a>(
     i: u16,
 ) -> Chain
     requires { ⌜ (Ready t (now heads) (now starts) (now bodies) (now before) (now partners) (now owners))
-        × (BlockAt (programIn (t .sizes) (now heads) (now starts) (now bodies)) (t .sizes .w) g a i) ⌝ }
-    ensures { λ r. ⌜ r ≡ chainOfBlock (programIn (t .sizes) (now (heads .entry)) (now (starts .entry)) (now (bodies .entry))) (t .sizes .w) g a i ⌝ }
+        × (BlockAt (codeIn t (now heads) (now starts) (now bodies)) g a i) ⌝ }
+    ensures { λ r. ⌜ r ≡ chainOfBlock (codeIn t (now (heads .entry)) (now (starts .entry)) (now (bodies .entry))) g a i ⌝ }
 {
     if g == 5 {
         let b = Atom(entry(partners, a));
@@ -407,11 +407,11 @@ pub fn literal_in<'a>(
     l: u16,
 ) -> Signed
     requires { ⌜ (Ready t (now heads) (now starts) (now bodies) (now before) (now partners) (now owners))
-        × (At (programIn (t .sizes) (now heads) (now starts) (now bodies)) (t .sizes .w) g a i y) × (0 < l)
-        × (l ≤ slotsAt (programIn (t .sizes) (now heads) (now starts) (now bodies)) (t .sizes .w) g a i y)
-        × (c ≡ chainOfBlock (programIn (t .sizes) (now heads) (now starts) (now bodies)) (t .sizes .w) g a i) ⌝ }
+        × (At (codeIn t (now heads) (now starts) (now bodies)) g a i y) × (0 < l)
+        × (l ≤ slotsAt (codeIn t (now heads) (now starts) (now bodies)) g a i y)
+        × (c ≡ chainOfBlock (codeIn t (now heads) (now starts) (now bodies)) g a i) ⌝ }
     ensures { λ x. ⌜ literalIn x
-        ≡ slotLiteral (slotAt (programIn (t .sizes) (now (heads .entry)) (now (starts .entry)) (now (bodies .entry))) (t .sizes .w) g a i y l) ⌝ }
+        ≡ slotLiteral (slotAt (codeIn t (now (heads .entry)) (now (starts .entry)) (now (bodies .entry))) g a i y l) ⌝ }
 {
     if g == 5 {
         return chain_literal(c, chain_bit(t.sizes.w, i), y, l);

@@ -1,7 +1,7 @@
 -- The coordinates of the clauses follow one another.
 --   each-after, tab-after   tables from their first element on
 --   after-past                the numbers that add nothing are passed
---   Stands P w c              a clause stands at c
+--   Stands G c              a clause stands at c
 --   Chained xs                each of the coordinates xs is a clause's, and what follows it in xs is what follows it in the walk
 --   all-coordinates-chained   the coordinates of the clauses are so, and follow the place before the first group
 -- Assumes nothing.
@@ -10,9 +10,9 @@ use native.Mathlib.Nat.{zero-add, suc-add}
 use native.Mathlib.Omega.{arith}
 use mathlib.Core.Path.{_≡_, refl, sym, _∙_, ap, ap₂, subst}
 use mathlib.Core.List.{List, [], _∷_, _++_, append-assoc}
+use Rattle.encoding.specs.Code.{Code}
 use Rattle.lists.specs.Lists.{tab, each}
 use Rattle.lists.proofs.Tables.{each-front, tab-each}
-use Rattle.meaning.specs.Program.{Program}
 use Rattle.clause_walk.specs.Walk.{itemCount, blockCount, size, At}
 use Rattle.clause_places.specs.declared.Coordinates.{Coordinates}
 use Rattle.clause_places.specs.Places.{coordinates, blockCoordinates, itemCoordinates, groupCoordinates, allCoordinates, groupStart}
@@ -41,92 +41,92 @@ module _ {A : Type 0} where
       shift : (x k : ℕ) → x + suc k ≡ suc x + k
       shift x k = omega arith
 
-module _ (P : Program) (w : ℕ) where
+module _ (G : Code) where
   abbrev pub AtCoordinates : Coordinates → Type 0
-  AtCoordinates c = At P w (c .group) (c .item) (c .block) (c .clause)
+  AtCoordinates c = At G (c .group) (c .item) (c .block) (c .clause)
 
   -- coordinates where a clause stands
   pub record Stands (c : Coordinates) : Type 0 where
     pub at : AtCoordinates c
-    pub is : c ≡ coordinates P w (c .group) (c .item) (c .block) (c .clause)
+    pub is : c ≡ coordinates G (c .group) (c .item) (c .block) (c .clause)
 
   pub data Chained : List Coordinates → Type 0 where
     end : Chained []
-    link : {c : Coordinates} {cs : List Coordinates} → Stands c → ahead P w c ≡ cs → Chained cs → Chained (c ∷ cs)
+    link : {c : Coordinates} {cs : List Coordinates} → Stands c → ahead G c ≡ cs → Chained cs → Chained (c ∷ cs)
 
   -- ---- the coordinates of the clauses are chained, level by level
 
-  chain-block : (g a i d y : ℕ) (cs : List Coordinates) → ((x : ℕ) → 0 < x → x ≤ size P w g a i → At P w g a i x)
-      → 0 < y → y + d ≡ suc (size P w g a i) → cs ≡ blocksAhead P w g a i (itemCount P g - a) (blockCount P w g - i) → Chained cs
-      → Chained (after d y (λ x. coordinates P w g a i x ∷ []) ++ cs)
+  chain-block : (g a i d y : ℕ) (cs : List Coordinates) → ((x : ℕ) → 0 < x → x ≤ size G g a i → At G g a i x)
+      → 0 < y → y + d ≡ suc (size G g a i) → cs ≡ blocksAhead G g a i (itemCount G g - a) (blockCount G g - i) → Chained cs
+      → Chained (after d y (λ x. coordinates G g a i x ∷ []) ++ cs)
   chain-block g a i zero y cs at p q e ch = ch
   chain-block g a i (suc d) y cs at p q e ch =
       link
       (record { at = at y p (omega (arith, q)); is = refl })
-      (ap₂ (λ (k : ℕ) (xs : List Coordinates). after k (suc y) (λ x. coordinates P w g a i x ∷ []) ++ xs) (left (size P w g a i) q) (sym e))
+      (ap₂ (λ (k : ℕ) (xs : List Coordinates). after k (suc y) (λ x. coordinates G g a i x ∷ []) ++ xs) (left (size G g a i) q) (sym e))
       (chain-block g a i d (suc y) cs at (omega arith) (omega (arith, q)) e ch)
     where
       left : (s : ℕ) → y + suc d ≡ suc s → s - y ≡ d
       left s q = omega (arith, q)
 
   chain-blocks : (g a d i : ℕ) (cs : List Coordinates)
-      → ((j x : ℕ) → 0 < j → j ≤ blockCount P w g → 0 < x → x ≤ size P w g a j → At P w g a j x)
-      → 0 < i → i + d ≡ suc (blockCount P w g) → cs ≡ itemsAhead P w g a (itemCount P g - a) → Chained cs
-      → Chained (after d i (blockCoordinates P w g a) ++ cs)
+      → ((j x : ℕ) → 0 < j → j ≤ blockCount G g → 0 < x → x ≤ size G g a j → At G g a j x)
+      → 0 < i → i + d ≡ suc (blockCount G g) → cs ≡ itemsAhead G g a (itemCount G g - a) → Chained cs
+      → Chained (after d i (blockCoordinates G g a) ++ cs)
   chain-blocks g a zero i cs at p q e ch = ch
   chain-blocks g a (suc d) i cs at p q e ch =
       subst Chained
-      (ap (λ (xs : List Coordinates). xs ++ (after d (suc i) (blockCoordinates P w g a) ++ cs)) (sym (tab-after (size P w g a i) (coordinates P w g a i)))
-      ∙ sym (append-assoc (blockCoordinates P w g a i) (after d (suc i) (blockCoordinates P w g a)) cs))
-      (chain-block g a i (size P w g a i) 1 (after d (suc i) (blockCoordinates P w g a) ++ cs)
+      (ap (λ (xs : List Coordinates). xs ++ (after d (suc i) (blockCoordinates G g a) ++ cs)) (sym (tab-after (size G g a i) (coordinates G g a i)))
+      ∙ sym (append-assoc (blockCoordinates G g a i) (after d (suc i) (blockCoordinates G g a)) cs))
+      (chain-block g a i (size G g a i) 1 (after d (suc i) (blockCoordinates G g a) ++ cs)
       (λ x. at i x p (omega (arith, q))) (omega arith) (omega arith)
-      (ap₂ (λ (k : ℕ) (xs : List Coordinates). after k (suc i) (blockCoordinates P w g a) ++ xs) (sym (left (blockCount P w g) q)) e)
+      (ap₂ (λ (k : ℕ) (xs : List Coordinates). after k (suc i) (blockCoordinates G g a) ++ xs) (sym (left (blockCount G g) q)) e)
       (chain-blocks g a d (suc i) cs at (omega arith) (omega (arith, q)) e ch))
     where
       left : (s : ℕ) → i + suc d ≡ suc s → s - i ≡ d
       left s q = omega (arith, q)
 
   chain-items : (g d a : ℕ) (cs : List Coordinates)
-      → ((b j x : ℕ) → 0 < b → b ≤ itemCount P g → 0 < j → j ≤ blockCount P w g → 0 < x → x ≤ size P w g b j → At P w g b j x)
-      → 0 < a → a + d ≡ suc (itemCount P g) → cs ≡ groupsAhead P w g → Chained cs
-      → Chained (after d a (itemCoordinates P w g) ++ cs)
+      → ((b j x : ℕ) → 0 < b → b ≤ itemCount G g → 0 < j → j ≤ blockCount G g → 0 < x → x ≤ size G g b j → At G g b j x)
+      → 0 < a → a + d ≡ suc (itemCount G g) → cs ≡ groupsAhead G g → Chained cs
+      → Chained (after d a (itemCoordinates G g) ++ cs)
   chain-items g zero a cs at p q e ch = ch
   chain-items g (suc d) a cs at p q e ch =
       subst Chained
-      (ap (λ (xs : List Coordinates). xs ++ (after d (suc a) (itemCoordinates P w g) ++ cs)) (sym (each-after (blockCount P w g) (blockCoordinates P w g a)))
-      ∙ sym (append-assoc (itemCoordinates P w g a) (after d (suc a) (itemCoordinates P w g)) cs))
-      (chain-blocks g a (blockCount P w g) 1 (after d (suc a) (itemCoordinates P w g) ++ cs)
+      (ap (λ (xs : List Coordinates). xs ++ (after d (suc a) (itemCoordinates G g) ++ cs)) (sym (each-after (blockCount G g) (blockCoordinates G g a)))
+      ∙ sym (append-assoc (itemCoordinates G g a) (after d (suc a) (itemCoordinates G g)) cs))
+      (chain-blocks g a (blockCount G g) 1 (after d (suc a) (itemCoordinates G g) ++ cs)
       (λ j x. at a j x p (omega (arith, q))) (omega arith) (omega arith)
-      (ap₂ (λ (k : ℕ) (xs : List Coordinates). after k (suc a) (itemCoordinates P w g) ++ xs) (sym (left (itemCount P g) q)) e)
+      (ap₂ (λ (k : ℕ) (xs : List Coordinates). after k (suc a) (itemCoordinates G g) ++ xs) (sym (left (itemCount G g) q)) e)
       (chain-items g d (suc a) cs at (omega arith) (omega (arith, q)) e ch))
     where
       left : (s : ℕ) → a + suc d ≡ suc s → s - a ≡ d
       left s q = omega (arith, q)
 
-  chain-groups : (d g : ℕ) → 0 < g → g + d ≡ 8 → Chained (after d g (groupCoordinates P w))
+  chain-groups : (d g : ℕ) → 0 < g → g + d ≡ 8 → Chained (after d g (groupCoordinates G))
   chain-groups zero g p q = end
   chain-groups (suc d) g p q =
       subst Chained
-      (ap (λ (xs : List Coordinates). xs ++ after d (suc g) (groupCoordinates P w)) (sym (each-after (itemCount P g) (itemCoordinates P w g))))
-      (chain-items g (itemCount P g) 1 (after d (suc g) (groupCoordinates P w))
+      (ap (λ (xs : List Coordinates). xs ++ after d (suc g) (groupCoordinates G)) (sym (each-after (itemCount G g) (itemCoordinates G g))))
+      (chain-items g (itemCount G g) 1 (after d (suc g) (groupCoordinates G))
       (λ b j x p₁ q₁ p₂ q₂ p₃ q₃. record {
         block-at = record { group-some = p; group-in = omega (arith, q); item-some = p₁; item-in = q₁; block-some = p₂; block-in = q₂ };
         clause-some = p₃;
         clause-in = q₃;
       }) (omega arith) (omega arith)
-      (ap (λ (k : ℕ). after k (suc g) (groupCoordinates P w)) (left q))
+      (ap (λ (k : ℕ). after k (suc g) (groupCoordinates G)) (left q))
       (chain-groups d (suc g) (omega arith) (omega (arith, q))))
     where
       left : g + suc d ≡ 8 → d ≡ 7 - g
       left q = omega (arith, q)
 
-  pub all-coordinates-chained : Chained (allCoordinates P w)
+  pub all-coordinates-chained : Chained (allCoordinates G)
   unfolding allCoordinates
-  all-coordinates-chained = subst Chained (sym (each-after 7 (groupCoordinates P w))) (chain-groups 7 1 (omega arith) (omega arith))
+  all-coordinates-chained = subst Chained (sym (each-after 7 (groupCoordinates G))) (chain-groups 7 1 (omega arith) (omega arith))
 
   -- they follow the place before the first group
-  pub ahead-first : ahead P w (groupStart P 1) ≡ allCoordinates P w
+  pub ahead-first : ahead G (groupStart G 1) ≡ allCoordinates G
   unfolding allCoordinates
   ahead-first =
-      ap (λ (xs : List Coordinates). xs ++ after 6 2 (groupCoordinates P w)) (sym (each-after (itemCount P 1) (itemCoordinates P w 1)))
-      ∙ sym (each-after 7 (groupCoordinates P w))
+      ap (λ (xs : List Coordinates). xs ++ after 6 2 (groupCoordinates G)) (sym (each-after (itemCount G 1) (itemCoordinates G 1)))
+      ∙ sym (each-after 7 (groupCoordinates G))

@@ -10,8 +10,8 @@ use native.Mathlib.Omega.{arith}
 use mathlib.Core.Path.{_≡_, refl, sym, ap, subst}
 use mathlib.Core.Logic.{_⊎_, inl, inr}
 use mathlib.Core.List.{List}
+use Rattle.encoding.specs.Code.{Code}
 use Rattle.lists.proofs.Tests.{le-or-lt}
-use Rattle.meaning.specs.Program.{Program}
 use Rattle.clause_walk.specs.Walk.{size, BlockAt}
 use Rattle.clause_tables.specs.declared.Totals.{Totals}
 use Rattle.clause_tables.specs.Tables.{Tabled}
@@ -22,8 +22,8 @@ use Rattle.clause_places.proofs.Numbers.{count-is}
 use Rattle.clause_places.proofs.BlockPlaces.{last-is, behind, further-adds, further-at, further-block, coordinates-past}
 use Rattle.clause_table_laws.proofs.Bounds.{clauses-short}
 
-pub place-listed : {P : Program} {t : Totals} {hs ss bs ks xs ys : List ℕ} (T : Tabled P t hs ss bs ks xs ys) {c : Place} → c ≡ placeAt P (t .sizes .w) (c .number) → 0 < c .coordinates .clause → c .number ≤ t .clauses
-place-listed {P} {t} T {c} e p = go (le-or-lt (c .number) (t .clauses))
+pub place-listed : {G : Code} {t : Totals} {hs ss bs ks xs ys : List ℕ} (T : Tabled G t hs ss bs ks xs ys) {c : Place} → c ≡ placeAt G (c .number) → 0 < c .coordinates .clause → c .number ≤ t .clauses
+place-listed {G} {t} T {c} e p = go (le-or-lt (c .number) (t .clauses))
   where
     go : (c .number ≤ t .clauses) ⊎ (t .clauses < c .number) → c .number ≤ t .clauses
     go (inl l) = l
@@ -33,10 +33,10 @@ place-listed {P} {t} T {c} e p = go (le-or-lt (c .number) (t .clauses))
           arith,
           p,
           ap (λ (d : Place). d .coordinates .clause) e,
-          ap (λ (d : Coordinates). d .clause) (coordinates-past P (t .sizes .w) (c .number) (subst (λ (n : ℕ). n < c .number) (sym (count-is T)) l)),
+          ap (λ (d : Coordinates). d .clause) (coordinates-past G (c .number) (subst (λ (n : ℕ). n < c .number) (sym (count-is T)) l)),
         ))
 
-module _ {P : Program} {t : Totals} {hs ss bs ks xs ys : List ℕ} (T : Tabled P t hs ss bs ks xs ys) {c : Place} (e : c ≡ placeAt P (t .sizes .w) (c .number)) (h : c .number ≤ t .clauses) where
+module _ {G : Code} {t : Totals} {hs ss bs ks xs ys : List ℕ} (T : Tabled G t hs ss bs ks xs ys) {c : Place} (e : c ≡ placeAt G (c .number)) (h : c .number ≤ t .clauses) where
   -- the place of the block's last clause
   abbrev end : Place
   end =
@@ -54,7 +54,7 @@ module _ {P : Program} {t : Totals} {hs ss bs ks xs ys : List ℕ} (T : Tabled P
             };
       }
 
-  end-is : (end ≡ placeAt P (t .sizes .w) (c .number + c .coordinates .clauses)) × (c .number + c .coordinates .clauses ≤ t .clauses) × (end .coordinates .clauses ≡ 0)
+  end-is : (end ≡ placeAt G (c .number + c .coordinates .clauses)) × (c .number + c .coordinates .clauses ≤ t .clauses) × (end .coordinates .clauses ≡ 0)
   end-is = (last-is T e h .0, last-is T e h .1, refl)
 
   pub behind-sum : c .number + c .coordinates .clauses ≤ 53690
@@ -64,10 +64,10 @@ module _ {P : Program} {t : Totals} {hs ss bs ks xs ys : List ℕ} (T : Tabled P
     pub behind-adds : c .coordinates .block + 1 ≤ 501
     behind-adds = further-adds T end-is r
 
-    pub behind-at : BlockAt P (t .sizes .w) (c .coordinates .group) (c .coordinates .item) (c .coordinates .block + 1)
+    pub behind-at : BlockAt G (c .coordinates .group) (c .coordinates .item) (c .coordinates .block + 1)
     behind-at = further-at T end-is r
 
-    pub behind-is : {x : ℕ} → x ≡ size P (t .sizes .w) (c .coordinates .group) (c .coordinates .item) (c .coordinates .block + 1) → 0 < x
+    pub behind-is : {x : ℕ} → x ≡ size G (c .coordinates .group) (c .coordinates .item) (c .coordinates .block + 1) → 0 < x
         → (record {
           number = c .number + c .coordinates .clauses + 1;
           coordinates =
@@ -81,6 +81,6 @@ module _ {P : Program} {t : Totals} {hs ss bs ks xs ys : List ℕ} (T : Tabled P
                 items = c .coordinates .items;
               };
         }
-        ≡ placeAt P (t .sizes .w) (suc (c .number + c .coordinates .clauses)))
+        ≡ placeAt G (suc (c .number + c .coordinates .clauses)))
         × (c .number + c .coordinates .clauses ≤ t .clauses)
     behind-is q p = behind T end-is (further-block T end-is r q p)

@@ -13,8 +13,8 @@ use mathlib.Core.Path.{_≡_, sym, _∙_, ap, subst}
 use mathlib.Core.Logic.{_⊎_, inl, inr}
 use mathlib.Core.List.{List, _∷_}
 use lib.ListN.{length, List·getD-eq-default}
+use Rattle.encoding.specs.Code.{Code}
 use Rattle.lists.proofs.Tests.{le-or-lt}
-use Rattle.meaning.specs.Program.{Program}
 use Rattle.clause_tables.specs.declared.Totals.{Totals}
 use Rattle.clause_tables.specs.Tables.{Tabled}
 use Rattle.clause_places.specs.declared.Coordinates.{Coordinates}
@@ -27,14 +27,11 @@ use Rattle.clause_places.proofs.Numbers.{count-is, stands-at, in-at, ne
 use Rattle.clause_places.proofs.Steps.{block-adds, block-at, block-onward, clause-adds, clause-follows}
 
 -- after the last clause
-pub coordinates-past : (P : Program) (w j : ℕ) → length (allCoordinates P w) < j → coordinatesAt P w j ≡ past
+pub coordinates-past : (G : Code) (j : ℕ) → length (allCoordinates G) < j → coordinatesAt G j ≡ past
 unfolding coordinatesAt
-coordinates-past P w j h = List·getD-eq-default (groupStart P 1 ∷ allCoordinates P w) past h
+coordinates-past G j h = List·getD-eq-default (groupStart G 1 ∷ allCoordinates G) past h
 
-module _ {P : Program} {t : Totals} {hs ss bs ks xs ys : List ℕ} (T : Tabled P t hs ss bs ks xs ys) {c : Place} (e : c ≡ placeAt P (t .sizes .w) (c .number)) (h : c .number ≤ t .clauses) where
-  abbrev w : ℕ
-  w = t .sizes .w
-
+module _ {G : Code} {t : Totals} {hs ss bs ks xs ys : List ℕ} (T : Tabled G t hs ss bs ks xs ys) {c : Place} (e : c ≡ placeAt G (c .number)) (h : c .number ≤ t .clauses) where
   -- k clauses on in c's block
   abbrev moved : ℕ → Coordinates
   moved k =
@@ -49,23 +46,23 @@ module _ {P : Program} {t : Totals} {hs ss bs ks xs ys : List ℕ} (T : Tabled P
       }
 
   pub record Along (k : ℕ) : Type 0 where
-    pub stands : coordinatesAt P w (c .number + k) ≡ moved k
+    pub stands : coordinatesAt G (c .number + k) ≡ moved k
     pub listed : c .number + k ≤ t .clauses
 
   module _ {k : ℕ} (A : Along k) where
-    in-list : c .number + k ≤ length (allCoordinates P w)
+    in-list : c .number + k ≤ length (allCoordinates G)
     in-list = subst (λ (n : ℕ). c .number + k ≤ n) (sym (count-is T)) (A .listed)
 
-    in-moved : In P w (moved k)
-    in-moved = subst (In P w) (A .stands) (in-at P w (c .number + k) in-list)
+    in-moved : In G (moved k)
+    in-moved = subst (In G) (A .stands) (in-at G (c .number + k) in-list)
 
     module _ (q : k < c .coordinates .clauses) where
       some : c .coordinates .clauses - k ≡ 0 → ⊥
       some z = omega (arith, z, q)
 
-      next-stands : coordinatesAt P w (c .number + suc k) ≡ moved (suc k)
+      next-stands : coordinatesAt G (c .number + suc k) ≡ moved (suc k)
       next-stands =
-          ap (coordinatesAt P w) (plus (c .number) k) ∙ next-is P w (c .number + k) in-list ∙ ap (λ (d : Coordinates). firstOf (ahead P w d)) (A .stands)
+          ap (coordinatesAt G) (plus (c .number) k) ∙ next-is G (c .number + k) in-list ∙ ap (λ (d : Coordinates). firstOf (ahead G d)) (A .stands)
           ∙ sym (clause-follows T (moved k) in-moved some)
           ∙ (λ i. record {
             group = c .coordinates .group;
@@ -95,7 +92,7 @@ module _ {P : Program} {t : Totals} {hs ss bs ks xs ys : List ℕ} (T : Tabled P
               absurd
               (omega (
                 arith,
-                ap (λ (d : Coordinates). d .group) (sym next-stands ∙ coordinates-past P w (c .number + suc k) (subst (λ (n : ℕ). n < c .number + suc k) (sym (count-is T)) l)),
+                ap (λ (d : Coordinates). d .group) (sym next-stands ∙ coordinates-past G (c .number + suc k) (subst (λ (n : ℕ). n < c .number + suc k) (sym (count-is T)) l)),
                 in-moved .group-in,
               ))
 
@@ -106,7 +103,7 @@ module _ {P : Program} {t : Totals} {hs ss bs ks xs ys : List ℕ} (T : Tabled P
   along zero q =
       record {
         stands =
-            ap (coordinatesAt P w) (add-zero (c .number)) ∙ sym (ap (λ (d : Place). d .coordinates) e)
+            ap (coordinatesAt G) (add-zero (c .number)) ∙ sym (ap (λ (d : Place). d .coordinates) e)
             ∙ (λ i. record {
               group = c .coordinates .group;
               item = c .coordinates .item;
@@ -127,7 +124,7 @@ module _ {P : Program} {t : Totals} {hs ss bs ks xs ys : List ℕ} (T : Tabled P
   along (suc k) q = one-on (along k (omega (arith, q))) q
 
   pub last-is : (record { number = c .number + c .coordinates .clauses; coordinates = record { group = c .coordinates .group; item = c .coordinates .item; block = c .coordinates .block; clause = c .coordinates .clause + c .coordinates .clauses; clauses = 0; blocks = c .coordinates .blocks; items = c .coordinates .items } }
-      ≡ placeAt P w (c .number + c .coordinates .clauses)) × (c .number + c .coordinates .clauses ≤ t .clauses)
+      ≡ placeAt G (c .number + c .coordinates .clauses)) × (c .number + c .coordinates .clauses ≤ t .clauses)
   last-is = (λ i. record { number = c .number + c .coordinates .clauses; coordinates = same i }, A .listed)
     where
       A : Along (c .coordinates .clauses)
@@ -136,7 +133,7 @@ module _ {P : Program} {t : Totals} {hs ss bs ks xs ys : List ℕ} (T : Tabled P
       none : (n : ℕ) → 0 ≡ n - n
       none n = omega arith
 
-      same : record { group = c .coordinates .group; item = c .coordinates .item; block = c .coordinates .block; clause = c .coordinates .clause + c .coordinates .clauses; clauses = 0; blocks = c .coordinates .blocks; items = c .coordinates .items } ≡ coordinatesAt P w (c .number + c .coordinates .clauses)
+      same : record { group = c .coordinates .group; item = c .coordinates .item; block = c .coordinates .block; clause = c .coordinates .clause + c .coordinates .clauses; clauses = 0; blocks = c .coordinates .blocks; items = c .coordinates .items } ≡ coordinatesAt G (c .number + c .coordinates .clauses)
       same =
           (λ i. record {
             group = c .coordinates .group;
@@ -164,34 +161,34 @@ module _ {P : Program} {t : Totals} {hs ss bs ks xs ys : List ℕ} (T : Tabled P
     where
       go : (c .number ≤ 0) ⊎ (0 < c .number) → 0 < c .number
       go (inr q) = q
-      go (inl q) = absurd (omega (arith, p, ap (λ (d : Place). d .coordinates .clause) (e ∙ ap (placeAt P w) zero-is)))
+      go (inl q) = absurd (omega (arith, p, ap (λ (d : Place). d .coordinates .clause) (e ∙ ap (placeAt G) zero-is)))
         where
           zero-is : c .number ≡ 0
           zero-is = omega (arith, q)
 
   -- how many clauses its block has
-  pub block-size : 0 < c .number → c .coordinates .clause + c .coordinates .clauses ≡ size P w (c .coordinates .group) (c .coordinates .item) (c .coordinates .block)
+  pub block-size : 0 < c .number → c .coordinates .clause + c .coordinates .clauses ≡ size G (c .coordinates .group) (c .coordinates .item) (c .coordinates .block)
   block-size p = omega (arith, ap (λ (d : Coordinates). d .clauses) (S .is), S .at .clause-in)
     where
-      S : Stands P w (c .coordinates)
-      S = subst (Stands P w) (sym (ap (λ (d : Place). d .coordinates) e)) (stands-at P w (c .number) p (subst (λ (n : ℕ). c .number ≤ n) (sym (count-is T)) h))
+      S : Stands G (c .coordinates)
+      S = subst (Stands G) (sym (ap (λ (d : Place). d .coordinates) e)) (stands-at G (c .number) p (subst (λ (n : ℕ). c .number ≤ n) (sym (count-is T)) h))
 
 -- ---- after a block
 
-module _ {P : Program} {t : Totals} {hs ss bs ks xs ys : List ℕ} (T : Tabled P t hs ss bs ks xs ys) where
+module _ {G : Code} {t : Totals} {hs ss bs ks xs ys : List ℕ} (T : Tabled G t hs ss bs ks xs ys) where
   -- the place after that of the block's last clause, by the number of the clauses before
-  pub behind : {n : ℕ} {d f : Place} → (d ≡ placeAt P (t .sizes .w) n) × (n ≤ t .clauses) × (d .coordinates .clauses ≡ 0) → f ≡ placeAt P (t .sizes .w) (suc (d .number))
-      → (f ≡ placeAt P (t .sizes .w) (suc n)) × (n ≤ t .clauses)
-  behind u v = (v ∙ ap (λ (k : ℕ). placeAt P (t .sizes .w) (suc k)) (number-is T (u .0)), u .1)
+  pub behind : {n : ℕ} {d f : Place} → (d ≡ placeAt G n) × (n ≤ t .clauses) × (d .coordinates .clauses ≡ 0) → f ≡ placeAt G (suc (d .number))
+      → (f ≡ placeAt G (suc n)) × (n ≤ t .clauses)
+  behind u v = (v ∙ ap (λ (k : ℕ). placeAt G (suc k)) (number-is T (u .0)), u .1)
 
-  module _ {n : ℕ} {d : Place} (u : (d ≡ placeAt P (t .sizes .w) n) × (n ≤ t .clauses) × (d .coordinates .clauses ≡ 0)) where
-    own : d ≡ placeAt P (t .sizes .w) (d .number)
+  module _ {n : ℕ} {d : Place} (u : (d ≡ placeAt G n) × (n ≤ t .clauses) × (d .coordinates .clauses ≡ 0)) where
+    own : d ≡ placeAt G (d .number)
     own = own-number T (u .0)
 
     within : d .number ≤ t .clauses
     within = subst (λ (k : ℕ). k ≤ t .clauses) (sym (number-is T (u .0))) (u .1)
 
-    pub behind-asks : (d ≡ placeAt P (t .sizes .w) (d .number)) × (d .number ≤ t .clauses)
+    pub behind-asks : (d ≡ placeAt G (d .number)) × (d .number ≤ t .clauses)
     behind-asks = (own, within)
 
     -- a further block of the item
@@ -199,10 +196,10 @@ module _ {P : Program} {t : Totals} {hs ss bs ks xs ys : List ℕ} (T : Tabled P
       pub further-adds : d .coordinates .block + 1 ≤ 501
       further-adds = block-adds T (place-in T own within) (u .2) r
 
-      pub further-at : BlockAt P (t .sizes .w) (d .coordinates .group) (d .coordinates .item) (d .coordinates .block + 1)
+      pub further-at : BlockAt G (d .coordinates .group) (d .coordinates .item) (d .coordinates .block + 1)
       further-at = block-at T (place-in T own within) (u .2) r
 
-      pub further-block : {x : ℕ} → x ≡ size P (t .sizes .w) (d .coordinates .group) (d .coordinates .item) (d .coordinates .block + 1) → 0 < x
+      pub further-block : {x : ℕ} → x ≡ size G (d .coordinates .group) (d .coordinates .item) (d .coordinates .block + 1) → 0 < x
           → record {
             number = d .number + 1;
             coordinates =
@@ -215,8 +212,8 @@ module _ {P : Program} {t : Totals} {hs ss bs ks xs ys : List ℕ} (T : Tabled P
                   blocks = d .coordinates .blocks - 1;
                   items = d .coordinates .items;
                 };
-          } ≡ placeAt P (t .sizes .w) (suc (d .number))
+          } ≡ placeAt G (suc (d .number))
       further-block {x} e p = follows T own within (clause-follows T _ (O .within) (λ q. omega (arith, p, q)) ∙ ap firstOf (O .same))
         where
-          O : Onward P (t .sizes .w) (d .coordinates) (record { group = d .coordinates .group; item = d .coordinates .item; block = d .coordinates .block + 1; clause = 0; clauses = x; blocks = d .coordinates .blocks - 1; items = d .coordinates .items })
+          O : Onward G (d .coordinates) (record { group = d .coordinates .group; item = d .coordinates .item; block = d .coordinates .block + 1; clause = 0; clauses = x; blocks = d .coordinates .blocks - 1; items = d .coordinates .items })
           O = block-onward T (place-in T own within) (u .2) r e

@@ -11,9 +11,9 @@ use mathlib.Core.Logic.{_⊎_, inl, inr}
 use mathlib.Core.List.{List, [], _++_}
 use lib.ListN.{length, getD, take}
 use lib.Seq.{getD-take, length-take-le}
+use Rattle.encoding.specs.Code.{Code}
 use Rattle.lists.specs.Lists.{tab}
 use Rattle.lists.proofs.Tests.{le-or-lt}
-use Rattle.meaning.specs.Program.{Program}
 use Rattle.clause_walk.specs.Walk.{blockCount, size, BlockAt}
 use Rattle.clause_tables.specs.declared.Totals.{Totals}
 use Rattle.clause_tables.specs.Tables.{Tabled}
@@ -32,10 +32,7 @@ pub head-block-is : (m : ℕ) (hs : List ℕ) (c : Coordinates) {j : ℕ} → j 
 head-block-is m hs c e =
     λ i. record { group = c .group; item = c .item; block = e i + 1; clause = 0; clauses = 1; blocks = m - e i; items = c .items }
 
-module _ {P : Program} {t : Totals} {hs ss bs ks xs ys : List ℕ} (T : Tabled P t hs ss bs ks xs ys) {c : Coordinates} (I : In P (t .sizes .w) c) (z : c .clauses ≡ 0) (h : 0 < c .blocks) (g2 : c .group ≡ 2) where
-  abbrev w : ℕ
-  w = t .sizes .w
-
+module _ {G : Code} {t : Totals} {hs ss bs ks xs ys : List ℕ} (T : Tabled G t hs ss bs ks xs ys) {c : Coordinates} (I : In G c) (z : c .clauses ≡ 0) (h : 0 < c .blocks) (g2 : c .group ≡ 2) where
   abbrev m : ℕ
   m = t .sizes .m
 
@@ -43,10 +40,10 @@ module _ {P : Program} {t : Totals} {hs ss bs ks xs ys : List ℕ} (T : Tabled P
   abbrev j : ℕ
   j = nextHead (take m hs) (c .item) (c .block)
 
-  R : BlockAt P w (c .group) (c .item) (c .block + 1)
+  R : BlockAt G (c .group) (c .item) (c .block + 1)
   R = block-at T I z h
 
-  blocks-all : blockCount P w (c .group) ≡ suc m
+  blocks-all : blockCount G (c .group) ≡ suc m
   blocks-all = sym (blocks-is T (c .group)) ∙ ap (blocksOf (t .sizes)) g2
 
   blocks-end : c .block + c .blocks ≡ suc m
@@ -65,10 +62,10 @@ module _ {P : Program} {t : Totals} {hs ss bs ks xs ys : List ℕ} (T : Tabled P
   within-rules = next-in hs m (c .item) (c .block) (heads-in T R) block-in
 
   -- how many clauses a block has
-  size-is : (q : ℕ) → 0 < q → q ≤ suc m → {x : ℕ} → x ≡ impliedSize m hs (c .item) q → x ≡ size P w (c .group) (c .item) q
+  size-is : (q : ℕ) → 0 < q → q ≤ suc m → {x : ℕ} → x ≡ impliedSize m hs (c .item) q → x ≡ size G (c .group) (c .item) q
   size-is q p n = size-implied T at g2
     where
-      at : BlockAt P w (c .group) (c .item) q
+      at : BlockAt G (c .group) (c .item) q
       at =
           record {
             group-some = R .group-some;
@@ -79,7 +76,7 @@ module _ {P : Program} {t : Totals} {hs ss bs ks xs ys : List ℕ} (T : Tabled P
             block-in = subst (λ (k : ℕ). q ≤ k) (sym blocks-all) n;
           }
 
-  between : (q : ℕ) → c .block < q → q ≤ j → 0 ≡ size P w (c .group) (c .item) q
+  between : (q : ℕ) → c .block < q → q ≤ j → 0 ≡ size G (c .group) (c .item) q
   between q n k = size-is q (omega (arith, n)) (omega (arith, k, within-rules)) (implied-other m q (c .item) hs (omega (arith, k, within-rules)) refl other)
     where
       other : getD hs (q - 1) 0 ≡ c .item → ⊥
@@ -87,7 +84,7 @@ module _ {P : Program} {t : Totals} {hs ss bs ks xs ys : List ℕ} (T : Tabled P
           next-between (take m hs) (c .item) (c .block) (q - 1) (omega (arith, n)) (omega (arith, n, k))
           (getD-take m hs (q - 1) 0 (omega (arith, n, k, within-rules)) ∙ e)
 
-  there : 1 ≡ size P w (c .group) (c .item) (j + 1)
+  there : 1 ≡ size G (c .group) (c .item) (j + 1)
   there = size-is (j + 1) (omega arith) (omega (arith, within-rules)) (go (le-or-lt m j))
     where
       less : (j : ℕ) → j + 1 - 1 ≡ j
@@ -101,11 +98,11 @@ module _ {P : Program} {t : Totals} {hs ss bs ks xs ys : List ℕ} (T : Tabled P
           ∙ next-at (take m hs) (c .item) (c .block) (subst (λ (n : ℕ). j < n) (sym (length-take-le m hs (heads-in T R))) k))
 
   -- the blocks that are passed are empty
-  blocks-past : after (suc (m - j)) (suc j) (blockCoordinates P w (c .group) (c .item)) ≡ after (c .blocks) (suc (c .block)) (blockCoordinates P w (c .group) (c .item))
+  blocks-past : after (suc (m - j)) (suc j) (blockCoordinates G (c .group) (c .item)) ≡ after (c .blocks) (suc (c .block)) (blockCoordinates G (c .group) (c .item))
   blocks-past =
-      ap (λ (k : ℕ). after (suc (m - j)) k (blockCoordinates P w (c .group) (c .item))) (back j (c .block) from)
-      ∙ sym (after-past (j - c .block) (suc (m - j)) (suc (c .block)) (blockCoordinates P w (c .group) (c .item)) empty)
-      ∙ ap (λ (n : ℕ). after n (suc (c .block)) (blockCoordinates P w (c .group) (c .item))) (rest m j (c .block) (c .blocks) from within-rules blocks-end)
+      ap (λ (k : ℕ). after (suc (m - j)) k (blockCoordinates G (c .group) (c .item))) (back j (c .block) from)
+      ∙ sym (after-past (j - c .block) (suc (m - j)) (suc (c .block)) (blockCoordinates G (c .group) (c .item)) empty)
+      ∙ ap (λ (n : ℕ). after n (suc (c .block)) (blockCoordinates G (c .group) (c .item))) (rest m j (c .block) (c .blocks) from within-rules blocks-end)
     where
       back : (j i : ℕ) → i ≤ j → suc j ≡ (j - i) + suc i
       back j i h = omega (arith, h)
@@ -113,24 +110,24 @@ module _ {P : Program} {t : Totals} {hs ss bs ks xs ys : List ℕ} (T : Tabled P
       rest : (m j i k : ℕ) → i ≤ j → j ≤ m → i + k ≡ suc m → (j - i) + suc (m - j) ≡ k
       rest m j i k h n e = omega (arith, h, n, e)
 
-      empty : (q : ℕ) → suc (c .block) ≤ q → q < (j - c .block) + suc (c .block) → blockCoordinates P w (c .group) (c .item) q ≡ []
-      empty q n k = ap (λ (x : ℕ). tab x (coordinates P w (c .group) (c .item) q)) (sym (between q n (omega (arith, k, from))))
+      empty : (q : ℕ) → suc (c .block) ≤ q → q < (j - c .block) + suc (c .block) → blockCoordinates G (c .group) (c .item) q ≡ []
+      empty q n k = ap (λ (x : ℕ). tab x (coordinates G (c .group) (c .item) q)) (sym (between q n (omega (arith, k, from))))
 
-  pub head-block-onward : {d : Coordinates} → d ≡ headBlock m hs c → Onward P w c d
-  head-block-onward u = subst (Onward P w c) (sym u) onward
+  pub head-block-onward : {d : Coordinates} → d ≡ headBlock m hs c → Onward G c d
+  head-block-onward u = subst (Onward G c) (sym u) onward
     where
       ends : (m j : ℕ) → j ≤ m → j + 1 + (m - j) ≡ suc m
       ends m j h = omega (arith, h)
 
-      onward : Onward P w c (headBlock m hs c)
+      onward : Onward G c (headBlock m hs c)
       onward =
           record {
             same =
-                ap (λ (k : ℕ). clausesAhead P w (c .group) (c .item) (j + 1) 0 (c .items) (m - j) k) there
-                ∙ ap (λ (i : ℕ). clausesAhead P w (c .group) (c .item) i 0 (c .items) (m - j) (size P w (c .group) (c .item) i)) (add-one j)
-                ∙ into-block P w (c .group) (c .item) j (c .clause) (c .items) (m - j)
-                ∙ ap (λ (blocks : List Coordinates). blocks ++ itemsAhead P w (c .group) (c .item) (c .items)) blocks-past
-                ∙ ap (λ (k : ℕ). clausesAhead P w (c .group) (c .item) (c .block) (c .clause) (c .items) (c .blocks) k) (sym z);
+                ap (λ (k : ℕ). clausesAhead G (c .group) (c .item) (j + 1) 0 (c .items) (m - j) k) there
+                ∙ ap (λ (i : ℕ). clausesAhead G (c .group) (c .item) i 0 (c .items) (m - j) (size G (c .group) (c .item) i)) (add-one j)
+                ∙ into-block G (c .group) (c .item) j (c .clause) (c .items) (m - j)
+                ∙ ap (λ (blocks : List Coordinates). blocks ++ itemsAhead G (c .group) (c .item) (c .items)) blocks-past
+                ∙ ap (λ (k : ℕ). clausesAhead G (c .group) (c .item) (c .block) (c .clause) (c .items) (c .blocks) k) (sym z);
             within =
                 record {
                   group-some = I .group-some;

@@ -1,12 +1,12 @@
 -- What follows a place in the walk, and the search for the next clause.
 --   after d k f        f k, f (k + 1), .., d of them, in one list
---   ahead P w c        the coordinates that follow c
+--   ahead G c        the coordinates that follow c
 --   firstOf cs         the first of them, past all groups if there is none
---   In P w c           c stands within its group, item and block, as far as they are begun
+--   In G c           c stands within its group, item and block, as far as they are begun
 --   isOver c           no block, item or group follows
 --   headBlock m hs c   group 2: the next block of c's item that holds a clause, from m and the heads
 --   stepsLeft c        a bound of the steps that are left
---   Onward P w c d     d is nearer to the next clause, with the same coordinates ahead
+--   Onward G c d     d is nearer to the next clause, with the same coordinates ahead
 -- Assumes nothing.
 use Prim.Native.Nat.{ℕ, zero, suc, _+_, _-_, _*_, _≤_, _<_}
 use mathlib.Core.Path.{_≡_}
@@ -14,7 +14,7 @@ use mathlib.Core.Bool.{Bool, false, cond}
 use mathlib.Core.List.{List, [], _∷_, _++_}
 use lib.Dec.{ltb}
 use lib.ListN.{getD, take}
-use Rattle.meaning.specs.Program.{Program}
+use Rattle.encoding.specs.Code.{Code}
 use Rattle.clause_walk.specs.Walk.{itemCount, blockCount, size}
 use Rattle.clause_layout.specs.Numbers.{nextHead}
 use Rattle.clause_places.specs.declared.Coordinates.{Coordinates}
@@ -24,19 +24,19 @@ abbrev pub after : {A : Type 0} → ℕ → ℕ → (ℕ → List A) → List A
 after zero k f = []
 after (suc d) k f = f k ++ after d (suc k) f
 
-module _ (P : Program) (w : ℕ) where
+module _ (G : Code) where
   -- the groups after g; with the items after a before them; with the blocks after i; with the clauses after y
   abbrev pub groupsAhead : ℕ → List Coordinates
-  groupsAhead g = after (7 - g) (suc g) (groupCoordinates P w)
+  groupsAhead g = after (7 - g) (suc g) (groupCoordinates G)
 
   abbrev pub itemsAhead : ℕ → ℕ → ℕ → List Coordinates
-  itemsAhead g a items = after items (suc a) (itemCoordinates P w g) ++ groupsAhead g
+  itemsAhead g a items = after items (suc a) (itemCoordinates G g) ++ groupsAhead g
 
   abbrev pub blocksAhead : ℕ → ℕ → ℕ → ℕ → ℕ → List Coordinates
-  blocksAhead g a i items blocks = after blocks (suc i) (blockCoordinates P w g a) ++ itemsAhead g a items
+  blocksAhead g a i items blocks = after blocks (suc i) (blockCoordinates G g a) ++ itemsAhead g a items
 
   abbrev pub clausesAhead : ℕ → ℕ → ℕ → ℕ → ℕ → ℕ → ℕ → List Coordinates
-  clausesAhead g a i y items blocks clauses = after clauses (suc y) (λ x. coordinates P w g a i x ∷ []) ++ blocksAhead g a i items blocks
+  clausesAhead g a i y items blocks clauses = after clauses (suc y) (λ x. coordinates G g a i x ∷ []) ++ blocksAhead g a i items blocks
 
   abbrev pub ahead : Coordinates → List Coordinates
   ahead c = clausesAhead (c .group) (c .item) (c .block) (c .clause) (c .items) (c .blocks) (c .clauses)
@@ -44,9 +44,9 @@ module _ (P : Program) (w : ℕ) where
   pub record In (c : Coordinates) : Type 0 where
     pub group-some : 0 < c .group
     pub group-in : c .group ≤ 7
-    pub items-are : c .item + c .items ≡ itemCount P (c .group)
-    pub blocks-are : 0 < c .blocks + c .clauses → (0 < c .item) × (c .block + c .blocks ≡ blockCount P w (c .group))
-    pub clauses-are : 0 < c .clauses → (0 < c .block) × (c .clause + c .clauses ≡ size P w (c .group) (c .item) (c .block))
+    pub items-are : c .item + c .items ≡ itemCount G (c .group)
+    pub blocks-are : 0 < c .blocks + c .clauses → (0 < c .item) × (c .block + c .blocks ≡ blockCount G (c .group))
+    pub clauses-are : 0 < c .clauses → (0 < c .block) × (c .clause + c .clauses ≡ size G (c .group) (c .item) (c .block))
 
 abbrev pub firstOf : List Coordinates → Coordinates
 firstOf cs = getD cs 0 past
@@ -62,7 +62,7 @@ headBlock m hs c =
 abbrev pub stepsLeft : Coordinates → ℕ
 stepsLeft c = (7 - c .group) * 400000 + c .items * 600 + c .blocks
 
-pub record Onward (P : Program) (w : ℕ) (c d : Coordinates) : Type 0 where
-  pub same : ahead P w d ≡ ahead P w c
-  pub within : In P w d
+pub record Onward (G : Code) (c d : Coordinates) : Type 0 where
+  pub same : ahead G d ≡ ahead G c
+  pub within : In G d
   pub nearer : stepsLeft d < stepsLeft c

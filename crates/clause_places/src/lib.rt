@@ -9,7 +9,7 @@ ghost use Prim.Native.Nat.{suc, _+_, _≤_, _<_};
 ghost use mathlib.Core.Path.{_≡_};
 ghost use mathlib.Core.Bool.{false};
 ghost use lib.ListN.{length};
-ghost use Rattle.clause_tables.specs.Tables.{programIn, Ready};
+ghost use Rattle.clause_tables.specs.Tables.{Ready, codeIn};
 ghost use Rattle.clause_places.specs.Places.{placeAt, furtherBlock};
 ghost use Rattle.clause_places.specs.Ahead.{ahead, firstOf, In, isOver, headBlock, Onward};
 
@@ -87,8 +87,8 @@ fn step<'a>(
     c: Coordinates,
 ) -> Coordinates
     requires { ⌜ (Ready t (now heads) (now starts) (now bodies) (now before) (now partners) (now owners))
-        × (In (programIn (t .sizes) (now heads) (now starts) (now bodies)) (t .sizes .w) c) × (c .clauses ≡ 0) × (isOver c ≡ false) ⌝ }
-    ensures { λ r. ⌜ Onward (programIn (t .sizes) (now (heads .entry)) (now (starts .entry)) (now (bodies .entry))) (t .sizes .w) c r ⌝ }
+        × (In (codeIn t (now heads) (now starts) (now bodies)) c) × (c .clauses ≡ 0) × (isOver c ≡ false) ⌝ }
+    ensures { λ r. ⌜ Onward (codeIn t (now (heads .entry)) (now (starts .entry)) (now (bodies .entry))) c r ⌝ }
 {
     let g = c.group;
     let a = c.item;
@@ -133,8 +133,8 @@ fn next_coordinates<'a>(
     c: Coordinates,
 ) -> Coordinates
     requires { ⌜ (Ready t (now heads) (now starts) (now bodies) (now before) (now partners) (now owners))
-        × (In (programIn (t .sizes) (now heads) (now starts) (now bodies)) (t .sizes .w) c) ⌝ }
-    ensures { λ r. ⌜ r ≡ firstOf (ahead (programIn (t .sizes) (now (heads .entry)) (now (starts .entry)) (now (bodies .entry))) (t .sizes .w) c) ⌝ }
+        × (In (codeIn t (now heads) (now starts) (now bodies)) c) ⌝ }
+    ensures { λ r. ⌜ r ≡ firstOf (ahead (codeIn t (now (heads .entry)) (now (starts .entry)) (now (bodies .entry))) c) ⌝ }
 {
     let mut at = c;
     while at.clauses == 0 {
@@ -165,7 +165,7 @@ pub fn start<'a>(
     owners: &'a [u16],
 ) -> Place
     requires { ⌜ Ready t (now heads) (now starts) (now bodies) (now before) (now partners) (now owners) ⌝ }
-    ensures { λ r. ⌜ r ≡ placeAt (programIn (t .sizes) (now (heads .entry)) (now (starts .entry)) (now (bodies .entry))) (t .sizes .w) 0 ⌝ }
+    ensures { λ r. ⌜ r ≡ placeAt (codeIn t (now (heads .entry)) (now (starts .entry)) (now (bodies .entry))) 0 ⌝ }
 {
     Place {
         number: 0,
@@ -185,8 +185,8 @@ pub fn next<'a>(
     c: Place,
 ) -> Place
     requires { ⌜ (Ready t (now heads) (now starts) (now bodies) (now before) (now partners) (now owners))
-        × (c ≡ placeAt (programIn (t .sizes) (now heads) (now starts) (now bodies)) (t .sizes .w) (c .number)) × (c .number ≤ t .clauses) ⌝ }
-    ensures { λ r. ⌜ r ≡ placeAt (programIn (t .sizes) (now (heads .entry)) (now (starts .entry)) (now (bodies .entry))) (t .sizes .w) (suc (c .number)) ⌝ }
+        × (c ≡ placeAt (codeIn t (now heads) (now starts) (now bodies)) (c .number)) × (c .number ≤ t .clauses) ⌝ }
+    ensures { λ r. ⌜ r ≡ placeAt (codeIn t (now (heads .entry)) (now (starts .entry)) (now (bodies .entry))) (suc (c .number)) ⌝ }
 {
     Place {
         number: c.number + 1,
@@ -215,9 +215,9 @@ fn last<'a>(
     c: Place,
 ) -> Place
     requires { ⌜ (Ready t (now heads) (now starts) (now bodies) (now before) (now partners) (now owners))
-        × (c ≡ placeAt (programIn (t .sizes) (now heads) (now starts) (now bodies)) (t .sizes .w) (c .number)) × (c .number ≤ t .clauses) ⌝ }
+        × (c ≡ placeAt (codeIn t (now heads) (now starts) (now bodies)) (c .number)) × (c .number ≤ t .clauses) ⌝ }
     ensures { λ r. ⌜ (r
-        ≡ placeAt (programIn (t .sizes) (now (heads .entry)) (now (starts .entry)) (now (bodies .entry))) (t .sizes .w)
+        ≡ placeAt (codeIn t (now (heads .entry)) (now (starts .entry)) (now (bodies .entry)))
         (c .number + c .coordinates .clauses)) × (c .number + c .coordinates .clauses ≤ t .clauses) × (r .coordinates .clauses ≡ 0) ⌝ }
 {
     let s = c.coordinates;
@@ -247,9 +247,9 @@ pub fn past_block<'a>(
     c: Place,
 ) -> Place
     requires { ⌜ (Ready t (now heads) (now starts) (now bodies) (now before) (now partners) (now owners))
-        × (c ≡ placeAt (programIn (t .sizes) (now heads) (now starts) (now bodies)) (t .sizes .w) (c .number)) × (c .number ≤ t .clauses) ⌝ }
+        × (c ≡ placeAt (codeIn t (now heads) (now starts) (now bodies)) (c .number)) × (c .number ≤ t .clauses) ⌝ }
     ensures { λ r. ⌜ (r
-        ≡ placeAt (programIn (t .sizes) (now (heads .entry)) (now (starts .entry)) (now (bodies .entry))) (t .sizes .w)
+        ≡ placeAt (codeIn t (now (heads .entry)) (now (starts .entry)) (now (bodies .entry)))
         (suc (c .number + c .coordinates .clauses))) × (c .number + c .coordinates .clauses ≤ t .clauses) ⌝ }
 {
     let end = last(t, heads, starts, bodies, before, partners, owners, c);

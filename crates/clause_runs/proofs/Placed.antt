@@ -14,9 +14,7 @@ use lib.Dec.{leb}
 use mathlib.Core.Bool.{true}
 use borrow.Author.Tests.{le-leb}
 use Rattle.lists.proofs.Tables.{getD-map}
-use Rattle.meaning.specs.Program.{Program}
-use Rattle.encoding.specs.Width.{width}
-use Rattle.encoding.specs.Clauses.{clauses}
+use Rattle.encoding.specs.Code.{Code, clausesOf, clauseTotalOf}
 use Rattle.digits.specs.Bytes.{lineText}
 use Rattle.digits.proofs.Lengths.{line-length}
 use Rattle.clause_walk.specs.Walk.{clauseAt}
@@ -29,53 +27,50 @@ use Rattle.clause_text.proofs.Parts.{header-small, header-length}
 use Rattle.clause_places.specs.declared.Place.{Place}
 use Rattle.clause_places.specs.Places.{placeAt}
 use Rattle.clause_places.proofs.Numbers.{placed-clause, clauses-many}
-use Rattle.clause_runs.specs.Lines.{linesOf, lineOf, clauseTotal}
+use Rattle.clause_runs.specs.Lines.{codeLines, codeLine}
 
-module _ {P : Program} {t : Totals} {hs ss bs ks xs ys : List ℕ} (T : Tabled P t hs ss bs ks xs ys) where
-  abbrev w : ℕ
-  w = t .sizes .w
-
-  pub total-is : t .clauses ≡ clauseTotal P
-  total-is = clauses-are P t hs ss bs ks xs ys T
+module _ {G : Code} {t : Totals} {hs ss bs ks xs ys : List ℕ} (T : Tabled G t hs ss bs ks xs ys) where
+  pub total-is : t .clauses ≡ clauseTotalOf G
+  total-is = clauses-are G t hs ss bs ks xs ys T
 
   pub header-asks : (t .vars < 2 ^ 32) × (t .clauses < 2 ^ 32)
   header-asks = (omega (arith, vars-short T), omega (arith, clauses-short T))
 
-  pub lines-count : length (linesOf P) ≡ suc (t .clauses)
-  unfolding linesOf
-  lines-count = ap suc (length-map (clauses P (width (P .atoms))) lineText ∙ clauses-many T)
+  pub lines-count : length (codeLines G) ≡ suc (t .clauses)
+  unfolding codeLines
+  lines-count = ap suc (length-map (clausesOf G) lineText ∙ clauses-many T)
 
-  pub header-is : headerText (t .vars) (t .clauses) ≡ lineOf P 0
-  unfolding linesOf
-  header-is = ap₂ headerText (vars-are P t hs ss bs ks xs ys T) total-is
+  pub header-is : headerText (t .vars) (t .clauses) ≡ codeLine G 0
+  unfolding codeLines
+  header-is = ap₂ headerText (vars-are G t hs ss bs ks xs ys T) total-is
 
-  pub line-of-clause : (n : ℕ) → 0 < n → n ≤ t .clauses → lineText (getD (clauses P (width (P .atoms))) (pred n) []) ≡ lineOf P n
-  unfolding linesOf
+  pub line-of-clause : (n : ℕ) → 0 < n → n ≤ t .clauses → lineText (getD (clausesOf G) (pred n) []) ≡ codeLine G n
+  unfolding codeLines
   line-of-clause zero p h = absurd (not-suc-le-zero p)
   line-of-clause (suc n) p h =
-      sym (getD-map lineText (clauses P (width (P .atoms))) [] [] n (subst (λ (k : ℕ). n < k) (sym (clauses-many T)) h))
+      sym (getD-map lineText (clausesOf G) [] [] n (subst (λ (k : ℕ). n < k) (sym (clauses-many T)) h))
 
   -- ---- at the place of clause n
 
-  pub clause-is : {c : Place} → c ≡ placeAt P w (c .number) → 0 < c .number → c .number ≤ t .clauses
-      → lineText (clauseAt P w (c .coordinates .group) (c .coordinates .item) (c .coordinates .block) (c .coordinates .clause)) ≡ lineOf P (c .number)
+  pub clause-is : {c : Place} → c ≡ placeAt G (c .number) → 0 < c .number → c .number ≤ t .clauses
+      → lineText (clauseAt G (c .coordinates .group) (c .coordinates .item) (c .coordinates .block) (c .coordinates .clause)) ≡ codeLine G (c .number)
   clause-is {c} e p h = ap lineText (placed-clause T e p h) ∙ line-of-clause (c .number) p h
 
   -- ---- lengths
 
-  pub line-short : (n : ℕ) → n ≤ t .clauses → length (lineOf P n) ≤ 3008
+  pub line-short : (n : ℕ) → n ≤ t .clauses → length (codeLine G n) ≤ 3008
   line-short zero h = subst (λ (l : List ℕ). length l ≤ 3008) header-is (le-trans (header-small (t .vars) (t .clauses) (header-asks .0) (header-asks .1)) (omega arith))
   line-short (suc n) h =
-      subst (λ (l : List ℕ). length l ≤ 3008) (line-of-clause (suc n) (omega arith) h) (lines-fit P (T .limits) n (subst (λ (k : ℕ). n < k) (sym (clauses-many T)) h))
+      subst (λ (l : List ℕ). length l ≤ 3008) (line-of-clause (suc n) (omega arith) h) (lines-fit G (T .limits) n (subst (λ (k : ℕ). n < k) (sym (clauses-many T)) h))
 
-  pub short-fits : (n : ℕ) {room : ℕ} → n ≤ t .clauses → 3008 ≤ room → true ≡ leb (length (lineOf P n)) room
-  short-fits n {room} h k = sym (le-leb (length (lineOf P n)) room (le-trans (line-short n h) k))
+  pub short-fits : (n : ℕ) {room : ℕ} → n ≤ t .clauses → 3008 ≤ room → true ≡ leb (length (codeLine G n)) room
+  short-fits n {room} h k = sym (le-leb (length (codeLine G n)) room (le-trans (line-short n h) k))
 
   -- a line has bytes
-  pub line-some : (n : ℕ) → n ≤ t .clauses → 0 < length (lineOf P n)
+  pub line-some : (n : ℕ) → n ≤ t .clauses → 0 < length (codeLine G n)
   line-some zero h = subst (λ (l : List ℕ). 0 < length l) header-is (omega (arith, header-length (t .vars) (t .clauses)))
   line-some (suc n) h =
-      subst (λ (l : List ℕ). 0 < length l) (line-of-clause (suc n) (omega arith) h) (omega (arith, line-length (getD (clauses P (width (P .atoms))) n [])))
+      subst (λ (l : List ℕ). 0 < length l) (line-of-clause (suc n) (omega arith) h) (omega (arith, line-length (getD (clausesOf G) n [])))
 
 -- ---- what code has in its hands
 
@@ -89,5 +84,5 @@ line-in-room {l} {m} {n} e h = subst (λ (x : List ℕ). length x ≤ n) (sym e)
 pub as-line : (b : List ℕ) {l m c : List ℕ} {r : ℕ} → l ≡ m → r ≡ length l → c ≡ l ++ drop r b → (r ≡ length m) × (c ≡ m ++ drop r b)
 as-line b {l} {m} {c} {r} e p q = (p ∙ ap length e, q ∙ ap (λ (x : List ℕ). x ++ drop r b) e)
 
-pub header-line : {P : Program} {t : Totals} {hs ss bs ks xs ys : List ℕ} → Tabled P t hs ss bs ks xs ys → {n : ℕ} → n ≡ 0 → headerText (t .vars) (t .clauses) ≡ lineOf P n
-header-line {P} T e = header-is T ∙ ap (lineOf P) (sym e)
+pub header-line : {G : Code} {t : Totals} {hs ss bs ks xs ys : List ℕ} → Tabled G t hs ss bs ks xs ys → {n : ℕ} → n ≡ 0 → headerText (t .vars) (t .clauses) ≡ codeLine G n
+header-line {G} T e = header-is T ∙ ap (codeLine G) (sym e)

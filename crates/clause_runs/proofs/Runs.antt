@@ -12,6 +12,7 @@ use native.Mathlib.Omega.{arith}
 use mathlib.Core.Path.{_≡_, refl, sym, _∙_, ap, ap₂, subst}
 use mathlib.Core.Bool.{Bool, true, false, cond}
 use mathlib.Core.Logic.{_⊎_, inl, inr}
+use Rattle.encoding.specs.Code.{Code}
 use Rattle.lists.proofs.Tests.{le-or-lt}
 use mathlib.Core.List.{List, [], _∷_, _++_, append-assoc, append-nil}
 use lib.Dec.{leb}
@@ -21,7 +22,6 @@ use borrow.Author.Tests.{le-leb, lt-leb, leb-true, leb-false}
 use borrow.Rule.Slice.PartMut.{putMid}
 use Rattle.lists.specs.Lists.{joined}
 use Rattle.digits.proofs.Tail.{grow, tail-length}
-use Rattle.meaning.specs.Program.{Program}
 use Rattle.clause_tables.specs.declared.Totals.{Totals}
 use Rattle.clause_tables.specs.Tables.{Tabled}
 use Rattle.clause_places.specs.declared.Place.{Place}
@@ -29,7 +29,7 @@ use Rattle.clause_places.specs.Places.{placeAt}
 use Rattle.clause_runs.specs.declared.RunPart.{RunPart}
 use Rattle.clause_runs.proofs.Placed.{lines-count, line-short}
 use Rattle.clause_places.proofs.Numbers.{own-number, number-is}
-use Rattle.clause_runs.specs.Lines.{linesOf, lineOf, fitting, partIn, runBytesIn}
+use Rattle.clause_runs.specs.Lines.{codeLines, codeLine, fitting, codePart, codeRunBytes}
 use Rattle.clause_runs.specs.Taken.{Taken}
 use Rattle.clause_table_laws.proofs.Bounds.{clauses-short}
 
@@ -157,62 +157,59 @@ module _ (all : List (List ℕ)) (j : ℕ) (b₀ : List ℕ) where
     pub written-bytes : lines ≡ fitting (length b₀) ls → to ≡ length (joined (take (fitting (length b₀) ls) ls))
     written-bytes e = G .bytes-are ∙ ap (λ (k : ℕ). length (joined (take k ls))) e
 
--- ---- of a program whose tables are given, at place `at`
+-- ---- of a code whose tables are given, at place `at`
 
-module _ {P : Program} {t : Totals} {hs ss bs ks xs ys : List ℕ} (T : Tabled P t hs ss bs ks xs ys) (j : ℕ) (b₀ : List ℕ) where
-  abbrev w : ℕ
-  w = t .sizes .w
-
-  module _ {at : Place} {lines to : ℕ} {b : List ℕ} (e : at ≡ placeAt P w (at .number)) (G : Going (linesOf P) j b₀ (at .number) lines to b) where
+module _ {G : Code} {t : Totals} {hs ss bs ks xs ys : List ℕ} (T : Tabled G t hs ss bs ks xs ys) (j : ℕ) (b₀ : List ℕ) where
+  module _ {at : Place} {lines to : ℕ} {b : List ℕ} (e : at ≡ placeAt G (at .number)) (N : Going (codeLines G) j b₀ (at .number) lines to b) where
     -- the part that is written, once it is known how many lines fit
-    part-is : lines ≡ fitting (length b₀) (drop j (linesOf P))
-        → (record { lines = lines; bytes = to; place = at } ≡ partIn P w j (length b₀)) × (b ≡ runBytesIn P j b₀)
+    part-is : lines ≡ fitting (length b₀) (drop j (codeLines G))
+        → (record { lines = lines; bytes = to; place = at } ≡ codePart G j (length b₀)) × (b ≡ codeRunBytes G j b₀)
     part-is f = (
       λ i. record {
         lines = f i;
-        bytes = written-bytes (linesOf P) j b₀ G f i;
-        place = (e ∙ ap (placeAt P w) (G .number-is ∙ ap (λ (k : ℕ). j + k) f)) i;
+        bytes = written-bytes (codeLines G) j b₀ N f i;
+        place = (e ∙ ap (placeAt G) (N .number-is ∙ ap (λ (k : ℕ). j + k) f)) i;
       },
-      written (linesOf P) j b₀ G f,
+      written (codeLines G) j b₀ N f,
     )
 
     -- no line is left
-    pub part-out : t .clauses < at .number → (record { lines = lines; bytes = to; place = at } ≡ partIn P w j (length b₀)) × (b ≡ runBytesIn P j b₀)
-    part-out h = part-is (runs-out (linesOf P) j b₀ G (subst (λ (k : ℕ). k ≤ at .number) (sym (lines-count T)) h))
+    pub part-out : t .clauses < at .number → (record { lines = lines; bytes = to; place = at } ≡ codePart G j (length b₀)) × (b ≡ codeRunBytes G j b₀)
+    part-out h = part-is (runs-out (codeLines G) j b₀ N (subst (λ (k : ℕ). k ≤ at .number) (sym (lines-count T)) h))
 
     module _ (h : at .number ≤ t .clauses) where
-      listed : at .number < length (linesOf P)
+      listed : at .number < length (codeLines G)
       listed = subst (λ (k : ℕ). at .number < k) (sym (lines-count T)) (omega (arith, h))
 
       -- the next line does not fit
-      pub part-full : {f : Bool} → f ≡ leb (length (lineOf P (at .number))) (length b - to) → f ≡ false
-          → (record { lines = lines; bytes = to; place = at } ≡ partIn P w j (length b₀)) × (b ≡ runBytesIn P j b₀)
-      part-full p q = part-is (runs-full (linesOf P) j b₀ G listed (leb-false (length (lineOf P (at .number))) (length b - to) (sym p ∙ q)))
+      pub part-full : {f : Bool} → f ≡ leb (length (codeLine G (at .number))) (length b - to) → f ≡ false
+          → (record { lines = lines; bytes = to; place = at } ≡ codePart G j (length b₀)) × (b ≡ codeRunBytes G j b₀)
+      part-full p q = part-is (runs-full (codeLines G) j b₀ N listed (leb-false (length (codeLine G (at .number))) (length b - to) (sym p ∙ q)))
 
       -- it fits
-      module _ {f : Bool} (p : f ≡ leb (length (lineOf P (at .number))) (length b - to)) (q : f ≡ true) where
-        fit : length (lineOf P (at .number)) ≤ length b - to
-        fit = leb-true (length (lineOf P (at .number))) (length b - to) (sym p ∙ q)
+      module _ {f : Bool} (p : f ≡ leb (length (codeLine G (at .number))) (length b - to)) (q : f ≡ true) where
+        fit : length (codeLine G (at .number)) ≤ length b - to
+        fit = leb-true (length (codeLine G (at .number))) (length b - to) (sym p ∙ q)
 
-        pub line-asks : length (lineOf P (at .number)) ≤ length (take (length b - to) (drop to b))
-        line-asks = subst (λ (k : ℕ). length (lineOf P (at .number)) ≤ k) (sym (tail-length b to)) fit
+        pub line-asks : length (codeLine G (at .number)) ≤ length (take (length b - to) (drop to b))
+        line-asks = subst (λ (k : ℕ). length (codeLine G (at .number)) ≤ k) (sym (tail-length b to)) fit
 
       -- some lines are written into the lent tail
-      module _ {q : RunPart} {l : List ℕ} (u : Taken P w (at .number) q (take (length b - to) (drop to b)) l) where
-        onward : Going (linesOf P) j b₀ (at .number + q .lines) (lines + q .lines) (to + q .bytes) (putMid to (length b - to) b l)
+      module _ {q : RunPart} {l : List ℕ} (u : Taken G (at .number) q (take (length b - to) (drop to b)) l) where
+        onward : Going (codeLines G) j b₀ (at .number + q .lines) (lines + q .lines) (to + q .bytes) (putMid to (length b - to) b l)
         onward =
-            goes-on (linesOf P) j b₀ G (q .lines) (u .listed) (subst (λ (k : ℕ). q .bytes ≤ k) (tail-length b to) (u .in-room)) (u .bytes-are) (u .text-is)
+            goes-on (codeLines G) j b₀ N (q .lines) (u .listed) (subst (λ (k : ℕ). q .bytes ≤ k) (tail-length b to) (u .in-room)) (u .bytes-are) (u .text-is)
 
         pub sum-fits : to + q .bytes ≤ length b₀
         sum-fits = onward .in-room
 
         pub lines-fit : lines + q .lines ≤ 53691
-        lines-fit = omega (arith, u .listed, lines-count T, G .number-is, clauses-short T)
+        lines-fit = omega (arith, u .listed, lines-count T, N .number-is, clauses-short T)
 
-        pub run-goes-on : (q .place ≡ placeAt P w (q .place .number)) × (q .place .number ≤ suc (t .clauses))
-            × Going (linesOf P) j b₀ (q .place .number) (lines + q .lines) (to + q .bytes) (putMid to (length b - to) b l)
+        pub run-goes-on : (q .place ≡ placeAt G (q .place .number)) × (q .place .number ≤ suc (t .clauses))
+            × Going (codeLines G) j b₀ (q .place .number) (lines + q .lines) (to + q .bytes) (putMid to (length b - to) b l)
         run-goes-on =
-            (own-number T (u .place-is), omega (arith, number-is T (u .place-is), u .listed, lines-count T), subst (λ (k : ℕ). Going (linesOf P) j b₀ k (lines + q .lines) (to + q .bytes) (putMid to (length b - to) b l)) (sym (number-is T (u .place-is))) onward)
+            (own-number T (u .place-is), omega (arith, number-is T (u .place-is), u .listed, lines-count T), subst (λ (k : ℕ). Going (codeLines G) j b₀ k (lines + q .lines) (to + q .bytes) (putMid to (length b - to) b l)) (sym (number-is T (u .place-is))) onward)
 
         pub run-less : suc (t .clauses) - q .place .number < suc (t .clauses) - at .number
         run-less = omega (arith, number-is T (u .place-is), u .some, h)
@@ -240,33 +237,33 @@ fitting-room (l ∷ ls) n = go (fitting-room ls (n - length l)) (le-or-lt (lengt
     go q (inr h) =
         subst (λ (d : Bool). length (joined (take (cond d (suc (fitting (n - length l) ls)) 0) (l ∷ ls))) ≤ n) (sym (lt-leb (length l) n h)) (omega arith)
 
-module _ {P : Program} {t : Totals} {hs ss bs ks xs ys : List ℕ} (T : Tabled P t hs ss bs ks xs ys) where
-  module _ (j n : ℕ) {q : RunPart} (e : q ≡ partIn P (t .sizes .w) j n) where
+module _ {G : Code} {t : Totals} {hs ss bs ks xs ys : List ℕ} (T : Tabled G t hs ss bs ks xs ys) where
+  module _ (j n : ℕ) {q : RunPart} (e : q ≡ codePart G j n) where
     pub part-bytes : q .bytes ≤ n
-    part-bytes = subst (λ (x : RunPart). x .bytes ≤ n) (sym e) (fitting-room (drop j (linesOf P)) n)
+    part-bytes = subst (λ (x : RunPart). x .bytes ≤ n) (sym e) (fitting-room (drop j (codeLines G)) n)
 
     module _ (h : j ≤ t .clauses) where
-      number-then : q .place .number ≡ j + fitting n (drop j (linesOf P))
+      number-then : q .place .number ≡ j + fitting n (drop j (codeLines G))
       number-then = ap (λ (x : RunPart). x .place .number) e
 
-      pub part-place : q .place ≡ placeAt P (t .sizes .w) (q .place .number)
+      pub part-place : q .place ≡ placeAt G (q .place .number)
       part-place = own-number T (ap (λ (x : RunPart). x .place) e)
 
       pub part-within : q .place .number ≤ suc (t .clauses)
       part-within =
-          omega (arith, number-then, fitting-few (drop j (linesOf P)) n, length-drop j (linesOf P), lines-count T, h)
+          omega (arith, number-then, fitting-few (drop j (codeLines G)) n, length-drop j (codeLines G), lines-count T, h)
 
       -- a buffer of 3,008 bytes or more takes a line
       pub part-onward : 3008 ≤ n → j < q .place .number
       part-onward k = omega (arith, number-then, some)
         where
-          fits : length (lineOf P j) ≤ n
+          fits : length (codeLine G j) ≤ n
           fits = le-trans (line-short T j h) k
 
-          some : 0 < fitting n (drop j (linesOf P))
+          some : 0 < fitting n (drop j (codeLines G))
           some =
               subst (λ (x : ℕ). 0 < x)
               (sym
-              (ap (fitting n) (drop-cons (linesOf P) j [] (subst (λ (x : ℕ). j < x) (sym (lines-count T)) (omega (arith, h))))
-              ∙ ap (λ (d : Bool). cond d (suc (fitting (n - length (lineOf P j)) (drop (suc j) (linesOf P)))) 0) (le-leb (length (lineOf P j)) n fits)))
+              (ap (fitting n) (drop-cons (codeLines G) j [] (subst (λ (x : ℕ). j < x) (sym (lines-count T)) (omega (arith, h))))
+              ∙ ap (λ (d : Bool). cond d (suc (fitting (n - length (codeLine G j)) (drop (suc j) (codeLines G)))) 0) (le-leb (length (codeLine G j)) n fits)))
               (omega arith)

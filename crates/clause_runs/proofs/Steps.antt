@@ -12,9 +12,9 @@ use mathlib.Core.Bool.{true}
 use mathlib.Core.List.{List, [], _++_, append-nil}
 use lib.ListN.{length, getD, take, drop, length-drop}
 use lib.Seq.{drop-cons, getD-drop}
+use Rattle.encoding.specs.Code.{Code}
 use Rattle.lists.specs.Lists.{each, joined}
 use Rattle.lists.proofs.Tables.{each-ext}
-use Rattle.meaning.specs.Program.{Program}
 use Rattle.digits.specs.Bytes.{lineText}
 use Rattle.clause_walk.specs.Walk.{size, clauseAt, BlockAt}
 use Rattle.clause_tables.specs.declared.Totals.{Totals}
@@ -26,7 +26,7 @@ use Rattle.clause_places.proofs.Numbers.{placed-at}
 use Rattle.clause_places.proofs.BlockPlaces.{along, place-some, block-size}
 use Rattle.clause_text.specs.Blocks.{isBlockwise, blockText}
 use Rattle.clause_blocks.proofs.BlockTexts.{block-short}
-use Rattle.clause_runs.specs.Lines.{linesOf, lineOf}
+use Rattle.clause_runs.specs.Lines.{codeLines, codeLine}
 use Rattle.clause_runs.specs.Taken.{Taken}
 use Rattle.clause_runs.proofs.Placed.{lines-count, clause-is}
 use Rattle.clause_runs.proofs.Runs.{joined-next}
@@ -38,20 +38,17 @@ lines-each ls n (suc k) h =
     joined-next (drop n ls) k (subst (λ (m : ℕ). k < m) (sym (length-drop n ls)) (omega (arith, h)))
     ∙ ap₂ (λ (x y : List ℕ). x ++ y) (lines-each ls n k (omega (arith, h))) (getD-drop n ls k [])
 
-module _ {P : Program} {t : Totals} {hs ss bs ks xs ys : List ℕ} (T : Tabled P t hs ss bs ks xs ys) {c : Place} (e : c ≡ placeAt P (t .sizes .w) (c .number)) (h : c .number ≤ t .clauses) where
-  abbrev w : ℕ
-  w = t .sizes .w
-
+module _ {G : Code} {t : Totals} {hs ss bs ks xs ys : List ℕ} (T : Tabled G t hs ss bs ks xs ys) {c : Place} (e : c ≡ placeAt G (c .number)) (h : c .number ≤ t .clauses) where
   -- ---- one line
 
-  one-line : joined (take 1 (drop (c .number) (linesOf P))) ≡ lineOf P (c .number)
+  one-line : joined (take 1 (drop (c .number) (codeLines G))) ≡ codeLine G (c .number)
   one-line =
-      ap (λ (ls : List (List ℕ)). joined (take 1 ls)) (drop-cons (linesOf P) (c .number) [] (subst (λ (m : ℕ). c .number < m) (sym (lines-count T)) (omega (arith, h))))
-      ∙ append-nil (lineOf P (c .number))
+      ap (λ (ls : List (List ℕ)). joined (take 1 ls)) (drop-cons (codeLines G) (c .number) [] (subst (λ (m : ℕ). c .number < m) (sym (lines-count T)) (omega (arith, h))))
+      ∙ append-nil (codeLine G (c .number))
 
-  pub one-taken : (b : List ℕ) {r : ℕ} {l : List ℕ} {d : Place} → length (lineOf P (c .number)) ≤ length b
-      → (r ≡ length (lineOf P (c .number))) × (l ≡ lineOf P (c .number) ++ drop r b) → d ≡ placeAt P w (suc (c .number))
-      → Taken P w (c .number) (record { lines = 1; bytes = r; place = d }) b l
+  pub one-taken : (b : List ℕ) {r : ℕ} {l : List ℕ} {d : Place} → length (codeLine G (c .number)) ≤ length b
+      → (r ≡ length (codeLine G (c .number))) × (l ≡ codeLine G (c .number) ++ drop r b) → d ≡ placeAt G (suc (c .number))
+      → Taken G (c .number) (record { lines = 1; bytes = r; place = d }) b l
   one-taken b {r} {l} {d} f u v =
       record {
         some = omega arith;
@@ -59,7 +56,7 @@ module _ {P : Program} {t : Totals} {hs ss bs ks xs ys : List ℕ} (T : Tabled P
         in-room = omega (arith, f, u .0);
         bytes-are = u .0 ∙ sym (ap length one-line);
         text-is = u .1 ∙ ap (λ (x : List ℕ). x ++ drop r b) (sym one-line);
-        place-is = v ∙ ap (placeAt P w) (sym (add-one (c .number)));
+        place-is = v ∙ ap (placeAt G) (sym (add-one (c .number)));
       }
 
   -- ---- the lines of the block that begins at c
@@ -68,39 +65,39 @@ module _ {P : Program} {t : Totals} {hs ss bs ks xs ys : List ℕ} (T : Tabled P
     some : 0 < c .number
     some = place-some T e h (omega (arith, z))
 
-    size-is : c .coordinates .clauses + 1 ≡ size P w (c .coordinates .group) (c .coordinates .item) (c .coordinates .block)
+    size-is : c .coordinates .clauses + 1 ≡ size G (c .coordinates .group) (c .coordinates .item) (c .coordinates .block)
     size-is = omega (arith, z, block-size T e h some)
 
     pub block-asks : isBlockwise (c .coordinates .group) ≡ true → {n : ℕ} → 3008 ≤ n
-        → (Tabled P t hs ss bs ks xs ys) × (BlockAt P w (c .coordinates .group) (c .coordinates .item) (c .coordinates .block)) × (isBlockwise (c .coordinates .group) ≡ true)
-        × (length (blockText P w (c .coordinates .group) (c .coordinates .item) (c .coordinates .block)) ≤ n)
+        → (Tabled G t hs ss bs ks xs ys) × (BlockAt G (c .coordinates .group) (c .coordinates .item) (c .coordinates .block)) × (isBlockwise (c .coordinates .group) ≡ true)
+        × (length (blockText G (c .coordinates .group) (c .coordinates .item) (c .coordinates .block)) ≤ n)
     block-asks r f = (T, placed-at T e some h .block-at, r, le-trans (block-short T (placed-at T e some h .block-at) r) f)
 
     -- line by line, as far as the block goes
-    line-at : (y : ℕ) → y ≤ c .coordinates .clauses → getD (linesOf P) (c .number + y) [] ≡ lineText (clauseAt P w (c .coordinates .group) (c .coordinates .item) (c .coordinates .block) (suc y))
+    line-at : (y : ℕ) → y ≤ c .coordinates .clauses → getD (codeLines G) (c .number + y) [] ≡ lineText (clauseAt G (c .coordinates .group) (c .coordinates .item) (c .coordinates .block) (suc y))
     line-at y q =
-        sym (clause-is T {c = placeAt P w (c .number + y)} refl (omega (arith, some)) (along T e h y q .listed))
-        ∙ ap (λ (d : Coordinates). lineText (clauseAt P w (d .group) (d .item) (d .block) (d .clause))) (along T e h y q .stands)
-        ∙ ap (λ (n : ℕ). lineText (clauseAt P w (c .coordinates .group) (c .coordinates .item) (c .coordinates .block) n)) (from-one y z)
+        sym (clause-is T {c = placeAt G (c .number + y)} refl (omega (arith, some)) (along T e h y q .listed))
+        ∙ ap (λ (d : Coordinates). lineText (clauseAt G (d .group) (d .item) (d .block) (d .clause))) (along T e h y q .stands)
+        ∙ ap (λ (n : ℕ). lineText (clauseAt G (c .coordinates .group) (c .coordinates .item) (c .coordinates .block) n)) (from-one y z)
       where
         from-one : (y : ℕ) {n : ℕ} → n ≡ 1 → n + y ≡ suc y
         from-one y q = omega (arith, q)
 
     module _ (l : c .number + c .coordinates .clauses ≤ t .clauses) where
-      listed : c .number + (c .coordinates .clauses + 1) ≤ length (linesOf P)
+      listed : c .number + (c .coordinates .clauses + 1) ≤ length (codeLines G)
       listed = omega (arith, l, lines-count T)
 
-      block-lines : joined (take (c .coordinates .clauses + 1) (drop (c .number) (linesOf P))) ≡ blockText P w (c .coordinates .group) (c .coordinates .item) (c .coordinates .block)
+      block-lines : joined (take (c .coordinates .clauses + 1) (drop (c .number) (codeLines G))) ≡ blockText G (c .coordinates .group) (c .coordinates .item) (c .coordinates .block)
       block-lines =
-          lines-each (linesOf P) (c .number) (c .coordinates .clauses + 1) listed
-          ∙ each-ext (c .coordinates .clauses + 1) (λ y. getD (linesOf P) (c .number + pred y) []) (λ y. lineText (clauseAt P w (c .coordinates .group) (c .coordinates .item) (c .coordinates .block) y))
+          lines-each (codeLines G) (c .number) (c .coordinates .clauses + 1) listed
+          ∙ each-ext (c .coordinates .clauses + 1) (λ y. getD (codeLines G) (c .number + pred y) []) (λ y. lineText (clauseAt G (c .coordinates .group) (c .coordinates .item) (c .coordinates .block) y))
           (λ y q. line-at y (omega (arith, q)))
-          ∙ ap (λ (n : ℕ). each n (λ y. lineText (clauseAt P w (c .coordinates .group) (c .coordinates .item) (c .coordinates .block) y))) size-is
+          ∙ ap (λ (n : ℕ). each n (λ y. lineText (clauseAt G (c .coordinates .group) (c .coordinates .item) (c .coordinates .block) y))) size-is
 
       pub block-taken : (b : List ℕ) {r : ℕ} {x : List ℕ} {f : Place} → isBlockwise (c .coordinates .group) ≡ true → 3008 ≤ length b
-          → (r ≡ length (blockText P w (c .coordinates .group) (c .coordinates .item) (c .coordinates .block))) × (x ≡ blockText P w (c .coordinates .group) (c .coordinates .item) (c .coordinates .block) ++ drop r b)
-          → f ≡ placeAt P w (suc (c .number + c .coordinates .clauses))
-          → Taken P w (c .number) (record { lines = c .coordinates .clauses + 1; bytes = r; place = f }) b x
+          → (r ≡ length (blockText G (c .coordinates .group) (c .coordinates .item) (c .coordinates .block))) × (x ≡ blockText G (c .coordinates .group) (c .coordinates .item) (c .coordinates .block) ++ drop r b)
+          → f ≡ placeAt G (suc (c .number + c .coordinates .clauses))
+          → Taken G (c .number) (record { lines = c .coordinates .clauses + 1; bytes = r; place = f }) b x
       block-taken b {r} {x} {f} g k u q =
           record {
             some = omega arith;
@@ -108,7 +105,7 @@ module _ {P : Program} {t : Totals} {hs ss bs ks xs ys : List ℕ} (T : Tabled P
             in-room = omega (arith, u .0, block-asks g k .3);
             bytes-are = u .0 ∙ sym (ap length block-lines);
             text-is = u .1 ∙ ap (λ (y : List ℕ). y ++ drop r b) (sym block-lines);
-            place-is = q ∙ ap (placeAt P w) (more (c .number) (c .coordinates .clauses));
+            place-is = q ∙ ap (placeAt G) (more (c .number) (c .coordinates .clauses));
           }
         where
           more : (m k : ℕ) → suc (m + k) ≡ m + (k + 1)

@@ -17,10 +17,10 @@ ghost use mathlib.Core.Bool.{true};
 ghost use mathlib.Core.List.{_++_};
 ghost use lib.Dec.{leb};
 ghost use lib.ListN.{length, drop};
-ghost use Rattle.clause_tables.specs.Tables.{programIn, Ready};
+ghost use Rattle.clause_tables.specs.Tables.{codeIn, Ready};
 ghost use Rattle.clause_places.specs.Places.{placeAt};
 ghost use Rattle.clause_text.specs.Blocks.{isBlockwise};
-ghost use Rattle.clause_runs.specs.Lines.{lineOf, partIn, runBytesIn};
+ghost use Rattle.clause_runs.specs.Lines.{codeLine, codePart, codeRunBytes};
 ghost use Rattle.clause_runs.specs.Taken.{Taken};
 
 // A run of lines as far as it fits: how many lines, their bytes, and the place of the line after them.
@@ -42,8 +42,8 @@ pub fn line_length<'a>(
     c: Place,
 ) -> usize
     requires { ⌜ (Ready t (now heads) (now starts) (now bodies) (now before) (now partners) (now owners))
-        × (c ≡ placeAt (programIn (t .sizes) (now heads) (now starts) (now bodies)) (t .sizes .w) (c .number)) × (c .number ≤ t .clauses) ⌝ }
-    ensures { λ r. ⌜ r ≡ length (lineOf (programIn (t .sizes) (now (heads .entry)) (now (starts .entry)) (now (bodies .entry))) (c .number)) ⌝ }
+        × (c ≡ placeAt (codeIn t (now heads) (now starts) (now bodies)) (c .number)) × (c .number ≤ t .clauses) ⌝ }
+    ensures { λ r. ⌜ r ≡ length (codeLine (codeIn t (now (heads .entry)) (now (starts .entry)) (now (bodies .entry))) (c .number)) ⌝ }
 {
     if c.number == 0 {
         return header_length(t.vars, t.clauses);
@@ -77,11 +77,11 @@ pub fn put_line<'a>(
     buf: &mut [u8],
 ) -> usize
     requires { ⌜ (Ready t (now heads) (now starts) (now bodies) (now before) (now partners) (now owners))
-        × (c ≡ placeAt (programIn (t .sizes) (now heads) (now starts) (now bodies)) (t .sizes .w) (c .number)) × (c .number ≤ t .clauses)
-        × (length (lineOf (programIn (t .sizes) (now heads) (now starts) (now bodies)) (c .number)) ≤ length (now buf)) ⌝ }
-    ensures { λ r. ⌜ (r ≡ length (lineOf (programIn (t .sizes) (now (heads .entry)) (now (starts .entry)) (now (bodies .entry))) (c .number)))
+        × (c ≡ placeAt (codeIn t (now heads) (now starts) (now bodies)) (c .number)) × (c .number ≤ t .clauses)
+        × (length (codeLine (codeIn t (now heads) (now starts) (now bodies)) (c .number)) ≤ length (now buf)) ⌝ }
+    ensures { λ r. ⌜ (r ≡ length (codeLine (codeIn t (now (heads .entry)) (now (starts .entry)) (now (bodies .entry))) (c .number)))
         × (now (buf .exit)
-        ≡ lineOf (programIn (t .sizes) (now (heads .entry)) (now (starts .entry)) (now (bodies .entry))) (c .number) ++ drop r (now (buf .entry))) ⌝ }
+        ≡ codeLine (codeIn t (now (heads .entry)) (now (starts .entry)) (now (bodies .entry))) (c .number) ++ drop r (now (buf .entry))) ⌝ }
 {
     if c.number == 0 {
         return put_header(t.vars, t.clauses, &mut *buf);
@@ -116,8 +116,8 @@ fn fits<'a>(
     room: usize,
 ) -> bool
     requires { ⌜ (Ready t (now heads) (now starts) (now bodies) (now before) (now partners) (now owners))
-        × (c ≡ placeAt (programIn (t .sizes) (now heads) (now starts) (now bodies)) (t .sizes .w) (c .number)) × (c .number ≤ t .clauses) ⌝ }
-    ensures { λ r. ⌜ r ≡ leb (length (lineOf (programIn (t .sizes) (now (heads .entry)) (now (starts .entry)) (now (bodies .entry))) (c .number))) room ⌝ }
+        × (c ≡ placeAt (codeIn t (now heads) (now starts) (now bodies)) (c .number)) × (c .number ≤ t .clauses) ⌝ }
+    ensures { λ r. ⌜ r ≡ leb (length (codeLine (codeIn t (now (heads .entry)) (now (starts .entry)) (now (bodies .entry))) (c .number))) room ⌝ }
 {
     if 3008 <= room {
         return true;
@@ -137,9 +137,9 @@ fn after_block<'a>(
     c: Place,
 ) -> Place
     requires { ⌜ (Ready t (now heads) (now starts) (now bodies) (now before) (now partners) (now owners))
-        × (c ≡ placeAt (programIn (t .sizes) (now heads) (now starts) (now bodies)) (t .sizes .w) (c .number)) × (c .number ≤ t .clauses) ⌝ }
+        × (c ≡ placeAt (codeIn t (now heads) (now starts) (now bodies)) (c .number)) × (c .number ≤ t .clauses) ⌝ }
     ensures { λ r. ⌜ (r
-        ≡ placeAt (programIn (t .sizes) (now (heads .entry)) (now (starts .entry)) (now (bodies .entry))) (t .sizes .w)
+        ≡ placeAt (codeIn t (now (heads .entry)) (now (starts .entry)) (now (bodies .entry)))
         (suc (c .number + c .coordinates .clauses))) × (c .number + c .coordinates .clauses ≤ t .clauses) ⌝ }
 {
     let s = c.coordinates;
@@ -176,9 +176,9 @@ fn put_whole_block<'a>(
     buf: &mut [u8],
 ) -> RunPart
     requires { ⌜ (Ready t (now heads) (now starts) (now bodies) (now before) (now partners) (now owners))
-        × (c ≡ placeAt (programIn (t .sizes) (now heads) (now starts) (now bodies)) (t .sizes .w) (c .number)) × (c .number ≤ t .clauses)
+        × (c ≡ placeAt (codeIn t (now heads) (now starts) (now bodies)) (c .number)) × (c .number ≤ t .clauses)
         × (isBlockwise (c .coordinates .group) ≡ true) × (c .coordinates .clause ≡ 1) × (3008 ≤ length (now buf)) ⌝ }
-    ensures { λ r. ⌜ Taken (programIn (t .sizes) (now (heads .entry)) (now (starts .entry)) (now (bodies .entry))) (t .sizes .w) (c .number) r
+    ensures { λ r. ⌜ Taken (codeIn t (now (heads .entry)) (now (starts .entry)) (now (bodies .entry))) (c .number) r
         (now (buf .entry)) (now (buf .exit)) ⌝ }
 {
     let s = c.coordinates;
@@ -215,9 +215,9 @@ fn put_one<'a>(
     buf: &mut [u8],
 ) -> RunPart
     requires { ⌜ (Ready t (now heads) (now starts) (now bodies) (now before) (now partners) (now owners))
-        × (c ≡ placeAt (programIn (t .sizes) (now heads) (now starts) (now bodies)) (t .sizes .w) (c .number)) × (c .number ≤ t .clauses)
-        × (length (lineOf (programIn (t .sizes) (now heads) (now starts) (now bodies)) (c .number)) ≤ length (now buf)) ⌝ }
-    ensures { λ r. ⌜ Taken (programIn (t .sizes) (now (heads .entry)) (now (starts .entry)) (now (bodies .entry))) (t .sizes .w) (c .number) r
+        × (c ≡ placeAt (codeIn t (now heads) (now starts) (now bodies)) (c .number)) × (c .number ≤ t .clauses)
+        × (length (codeLine (codeIn t (now heads) (now starts) (now bodies)) (c .number)) ≤ length (now buf)) ⌝ }
+    ensures { λ r. ⌜ Taken (codeIn t (now (heads .entry)) (now (starts .entry)) (now (bodies .entry))) (c .number) r
         (now (buf .entry)) (now (buf .exit)) ⌝ }
 {
     let bytes = put_line(
@@ -251,9 +251,9 @@ fn put_some<'a>(
     buf: &mut [u8],
 ) -> RunPart
     requires { ⌜ (Ready t (now heads) (now starts) (now bodies) (now before) (now partners) (now owners))
-        × (c ≡ placeAt (programIn (t .sizes) (now heads) (now starts) (now bodies)) (t .sizes .w) (c .number)) × (c .number ≤ t .clauses)
-        × (length (lineOf (programIn (t .sizes) (now heads) (now starts) (now bodies)) (c .number)) ≤ length (now buf)) ⌝ }
-    ensures { λ r. ⌜ Taken (programIn (t .sizes) (now (heads .entry)) (now (starts .entry)) (now (bodies .entry))) (t .sizes .w) (c .number) r
+        × (c ≡ placeAt (codeIn t (now heads) (now starts) (now bodies)) (c .number)) × (c .number ≤ t .clauses)
+        × (length (codeLine (codeIn t (now heads) (now starts) (now bodies)) (c .number)) ≤ length (now buf)) ⌝ }
+    ensures { λ r. ⌜ Taken (codeIn t (now (heads .entry)) (now (starts .entry)) (now (bodies .entry))) (c .number) r
         (now (buf .entry)) (now (buf .exit)) ⌝ }
 {
     if 3008 <= buf.len() {
@@ -299,12 +299,12 @@ pub fn put_lines<'a>(
     buf: &mut [u8],
 ) -> RunPart
     requires { ⌜ (Ready t (now heads) (now starts) (now bodies) (now before) (now partners) (now owners))
-        × (c ≡ placeAt (programIn (t .sizes) (now heads) (now starts) (now bodies)) (t .sizes .w) (c .number)) × (c .number ≤ suc (t .clauses)) ⌝ }
+        × (c ≡ placeAt (codeIn t (now heads) (now starts) (now bodies)) (c .number)) × (c .number ≤ suc (t .clauses)) ⌝ }
     ensures { λ r. ⌜ (r
-        ≡ partIn (programIn (t .sizes) (now (heads .entry)) (now (starts .entry)) (now (bodies .entry))) (t .sizes .w) (c .number)
+        ≡ codePart (codeIn t (now (heads .entry)) (now (starts .entry)) (now (bodies .entry))) (c .number)
         (length (now (buf .entry))))
         × (now (buf .exit)
-        ≡ runBytesIn (programIn (t .sizes) (now (heads .entry)) (now (starts .entry)) (now (bodies .entry))) (c .number) (now (buf .entry))) ⌝ }
+        ≡ codeRunBytes (codeIn t (now (heads .entry)) (now (starts .entry)) (now (bodies .entry))) (c .number) (now (buf .entry))) ⌝ }
 {
     let mut at = c;
     let mut lines: usize = 0;

@@ -1,11 +1,12 @@
 -- What the tables of a program hold, by number. Arrays count from 0 as the code does; rules, pairs and atoms count from 1.
--- Of a program within the limits (Limits P):
---   width-fits                        the width is at most 7
+-- Of a code that is limited (Limited G):
+--   ranges                            its atoms are in range
+--   inner-all, inner-positives        the inner body atoms of a rule are its positive ones
 --   head-atom, head-in                the head of rule r is from 1 to the number of atoms, and to 126
 --   pairs-fit, before-fits            there are at most 500 pairs; those before a rule and its own are among them
 --   body-fits                         a rule has at most 500 body atoms
 --   pair-body-in, pair-head-in        the atoms of a pair are from 1 to 126
--- Of its tables (Tabled P ..):
+-- Of its tables (Tabled G ..):
 --   rules-fit, rules-are, atoms-are, width-are, atoms-fit, bounded, width-pos, pairs-are, vars-are, clauses-are    the totals
 --   heads-length, starts-length, bodies-length, before-length, partners-length, owners-length    the lengths of the arrays
 --   heads-taken, head-is              the heads
@@ -14,30 +15,37 @@
 --   partner-is, owner-is              body atom and head of pair k
 --   partner-in, owner-in              both are from 1 to 126
 -- Of arrays (Stored A):
---   programIn-is                      the sizes and three arrays hold the program that the whole holds
+--   programIn-is, codeIn-is           the sizes and three arrays hold the program that the whole holds, and document 01's code of it
 --   ready                             the totals and the table of that program make Ready
---   stored                            an accepted text's arrays are Stored
+--   kept-stored                       the arrays kept of a program are Stored
+-- Of document 01's code:
+--   program-limited                   that of a program within the limits is limited
+--   limited-whole                     a limited code is document 01's, but for its width
 -- Assumes nothing.
 use Prim.Native.Nat.{ℕ, zero, suc, pred, _+_, _-_, _*_, _≤_, _<_}
 use native.Mathlib.Nat.{not-suc-le-zero, le-of-suc-le-suc, zero-add, add-zero, le-trans}
 use native.Mathlib.Omega.{arith}
-use mathlib.Core.Path.{_≡_, refl, sym, _∙_, ap, ap₂, subst}
-use mathlib.Core.Bool.{Bool, _&&_, So}
+use mathlib.Core.Path.{_≡_, refl, sym, _∙_, ap, ap₂, subst, fun-ext}
+use mathlib.Core.Bool.{_&&_, So}
 use mathlib.Core.List.{List, [], _∷_, _++_, map, append-assoc}
 use lib.ListN.{length, getD, take, drop, replicate, length-append, length-map}
 use lib.Seq.{take-at, drop-at}
-use Rattle.lists.specs.Lists.{all, tab, joined, sum}
-use Rattle.lists.proofs.Bools.{and-in, and-left, and-right}
-use Rattle.lists.proofs.Tests.{all-at, all-append}
-use Rattle.lists.proofs.Tables.{sum-mono, length-tab, getD-tab, getD-map, each-list}
+use Rattle.lists.specs.Lists.{all, tab, sum}
+use Rattle.lists.proofs.Bools.{and-left}
+use Rattle.lists.proofs.Tests.{all-at}
+use Rattle.lists.proofs.Tables.{sum-mono, length-tab, getD-tab, getD-map, keep-all}
 use Rattle.meaning.specs.Program.{Rule, Program, noRule, isAtom, ruleFits, wellFormed}
 use Rattle.encoding.specs.Width.{width}
-use Rattle.encoding.specs.Clauses.{Pair, noPair, pairAt, pairsWith, pairs, pairCount, pairsBefore, variables, clauseCount}
-use Rattle.theory.proofs.Atoms.{atom-pos, atom-le}
+use Rattle.encoding.specs.Clauses.{Pair, noPair}
+use Rattle.encoding.specs.Code.{Code, whole, codeOf, programOf, rl, inner, pairList, pairTotal, pairBody, pairHead, before, variablesOf, clauseTotalOf}
+use Rattle.theory.proofs.Atoms.{atom-pos, atom-le, rule-in}
+use Rattle.theory.proofs.Numbered.{Ranges}
+use Rattle.theory.proofs.Pairs.{pair-count, pairs-few, body-in, head-in as owner-range}
+use Rattle.theory.proofs.Whole.{pairs-whole, before-whole}
 use Rattle.theory.proofs.Widths.{width-is, width-some}
 use Rattle.clause_literals.specs.Sizes.{Bounded}
 use Rattle.clause_literals.proofs.Products.{one-before}
-use Rattle.clause_walk.specs.Walk.{headsOf, headOf, positives, bodyOf, bodyCount}
+use Rattle.clause_walk.specs.Walk.{headsOf, headOf, positives, innerCount, bodyOf, bodyCount}
 use Rattle.clause_walk.proofs.Tabs.{head-is as its-head}
 use Rattle.program.specs.declared.Program.{Program as Arrays}
 use Rattle.program.specs.Arrays.{pad, endsOf, kept}
@@ -47,8 +55,8 @@ use Rattle.text.specs.Limits.{Limits}
 use Rattle.program.proofs.Decode.{decoded-kept}
 use Rattle.program.proofs.Pads.{length-pad}
 use Rattle.clause_tables.specs.declared.Totals.{Totals}
-use Rattle.clause_tables.specs.Tables.{Stored, Tabled, Ready, programIn, pairTable, totalsOf}
-use Rattle.clause_tables.proofs.Sizes.{pairs-are as pairs-sum, count-few}
+use Rattle.clause_tables.specs.Tables.{Stored, Limited, Tabled, Ready, programIn, codeIn, pairTable, totalsOf}
+use Rattle.clause_tables.proofs.Sizes.{pairs-few as positives-few}
 
 -- ---- lists filled up with zeros
 
@@ -118,97 +126,74 @@ within (R ∷ rs) (suc i) h =
 
 -- ---- of a program within the limits
 
-module _ (P : Program) (L : Limits P) where
-  pub width-fits : width (P .atoms) ≤ 7
-  width-fits = width-is (P .atoms) .least 7 (omega (arith, L .few-atoms))
-
+module _ (G : Code) (L : Limited G) where
   -- each rule holds atoms alone
-  pub all-fit : So (all (ruleFits (P .atoms)) (P .rules))
+  pub all-fit : So (all (ruleFits (G .n)) (G .rules))
   unfolding wellFormed
-  all-fit = L .all-atoms
+  all-fit = L .within .all-atoms
 
-  rule-fits : (i : ℕ) → i < length (P .rules) → So (ruleFits (P .atoms) (getD (P .rules) i noRule))
-  rule-fits i h = all-at (ruleFits (P .atoms)) (P .rules) noRule all-fit i h
+  rule-fits : (i : ℕ) → i < length (G .rules) → So (ruleFits (G .n) (getD (G .rules) i noRule))
+  rule-fits i h = all-at (ruleFits (G .n)) (G .rules) noRule all-fit i h
 
-  pub head-atom : (r : ℕ) → 0 < r → r ≤ length (P .rules) → (0 < headOf P r) × (headOf P r ≤ P .atoms)
+  pub head-atom : (r : ℕ) → 0 < r → r ≤ length (G .rules) → (0 < headOf G r) × (headOf G r ≤ G .n)
   head-atom zero p h = absurd (omega arith)
   head-atom (suc i) p h =
-      let R = getD (P .rules) i noRule in
-      let e = its-head (P .rules) (suc i) in
-      let t = and-left (isAtom (P .atoms) (R .head)) (all (isAtom (P .atoms)) (R .positive) && all (isAtom (P .atoms)) (R .negative)) (rule-fits i h) in
-      (omega (arith, e, atom-pos (P .atoms) (R .head) t), omega (arith, e, atom-le (P .atoms) (R .head) t))
+      let R = getD (G .rules) i noRule in
+      let e = its-head (G .rules) (suc i) in
+      let t = and-left (isAtom (G .n) (R .head)) (all (isAtom (G .n)) (R .positive) && all (isAtom (G .n)) (R .negative)) (rule-fits i h) in
+      (omega (arith, e, atom-pos (G .n) (R .head) t), omega (arith, e, atom-le (G .n) (R .head) t))
 
-  pub head-in : (r : ℕ) → 0 < r → r ≤ length (P .rules) → (0 < headOf P r) × (headOf P r ≤ 126)
-  head-in r p h = let q = head-atom r p h in (q .0, omega (arith, q .1, L .few-atoms))
+  pub head-in : (r : ℕ) → 0 < r → r ≤ length (G .rules) → (0 < headOf G r) × (headOf G r ≤ 126)
+  head-in r p h = let q = head-atom r p h in (q .0, omega (arith, q .1, L .within .few-atoms))
 
   -- ---- the pairs
 
-  sum-is : (r : ℕ) → pairsBefore P (suc r) ≡ sum r (positives P)
-  unfolding pairsBefore
+  pub ranges : Ranges G
+  ranges =
+      record {
+        head-in = λ r h. rule-in (G .n) (G .rules) all-fit r h .head-in;
+        positive-in = λ r h. rule-in (G .n) (G .rules) all-fit r h .positive-in;
+        negative-in = λ r h. rule-in (G .n) (G .rules) all-fit r h .negative-in;
+      }
+
+  pub inner-all : (r : ℕ) → inner G r ≡ rl G r .positive
+  unfolding inner
+  inner-all r = keep-all (λ b. G .inside b (rl G r .head)) (rl G r .positive) (λ b. L .all-inside b (rl G r .head))
+
+  pub inner-positives : (r : ℕ) → innerCount G r ≡ positives G r
+  inner-positives r = ap length (inner-all r)
+
+  sum-is : (r : ℕ) → before G (suc r) ≡ sum r (innerCount G)
+  unfolding before
   sum-is r = refl
 
-  pub before-fits : (r : ℕ) → 0 < r → r ≤ length (P .rules) → pairsBefore P r + positives P r ≤ pairCount P
+  pub before-fits : (r : ℕ) → 0 < r → r ≤ length (G .rules) → before G r + innerCount G r ≤ pairTotal G
   before-fits zero p h = absurd (omega arith)
-  before-fits (suc i) p h = omega (arith, pairs-sum P, sum-is i, sum-mono (length (P .rules)) (positives P) i h)
+  before-fits (suc i) p h = omega (arith, pair-count G, sum-is i, sum-mono (length (G .rules)) (innerCount G) i h)
 
-  abbrev rowOf : Rule → List Pair
-  rowOf R = pairsWith (R .head) (R .positive)
+  pub pairs-fit : pairTotal G ≤ 500
+  pairs-fit = omega (arith, pairs-few G, positives-few (programOf G), L .within .few-bodies)
 
-  pairs-joined : pairs P ≡ joined (map rowOf (P .rules))
-  unfolding pairs
-  pairs-joined = each-list rowOf (P .rules) noRule
-
-  pub pairs-fit : pairCount P ≤ 500
-  pairs-fit = count-few P L
-
-  -- both atoms of a pair are atoms
-  abbrev pairFits : Pair → Bool
-  pairFits p = isAtom (P .atoms) (p .body) && isAtom (P .atoms) (p .head)
-
-  row-fits : (h : ℕ) → So (isAtom (P .atoms) h) → (bs : List ℕ) → So (all (isAtom (P .atoms)) bs) → So (all pairFits (pairsWith h bs))
-  row-fits h t [] u = refl
-  row-fits h t (b ∷ bs) u =
-      and-in (and-in (and-left (isAtom (P .atoms) b) (all (isAtom (P .atoms)) bs) u) t) (row-fits h t bs (and-right (isAtom (P .atoms) b) (all (isAtom (P .atoms)) bs) u))
-
-  rows-fit : (rs : List Rule) → So (all (ruleFits (P .atoms)) rs) → So (all pairFits (joined (map rowOf rs)))
-  rows-fit [] t = refl
-  rows-fit (R ∷ rs) t =
-      let u = and-left (ruleFits (P .atoms) R) (all (ruleFits (P .atoms)) rs) t in
-      let v = and-right (isAtom (P .atoms) (R .head)) (all (isAtom (P .atoms)) (R .positive) && all (isAtom (P .atoms)) (R .negative)) u in
-      all-append pairFits (rowOf R) (joined (map rowOf rs))
-      ∙ and-in
-      (row-fits (R .head) (and-left (isAtom (P .atoms) (R .head)) (all (isAtom (P .atoms)) (R .positive) && all (isAtom (P .atoms)) (R .negative)) u) (R .positive)
-      (and-left (all (isAtom (P .atoms)) (R .positive)) (all (isAtom (P .atoms)) (R .negative)) v))
-      (rows-fit rs (and-right (ruleFits (P .atoms) R) (all (ruleFits (P .atoms)) rs) t))
-
-  pair-fits : (k : ℕ) → k < pairCount P → So (pairFits (getD (pairs P) k noPair))
-  pair-fits k h =
-      all-at pairFits (pairs P) noPair (subst (λ (ps : List Pair). So (all pairFits ps)) (sym pairs-joined) (rows-fit (P .rules) all-fit)) k h
-
-  pub pair-body-in : (k : ℕ) → 0 < k → k ≤ pairCount P → (0 < pairAt (pairs P) k .body) × (pairAt (pairs P) k .body ≤ 126)
+  pub pair-body-in : (k : ℕ) → 0 < k → k ≤ pairTotal G → (0 < pairBody G k) × (pairBody G k ≤ 126)
   pair-body-in zero p h = absurd (omega arith)
   pair-body-in (suc k) p h =
-      let x = getD (pairs P) k noPair in
-      let t = and-left (isAtom (P .atoms) (x .body)) (isAtom (P .atoms) (x .head)) (pair-fits k h) in
-      (atom-pos (P .atoms) (x .body) t, le-trans (atom-le (P .atoms) (x .body) t) (L .few-atoms))
+      let t = body-in G ranges k h in (atom-pos (G .n) (pairBody G (suc k)) t, le-trans (atom-le (G .n) (pairBody G (suc k)) t) (L .within .few-atoms))
 
-  pub pair-head-in : (k : ℕ) → 0 < k → k ≤ pairCount P → (0 < pairAt (pairs P) k .head) × (pairAt (pairs P) k .head ≤ 126)
+  pub pair-head-in : (k : ℕ) → 0 < k → k ≤ pairTotal G → (0 < pairHead G k) × (pairHead G k ≤ 126)
   pair-head-in zero p h = absurd (omega arith)
   pair-head-in (suc k) p h =
-      let x = getD (pairs P) k noPair in
-      let t = and-right (isAtom (P .atoms) (x .body)) (isAtom (P .atoms) (x .head)) (pair-fits k h) in
-      (atom-pos (P .atoms) (x .head) t, le-trans (atom-le (P .atoms) (x .head) t) (L .few-atoms))
+      let t = owner-range G ranges k h in (atom-pos (G .n) (pairHead G (suc k)) t, le-trans (atom-le (G .n) (pairHead G (suc k)) t) (L .within .few-atoms))
 
   -- ---- the body atoms
 
-  behind-fits : (i : ℕ) → i < length (P .rules)
-      → behind (P .rules) i + length (getD (P .rules) i noRule .positive) + length (getD (P .rules) i noRule .negative) ≤ 500
+  behind-fits : (i : ℕ) → i < length (G .rules)
+      → behind (G .rules) i + length (getD (G .rules) i noRule .positive) + length (getD (G .rules) i noRule .negative) ≤ 500
   behind-fits i h =
-      let R = getD (P .rules) i noRule in
-      let q = within (P .rules) i h in
+      let R = getD (G .rules) i noRule in
+      let q = within (G .rules) i h in
       omega (
         arith,
-        L .few-bodies,
+        L .within .few-bodies,
         ap length (q .whole),
         length-append (q .front) ((R .positive ++ R .negative) ++ q .back),
         length-append (R .positive ++ R .negative) (q .back),
@@ -216,134 +201,131 @@ module _ (P : Program) (L : Limits P) where
         q .place,
       )
 
-  pub body-fits : (r : ℕ) → 0 < r → r ≤ length (P .rules) → bodyCount P r ≤ 500
+  pub body-fits : (r : ℕ) → 0 < r → r ≤ length (G .rules) → bodyCount G r ≤ 500
   body-fits zero p h = absurd (omega arith)
   body-fits (suc i) p h =
-      omega (arith, behind-fits i h, length-append (getD (P .rules) i noRule .positive) (getD (P .rules) i noRule .negative))
+      omega (arith, behind-fits i h, length-append (getD (G .rules) i noRule .positive) (getD (G .rules) i noRule .negative))
 
 -- ---- of the tables
 
 -- rule r in the arrays, with i rules before it: where its body atoms begin, where its negative ones do, and where they end
-pub record Listed (P : Program) (ss bs : List ℕ) (r i : ℕ) : Type 0 where
+pub record Listed (G : Code) (ss bs : List ℕ) (r i : ℕ) : Type 0 where
   pub first-up : getD ss (2 * i) 0 ≤ getD ss (2 * i + 1) 0
   pub second-up : getD ss (2 * i + 1) 0 ≤ getD ss (2 * i + 2) 0
   pub end-fits : getD ss (2 * i + 2) 0 ≤ 500
-  pub positives-are : getD ss (2 * i + 1) 0 - getD ss (2 * i) 0 ≡ positives P r
-  pub count-are : getD ss (2 * i + 2) 0 - getD ss (2 * i) 0 ≡ bodyCount P r
-  pub body-are : take (getD ss (2 * i + 2) 0 - getD ss (2 * i) 0) (drop (getD ss (2 * i) 0) bs) ≡ bodyOf P r
+  pub positives-are : getD ss (2 * i + 1) 0 - getD ss (2 * i) 0 ≡ positives G r
+  pub count-are : getD ss (2 * i + 2) 0 - getD ss (2 * i) 0 ≡ bodyCount G r
+  pub body-are : take (getD ss (2 * i + 2) 0 - getD ss (2 * i) 0) (drop (getD ss (2 * i) 0) bs) ≡ bodyOf G r
 
-module _ (P : Program) (t : Totals) (hs ss bs ks xs ys : List ℕ) (T : Tabled P t hs ss bs ks xs ys) where
-  abbrev L : Limits P
+module _ (G : Code) (t : Totals) (hs ss bs ks xs ys : List ℕ) (T : Tabled G t hs ss bs ks xs ys) where
+  abbrev L : Limited G
   L = T .limits
 
   -- ---- the totals
 
-  pub rules-fit : length (P .rules) ≤ 500
-  rules-fit = L .few-rules
+  pub rules-fit : length (G .rules) ≤ 500
+  rules-fit = L .within .few-rules
 
-  pub atoms-fit : P .atoms ≤ 126
-  atoms-fit = L .few-atoms
+  pub atoms-fit : G .n ≤ 126
+  atoms-fit = L .within .few-atoms
 
-  pub rules-are : t .sizes .m ≡ length (P .rules)
+  pub rules-are : t .sizes .m ≡ length (G .rules)
   unfolding totalsOf
   rules-are = ap (λ (x : Totals). x .sizes .m) (T .totals-are)
 
-  pub atoms-are : t .sizes .n ≡ P .atoms
+  pub atoms-are : t .sizes .n ≡ G .n
   unfolding totalsOf
   atoms-are = ap (λ (x : Totals). x .sizes .n) (T .totals-are)
 
-  pub width-are : t .sizes .w ≡ width (P .atoms)
+  pub width-are : t .sizes .w ≡ G .w
   unfolding totalsOf
   width-are = ap (λ (x : Totals). x .sizes .w) (T .totals-are)
 
-  pub pairs-are : t .pairs ≡ pairCount P
+  pub pairs-are : t .pairs ≡ pairTotal G
   unfolding totalsOf
   pairs-are = ap (λ (x : Totals). x .pairs) (T .totals-are)
 
-  pub vars-are : t .vars ≡ variables P (width (P .atoms))
+  pub vars-are : t .vars ≡ variablesOf G
   unfolding totalsOf
   vars-are = ap (λ (x : Totals). x .vars) (T .totals-are)
 
-  pub clauses-are : t .clauses ≡ clauseCount P (width (P .atoms))
+  pub clauses-are : t .clauses ≡ clauseTotalOf G
   unfolding totalsOf
   clauses-are = ap (λ (x : Totals). x .clauses) (T .totals-are)
 
   pub bounded : Bounded (t .sizes)
-  bounded = record { atoms = omega (arith, atoms-are, atoms-fit); rules = omega (arith, rules-are, rules-fit); bits = omega (arith, width-are, width-fits P L) }
+  bounded = record { atoms = omega (arith, atoms-are, atoms-fit); rules = omega (arith, rules-are, rules-fit); bits = omega (arith, width-are, L .few-bits) }
 
   pub width-pos : 0 < t .sizes .w
-  width-pos = omega (arith, width-are, width-some (P .atoms))
+  width-pos = omega (arith, width-are, L .some-bit)
 
   -- ---- the arrays
 
-  heads-pad : hs ≡ pad 500 (headsOf P)
+  heads-pad : hs ≡ pad 500 (headsOf G)
   unfolding kept
   heads-pad = T .heads-are
 
-  starts-pad : ss ≡ pad 1001 (0 ∷ endsOf 0 (P .rules))
+  starts-pad : ss ≡ pad 1001 (0 ∷ endsOf 0 (G .rules))
   unfolding kept
   starts-pad = T .starts-are
 
-  bodies-pad : bs ≡ pad 500 (bodiesOf (P .rules))
+  bodies-pad : bs ≡ pad 500 (bodiesOf (G .rules))
   unfolding kept
   bodies-pad = T .bodies-are
 
-  before-pad : ks ≡ pad 501 (tab (suc (length (P .rules))) (pairsBefore P))
-  unfolding pairTable
+  before-pad : ks ≡ pad 501 (tab (suc (length (G .rules))) (before G))
   before-pad = T .before-are
 
-  partners-pad : xs ≡ pad 500 (map (λ p. p .body) (pairs P))
-  unfolding pairTable
+  partners-pad : xs ≡ pad 500 (map (λ p. p .body) (pairList G))
   partners-pad = T .partners-are
 
-  owners-pad : ys ≡ pad 500 (map (λ p. p .head) (pairs P))
-  unfolding pairTable
+  owners-pad : ys ≡ pad 500 (map (λ p. p .head) (pairList G))
   owners-pad = T .owners-are
 
   pub heads-length : length hs ≡ 500
-  heads-length = ap length heads-pad ∙ length-pad 500 (headsOf P) (omega (arith, length-map {B = ℕ} (P .rules) (λ R. R .head), rules-fit))
+  heads-length = ap length heads-pad ∙ length-pad 500 (headsOf G) (omega (arith, length-map {B = ℕ} (G .rules) (λ R. R .head), rules-fit))
 
   pub starts-length : length ss ≡ 1001
-  starts-length = ap length starts-pad ∙ length-pad 1001 (0 ∷ endsOf 0 (P .rules)) (omega (arith, ends-length 0 (P .rules), rules-fit))
+  starts-length = ap length starts-pad ∙ length-pad 1001 (0 ∷ endsOf 0 (G .rules)) (omega (arith, ends-length 0 (G .rules), rules-fit))
 
   pub bodies-length : length bs ≡ 500
-  bodies-length = ap length bodies-pad ∙ length-pad 500 (bodiesOf (P .rules)) (L .few-bodies)
+  bodies-length = ap length bodies-pad ∙ length-pad 500 (bodiesOf (G .rules)) (L .within .few-bodies)
 
   pub before-length : length ks ≡ 501
   before-length =
       ap length before-pad
-      ∙ length-pad 501 (tab (suc (length (P .rules))) (pairsBefore P)) (omega (arith, length-tab (suc (length (P .rules))) (pairsBefore P), rules-fit))
+      ∙ length-pad 501 (tab (suc (length (G .rules))) (before G)) (omega (arith, length-tab (suc (length (G .rules))) (before G), rules-fit))
 
   pub partners-length : length xs ≡ 500
-  partners-length = ap length partners-pad ∙ length-pad 500 (map (λ p. p .body) (pairs P)) (omega (arith, length-map {B = ℕ} (pairs P) (λ p. p .body), pairs-fit P L))
+  partners-length = ap length partners-pad ∙ length-pad 500 (map (λ p. p .body) (pairList G)) (omega (arith, length-map {B = ℕ} (pairList G) (λ p. p .body), pairs-fit G L))
 
   pub owners-length : length ys ≡ 500
-  owners-length = ap length owners-pad ∙ length-pad 500 (map (λ p. p .head) (pairs P)) (omega (arith, length-map {B = ℕ} (pairs P) (λ p. p .head), pairs-fit P L))
+  owners-length = ap length owners-pad ∙ length-pad 500 (map (λ p. p .head) (pairList G)) (omega (arith, length-map {B = ℕ} (pairList G) (λ p. p .head), pairs-fit G L))
 
   -- ---- the heads
 
-  pub heads-taken : take (t .sizes .m) hs ≡ headsOf P
+  pub heads-taken : take (t .sizes .m) hs ≡ headsOf G
   heads-taken =
       ap (take (t .sizes .m)) heads-pad
-      ∙ take-at (headsOf P) (replicate (500 - length (headsOf P)) 0) (t .sizes .m) (length-map (P .rules) (λ R. R .head) ∙ sym rules-are)
+      ∙ take-at (headsOf G) (replicate (500 - length (headsOf G)) 0) (t .sizes .m) (length-map (G .rules) (λ R. R .head) ∙ sym rules-are)
 
-  pub head-is : (r : ℕ) → 0 < r → r ≤ length (P .rules) → getD hs (r - 1) 0 ≡ headOf P r
-  head-is r p h = ap₂ (λ (l : List ℕ) (k : ℕ). getD l k 0) heads-pad (one-before r) ∙ getD-pad 500 (headsOf P) (pred r)
+  pub head-is : (r : ℕ) → 0 < r → r ≤ length (G .rules) → getD hs (r - 1) 0 ≡ headOf G r
+  head-is r p h = ap₂ (λ (l : List ℕ) (k : ℕ). getD l k 0) heads-pad (one-before r) ∙ getD-pad 500 (headsOf G) (pred r)
 
   -- ---- the body atoms
 
-  start-is : (d i : ℕ) → i < length (P .rules)
-      → getD ss (2 * i + d) 0 ≡ getD (startsFrom (0 + behind (P .rules) i) (getD (P .rules) i noRule) (drop (suc i) (P .rules))) d 0
+  start-is : (d i : ℕ) → i < length (G .rules)
+      → getD ss (2 * i + d) 0 ≡ getD (startsFrom (0 + behind (G .rules) i) (getD (G .rules) i noRule) (drop (suc i) (G .rules))) d 0
   start-is d i h =
-      ap (λ (l : List ℕ). getD l (2 * i + d) 0) starts-pad ∙ getD-pad 1001 (0 ∷ endsOf 0 (P .rules)) (2 * i + d) ∙ starts-at d 0 (P .rules) i h
+      ap (λ (l : List ℕ). getD l (2 * i + d) 0) starts-pad ∙ getD-pad 1001 (0 ∷ endsOf 0 (G .rules)) (2 * i + d) ∙ starts-at d 0 (G .rules) i h
 
   -- the three starts of a rule
-  module _ (i : ℕ) (h : i < length (P .rules)) where
+  module _ (i : ℕ) (h : i < length (G .rules)) where
     abbrev R : Rule
-    R = getD (P .rules) i noRule
+    R = getD (G .rules) i noRule
 
     abbrev at : ℕ
-    at = behind (P .rules) i
+    at = behind (G .rules) i
 
     start-0 : getD ss (2 * i) 0 ≡ at
     start-0 = ap (λ (k : ℕ). getD ss k 0) (sym (add-zero (2 * i))) ∙ start-is 0 i h ∙ zero-add at
@@ -359,60 +341,60 @@ module _ (P : Program) (t : Totals) (hs ss bs ks xs ys : List ℕ) (T : Tabled P
 
     body-there : take (length (R .positive ++ R .negative)) (drop at bs) ≡ R .positive ++ R .negative
     body-there =
-        let q = within (P .rules) i h in
+        let q = within (G .rules) i h in
         ap (λ (l : List ℕ). take (length (R .positive ++ R .negative)) (drop at l))
-        (bodies-pad ∙ ap (λ (l : List ℕ). l ++ replicate (500 - length (bodiesOf (P .rules))) 0) (q .whole)
-        ∙ append-assoc (q .front) ((R .positive ++ R .negative) ++ q .back) (replicate (500 - length (bodiesOf (P .rules))) 0)
-        ∙ ap (λ (l : List ℕ). q .front ++ l) (append-assoc (R .positive ++ R .negative) (q .back) (replicate (500 - length (bodiesOf (P .rules))) 0)))
+        (bodies-pad ∙ ap (λ (l : List ℕ). l ++ replicate (500 - length (bodiesOf (G .rules))) 0) (q .whole)
+        ∙ append-assoc (q .front) ((R .positive ++ R .negative) ++ q .back) (replicate (500 - length (bodiesOf (G .rules))) 0)
+        ∙ ap (λ (l : List ℕ). q .front ++ l) (append-assoc (R .positive ++ R .negative) (q .back) (replicate (500 - length (bodiesOf (G .rules))) 0)))
         ∙ ap (take (length (R .positive ++ R .negative))) (drop-at (q .front) _ at (q .place))
         ∙ take-at (R .positive ++ R .negative) _ (length (R .positive ++ R .negative)) refl
 
     count-there : getD ss (2 * i + 2) 0 - getD ss (2 * i) 0 ≡ length (R .positive ++ R .negative)
     count-there = omega (arith, start-0, start-2, body-length)
 
-    pub start-at : Listed P ss bs (suc i) i
+    pub start-at : Listed G ss bs (suc i) i
     start-at =
         record {
           first-up = omega (arith, start-0, start-1);
           second-up = omega (arith, start-1, start-2);
-          end-fits = omega (arith, start-2, behind-fits P L i h);
+          end-fits = omega (arith, start-2, behind-fits G L i h);
           positives-are = omega (arith, start-0, start-1);
           count-are = count-there;
           body-are = ap₂ (λ (k b : ℕ). take k (drop b bs)) count-there start-0 ∙ body-there;
         }
 
-  pub start-first : (r : ℕ) → 0 < r → r ≤ length (P .rules) → Listed P ss bs r (r - 1)
+  pub start-first : (r : ℕ) → 0 < r → r ≤ length (G .rules) → Listed G ss bs r (r - 1)
   start-first zero p h = absurd (omega arith)
-  start-first (suc i) p h = subst (λ (k : ℕ). Listed P ss bs (suc i) k) (sym (one-before (suc i))) (start-at i h)
+  start-first (suc i) p h = subst (λ (k : ℕ). Listed G ss bs (suc i) k) (sym (one-before (suc i))) (start-at i h)
 
   -- ---- the pairs
 
-  before-at : (i : ℕ) → i < suc (length (P .rules)) → getD ks i 0 ≡ pairsBefore P (suc i)
+  before-at : (i : ℕ) → i < suc (length (G .rules)) → getD ks i 0 ≡ before G (suc i)
   before-at i h =
-      ap (λ (l : List ℕ). getD l i 0) before-pad ∙ getD-pad 501 (tab (suc (length (P .rules))) (pairsBefore P)) i
-      ∙ getD-tab (suc (length (P .rules))) (pairsBefore P) 0 i h
+      ap (λ (l : List ℕ). getD l i 0) before-pad ∙ getD-pad 501 (tab (suc (length (G .rules))) (before G)) i
+      ∙ getD-tab (suc (length (G .rules))) (before G) 0 i h
 
-  pub before-is : (r : ℕ) → 0 < r → r ≤ suc (length (P .rules)) → getD ks (r - 1) 0 ≡ pairsBefore P r
+  pub before-is : (r : ℕ) → 0 < r → r ≤ suc (length (G .rules)) → getD ks (r - 1) 0 ≡ before G r
   before-is zero p h = absurd (omega arith)
   before-is (suc i) p h = ap (λ (k : ℕ). getD ks k 0) (one-before (suc i)) ∙ before-at i h
 
-  pub partner-is : (k : ℕ) → 0 < k → k ≤ pairCount P → getD xs (k - 1) 0 ≡ pairAt (pairs P) k .body
+  pub partner-is : (k : ℕ) → 0 < k → k ≤ pairTotal G → getD xs (k - 1) 0 ≡ pairBody G k
   partner-is zero p h = absurd (omega arith)
   partner-is (suc k) p h =
-      ap₂ (λ (l : List ℕ) (j : ℕ). getD l j 0) partners-pad (one-before (suc k)) ∙ getD-pad 500 (map (λ p. p .body) (pairs P)) k
-      ∙ getD-map (λ p. p .body) (pairs P) noPair 0 k h
+      ap₂ (λ (l : List ℕ) (j : ℕ). getD l j 0) partners-pad (one-before (suc k)) ∙ getD-pad 500 (map (λ p. p .body) (pairList G)) k
+      ∙ getD-map (λ p. p .body) (pairList G) noPair 0 k h
 
-  pub owner-is : (k : ℕ) → 0 < k → k ≤ pairCount P → getD ys (k - 1) 0 ≡ pairAt (pairs P) k .head
+  pub owner-is : (k : ℕ) → 0 < k → k ≤ pairTotal G → getD ys (k - 1) 0 ≡ pairHead G k
   owner-is zero p h = absurd (omega arith)
   owner-is (suc k) p h =
-      ap₂ (λ (l : List ℕ) (j : ℕ). getD l j 0) owners-pad (one-before (suc k)) ∙ getD-pad 500 (map (λ p. p .head) (pairs P)) k
-      ∙ getD-map (λ p. p .head) (pairs P) noPair 0 k h
+      ap₂ (λ (l : List ℕ) (j : ℕ). getD l j 0) owners-pad (one-before (suc k)) ∙ getD-pad 500 (map (λ p. p .head) (pairList G)) k
+      ∙ getD-map (λ p. p .head) (pairList G) noPair 0 k h
 
-  pub partner-in : (k : ℕ) → 0 < k → k ≤ pairCount P → (0 < getD xs (k - 1) 0) × (getD xs (k - 1) 0 ≤ 126)
-  partner-in k p h = let q = pair-body-in P L k p h in (omega (arith, partner-is k p h, q .0), omega (arith, partner-is k p h, q .1))
+  pub partner-in : (k : ℕ) → 0 < k → k ≤ pairTotal G → (0 < getD xs (k - 1) 0) × (getD xs (k - 1) 0 ≤ 126)
+  partner-in k p h = let q = pair-body-in G L k p h in (omega (arith, partner-is k p h, q .0), omega (arith, partner-is k p h, q .1))
 
-  pub owner-in : (k : ℕ) → 0 < k → k ≤ pairCount P → (0 < getD ys (k - 1) 0) × (getD ys (k - 1) 0 ≤ 126)
-  owner-in k p h = let q = pair-head-in P L k p h in (omega (arith, owner-is k p h, q .0), omega (arith, owner-is k p h, q .1))
+  pub owner-in : (k : ℕ) → 0 < k → k ≤ pairTotal G → (0 < getD ys (k - 1) 0) × (getD ys (k - 1) 0 ≤ 126)
+  owner-in k p h = let q = pair-head-in G L k p h in (omega (arith, owner-is k p h, q .0), omega (arith, owner-is k p h, q .1))
 
 -- ---- of arrays
 
@@ -426,29 +408,51 @@ rules-length : (A : Arrays) (i k : ℕ) → length (rulesFrom A i k) ≡ k
 rules-length A i zero = refl
 rules-length A i (suc k) = ap suc (rules-length A (suc i) k)
 
-pub programIn-is : (A : Arrays) (t : Totals) → t ≡ totalsOf (decoded A) → programIn (t .sizes) (A .heads) (A .starts) (A .bodies) ≡ decoded A
+pub programIn-is : (A : Arrays) (t : Totals) → t ≡ totalsOf (codeOf (decoded A)) → programIn (t .sizes) (A .heads) (A .starts) (A .bodies) ≡ decoded A
 unfolding decoded totalsOf
 programIn-is A t e =
     ap (λ (x : Totals). programIn (x .sizes) (A .heads) (A .starts) (A .bodies)) e
     ∙ ap (λ (rs : List Rule). record { atoms = A .atoms; rules = rs })
     (same-rules A (A .atoms) (length (rulesFrom A 0 (A .rules))) (length (rulesFrom A 0 (A .rules))) 0 ∙ ap (rulesFrom A 0) (rules-length A 0 (A .rules)))
 
+pub codeIn-is : (A : Arrays) (t : Totals) → t ≡ totalsOf (codeOf (decoded A)) → codeIn t (A .heads) (A .starts) (A .bodies) ≡ codeOf (decoded A)
+unfolding totalsOf
+codeIn-is A t e = ap₂ whole (programIn-is A t e) (ap (λ (x : Totals). x .sizes .w) e)
+
+-- document 01's code of a program within the limits
+pub program-limited : (P : Program) → Limits P → Limited (codeOf P)
+program-limited P L =
+    record {
+      within = L;
+      some-bit = width-some (P .atoms);
+      few-bits = width-is (P .atoms) .least 7 (omega (arith, L .few-atoms));
+      none-open = λ a. refl;
+      all-inside = λ b h. refl;
+    }
+
 pub ready : (A : Arrays) → Stored A
-    → Ready (totalsOf (decoded A)) (A .heads) (A .starts) (A .bodies) (pairTable (decoded A) .before) (pairTable (decoded A) .bodies) (pairTable (decoded A) .heads)
+    → Ready (totalsOf (codeOf (decoded A))) (A .heads) (A .starts) (A .bodies) (pairTable (decoded A) .before) (pairTable (decoded A) .bodies) (pairTable (decoded A) .heads)
+unfolding pairTable
 ready A s =
+    let P = decoded A in
+    let w = width (P .atoms) in
     subst
-    (λ (P : Program). Tabled P (totalsOf (decoded A)) (A .heads) (A .starts) (A .bodies) (pairTable (decoded A) .before) (pairTable (decoded A) .bodies) (pairTable (decoded A) .heads))
-    (sym (programIn-is A (totalsOf (decoded A)) refl))
+    (λ (G : Code). Tabled G (totalsOf (codeOf P)) (A .heads) (A .starts) (A .bodies) (pairTable P .before) (pairTable P .bodies) (pairTable P .heads))
+    (sym (codeIn-is A (totalsOf (codeOf P)) refl))
     (record {
-      limits = s .limits;
+      limits = program-limited P (s .limits);
       totals-are = refl;
       heads-are = ap (λ (X : Arrays). X .heads) (s .arrays-are);
       starts-are = ap (λ (X : Arrays). X .starts) (s .arrays-are);
       bodies-are = ap (λ (X : Arrays). X .bodies) (s .arrays-are);
-      before-are = refl;
-      partners-are = refl;
-      owners-are = refl;
+      before-are = ap (λ (f : ℕ → ℕ). pad 501 (tab (suc (length (P .rules))) f)) (fun-ext (λ r. sym (before-whole P w r)));
+      partners-are = ap (λ (ps : List Pair). pad 500 (map (λ p. p .body) ps)) (sym (pairs-whole P w));
+      owners-are = ap (λ (ps : List Pair). pad 500 (map (λ p. p .head) ps)) (sym (pairs-whole P w));
     })
 
 pub kept-stored : (P : Program) → Limits P → Stored (kept P)
 kept-stored P l = record { limits = subst (λ (X : Program). Limits X) (sym (decoded-kept P)) l; arrays-are = ap kept (sym (decoded-kept P)) }
+
+-- a limited code is document 01's, but for its width
+pub limited-whole : {G : Code} → Limited G → G ≡ whole (programOf G) (G .w)
+limited-whole {G} L = λ i. record { n = G .n; w = G .w; rules = G .rules; opened = fun-ext (L .none-open) i; inside = fun-ext (λ b. fun-ext (L .all-inside b)) i }

@@ -2,6 +2,7 @@
 --   sizeOf, noneOf   how many positive body atoms a rule has; 1 where it has none
 --   atoms-held       the body atoms in all are those in the flat list
 --   pairs-are        K is the sum of the sizes of the positive lists
+--   pairs-few        the positive body atoms are at most all body atoms
 --   pairs-held       the pairs of the first rules, with those of the next one, are at most the body atoms
 --   count-few        K is at most 500
 --   none-sum         of the first r rules at most r have no positive body atom
@@ -48,7 +49,7 @@ pairs-are P =
     length-each (length (P .rules)) (λ r. pairsWith (ruleAt (P .rules) r .head) (ruleAt (P .rules) r .positive))
     ∙ sum-ext (length (P .rules)) _ _ (λ i h. length-map (ruleAt (P .rules) (suc i) .positive) _)
 
-pairs-few : (P : Program) → sum (length (P .rules)) (sizeOf P) ≤ length (bodiesOf (P .rules))
+pub pairs-few : (P : Program) → sum (length (P .rules)) (sizeOf P) ≤ length (bodiesOf (P .rules))
 unfolding bodyAtoms
 pairs-few P = omega (arith, atoms-held P, sum-add (length (P .rules)) (sizeOf P) (λ r. length (ruleAt (P .rules) r .negative)))
 

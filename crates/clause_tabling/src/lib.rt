@@ -11,6 +11,7 @@ ghost use mathlib.Core.Path.{_≡_};
 ghost use lib.ListN.{length, getD, set, take, drop, replicate};
 ghost use lib.Seq.{sets};
 ghost use Rattle.encoding.specs.Clauses.{pairCount, emptyBodies};
+ghost use Rattle.encoding.specs.Code.{codeOf};
 ghost use Rattle.program.specs.Arrays.{decoded};
 ghost use Rattle.clause_tables.specs.Tables.{Stored, pairTable, totalsOf};
 ghost use Rattle.clause_tabling.specs.Formula.{whenNone, clausesFor};
@@ -121,7 +122,7 @@ fn clause_count(n: usize, m: usize, w: usize, o: usize, k: usize, e: usize) -> u
 // The sizes, the number of pairs, V and C of a program with k pairs and e rules with no positive body atom.
 pub fn totals_of(p: Program, k: u16, e: u16) -> Totals
     requires { ⌜ (Stored p) × (k ≡ pairCount (decoded p)) × (e ≡ emptyBodies (decoded p)) ⌝ }
-    ensures { λ r. ⌜ r ≡ totalsOf (decoded p) ⌝ }
+    ensures { λ r. ⌜ r ≡ totalsOf (codeOf (decoded p)) ⌝ }
 {
     let n = p.atoms;
     let m = p.rules;

@@ -11,7 +11,7 @@ use lib.ListN.{length, drop, set}
 use borrow.Author.Tests.{ne-eqb}
 use Rattle.lists.specs.Lists.{each}
 use Rattle.lists.proofs.Tables.{each-ext}
-use Rattle.meaning.specs.Program.{Program}
+use Rattle.encoding.specs.Code.{Code}
 use Rattle.encoding.specs.Literal.{Literal, variable}
 use Rattle.digits.specs.Bytes.{literalsText, lineText}
 use Rattle.digits.proofs.Lengths.{line-length}
@@ -75,21 +75,21 @@ module _ (c : Chain) (i y : ℕ) where
             ∙ ap₂ (λ (u v : ℕ). literalsText (chainClause c i y) ++ (u ∷ v ∷ [])) p q
 
 -- in group 5
-module _ {P : Program} {t : Totals} {hs ss bs ks xs ys : List ℕ} (T : Tabled P t hs ss bs ks xs ys) {g a i y : ℕ} (A : At P (t .sizes .w) g a i y) where
-  pub chain-clause : {c : Chain} {j : ℕ} → g ≡ 5 → c ≡ chainOfBlock P (t .sizes .w) g a i → j ≡ chainBit (t .sizes .w) i
-      → chainClause c j y ≡ clauseAt P (t .sizes .w) g a i y
+module _ {G : Code} {t : Totals} {hs ss bs ks xs ys : List ℕ} (T : Tabled G t hs ss bs ks xs ys) {g a i y : ℕ} (A : At G g a i y) where
+  pub chain-clause : {c : Chain} {j : ℕ} → g ≡ 5 → c ≡ chainOfBlock G g a i → j ≡ chainBit (t .sizes .w) i
+      → chainClause c j y ≡ clauseAt G g a i y
   chain-clause {c} {j} e p q =
-      each-ext (chainSlots j y) (λ l. shownLiteral (chainSlot (c .z .0) (c .x .0) (c .y .0) (c .g .0) j y l)) (slot P (t .sizes .w) g a i y)
-      (λ l h. ap shownLiteral (literal-pair T (A .block-at) y (suc l) e p q refl) ∙ shown-held (slot P (t .sizes .w) g a i y (suc l)) (slotted T A (suc l) (omega arith) (subst (λ (n : ℕ). suc l ≤ n) many h)))
-      ∙ ap (λ (n : ℕ). each n (slot P (t .sizes .w) g a i y)) many
+      each-ext (chainSlots j y) (λ l. shownLiteral (chainSlot (c .z .0) (c .x .0) (c .y .0) (c .g .0) j y l)) (slot G g a i y)
+      (λ l h. ap shownLiteral (literal-pair T (A .block-at) y (suc l) e p q refl) ∙ shown-held (slot G g a i y (suc l)) (slotted T A (suc l) (omega arith) (subst (λ (n : ℕ). suc l ≤ n) many h)))
+      ∙ ap (λ (n : ℕ). each n (slot G g a i y)) many
     where
-      many : chainSlots j y ≡ slots P (t .sizes .w) g a i y
+      many : chainSlots j y ≡ slots G g a i y
       many = slots-pair T A e q refl
 
-  module _ {c : Chain} {j : ℕ} (e : g ≡ 5) (p : c ≡ chainOfBlock P (t .sizes .w) g a i) (q : j ≡ chainBit (t .sizes .w) i) where
-    pub chain-asks : {n : ℕ} → length (lineText (clauseAt P (t .sizes .w) g a i y)) ≤ n → length (lineText (chainClause c j y)) ≤ n
+  module _ {c : Chain} {j : ℕ} (e : g ≡ 5) (p : c ≡ chainOfBlock G g a i) (q : j ≡ chainBit (t .sizes .w) i) where
+    pub chain-asks : {n : ℕ} → length (lineText (clauseAt G g a i y)) ≤ n → length (lineText (chainClause c j y)) ≤ n
     chain-asks {n} f = subst (λ (ls : List Literal). length (lineText ls) ≤ n) (sym (chain-clause e p q)) f
 
     pub chain-put : (b : List ℕ) {r : ℕ} {d : List ℕ} → (r ≡ length (lineText (chainClause c j y))) × (d ≡ lineText (chainClause c j y) ++ drop r b)
-        → (r ≡ length (lineText (clauseAt P (t .sizes .w) g a i y))) × (d ≡ lineText (clauseAt P (t .sizes .w) g a i y) ++ drop r b)
+        → (r ≡ length (lineText (clauseAt G g a i y))) × (d ≡ lineText (clauseAt G g a i y) ++ drop r b)
     chain-put b {r} {d} u = subst (λ (ls : List Literal). (r ≡ length (lineText ls)) × (d ≡ lineText ls ++ drop r b)) (chain-clause e p q) u

@@ -1,4 +1,4 @@
--- The text of the clause at a place of the walk, slot by slot, in a program whose tables are given.
+-- The text of the clause at a place of the walk, slot by slot, in a code whose tables are given.
 --   slotted            a slot is empty or holds one literal, of a variable from 1 to 9,890
 --   line-short         the line has at most 3,008 bytes
 --   text-more          the literals of one slot more, as code has them
@@ -17,8 +17,7 @@ use mathlib.Core.Path.{_≡_, sym, _∙_, ap, ap₂, subst}
 use mathlib.Core.List.{List, [], _∷_, _++_, append-assoc}
 use lib.ListN.{length, set, length-append}
 use Rattle.lists.specs.Lists.{each}
-use Rattle.meaning.specs.Program.{Program}
-use Rattle.encoding.specs.Width.{width}
+use Rattle.encoding.specs.Code.{Code}
 use Rattle.encoding.specs.Literal.{Literal}
 use Rattle.digits.specs.Bytes.{literalsText, lineText}
 use Rattle.digits.proofs.Lengths.{literals-append, line-length}
@@ -63,40 +62,31 @@ each-fits f l k h = subst (λ (n : ℕ). length (literalsText (each l f)) ≤ le
               length-append (literalsText (each n f)) (literalsText (f (suc n))),
             )
 
-module _ {P : Program} {t : Totals} {hs ss bs ks xs ys : List ℕ} (T : Tabled P t hs ss bs ks xs ys) {g a i y : ℕ} (A : At P (t .sizes .w) g a i y) where
-  abbrev w : ℕ
-  w = t .sizes .w
-
-  width-is : w ≡ width (P .atoms)
-  width-is = elements.width-are P t hs ss bs ks xs ys T
-
+module _ {G : Code} {t : Totals} {hs ss bs ks xs ys : List ℕ} (T : Tabled G t hs ss bs ks xs ys) {g a i y : ℕ} (A : At G g a i y) where
   -- the literals of the first l slots
   abbrev text : ℕ → List ℕ
-  text l = literalsText (each l (slot P w g a i y))
+  text l = literalsText (each l (slot G g a i y))
 
-  pub slotted : (l : ℕ) → 0 < l → l ≤ slots P w g a i y → Slotted (slot P w g a i y l)
-  slotted l p h =
-      subst (λ (v : ℕ). At P v g a i y → l ≤ slots P v g a i y → Slotted (slot P v g a i y l)) (sym width-is)
-      (λ A h. literal-in P (T .limits) g a i y l A p h) A h
+  pub slotted : (l : ℕ) → 0 < l → l ≤ slots G g a i y → Slotted (slot G g a i y l)
+  slotted l p h = literal-in G (T .limits) g a i y l A p h
 
-  pub line-short : length (lineText (clauseAt P w g a i y)) ≤ 3008
-  line-short =
-      subst (λ (v : ℕ). At P v g a i y → length (lineText (clauseAt P v g a i y)) ≤ 3008) (sym width-is) (line-fits P (T .limits) g a i y) A
+  pub line-short : length (lineText (clauseAt G g a i y)) ≤ 3008
+  line-short = line-fits G (T .limits) g a i y A
 
-  pub text-more : (x : Signed) {l k : ℕ} → k ≡ slots P w g a i y → l < k → literalIn x ≡ slotLiteral (slot P w g a i y (l + 1))
+  pub text-more : (x : Signed) {l k : ℕ} → k ≡ slots G g a i y → l < k → literalIn x ≡ slotLiteral (slot G g a i y (l + 1))
       → text (l + 1) ≡ text l ++ literalsText (literalsIn x)
   text-more x {l} {k} e h q =
-      ap text (add-one l) ∙ literals-append (each l (slot P w g a i y)) (slot P w g a i y (suc l))
+      ap text (add-one l) ∙ literals-append (each l (slot G g a i y)) (slot G g a i y (suc l))
       ∙ ap (λ (c : List Literal). text l ++ literalsText c)
-      (sym (held-is x (slot P w g a i y (suc l)) (slotted (suc l) (omega arith) (subst (λ (n : ℕ). suc l ≤ n) e h)) (q ∙ ap (λ (n : ℕ). slotLiteral (slot P w g a i y n)) (add-one l))))
+      (sym (held-is x (slot G g a i y (suc l)) (slotted (suc l) (omega arith) (subst (λ (n : ℕ). suc l ≤ n) e h)) (q ∙ ap (λ (n : ℕ). slotLiteral (slot G g a i y n)) (add-one l))))
 
-  pub text-fits : {l k : ℕ} → k ≡ slots P w g a i y → l ≤ k → length (text l) ≤ length (literalsText (clauseAt P w g a i y))
-  text-fits {l} {k} e h = each-fits (slot P w g a i y) l (slots P w g a i y) (subst (λ (n : ℕ). l ≤ n) e h)
+  pub text-fits : {l k : ℕ} → k ≡ slots G g a i y → l ≤ k → length (text l) ≤ length (literalsText (clauseAt G g a i y))
+  text-fits {l} {k} e h = each-fits (slot G g a i y) l (slots G g a i y) (subst (λ (n : ℕ). l ≤ n) e h)
 
   -- ---- one slot more, and the empty ones that follow
 
-  pub slot-asks : {k l : ℕ} → k ≡ slots P w g a i y → l < k
-      → Tabled P t hs ss bs ks xs ys × At P w g a i y × (0 < l + 1) × (l + 1 ≤ slots P w g a i y)
+  pub slot-asks : {k l : ℕ} → k ≡ slots G g a i y → l < k
+      → Tabled G t hs ss bs ks xs ys × At G g a i y × (0 < l + 1) × (l + 1 ≤ slots G g a i y)
   slot-asks {k} {l} e h = (T, A, omega arith, subst (λ (n : ℕ). l + 1 ≤ n) e (more l k h))
     where
       more : (l k : ℕ) → l < k → l + 1 ≤ k
@@ -105,8 +95,8 @@ module _ {P : Program} {t : Totals} {hs ss bs ks xs ys : List ℕ} (T : Tabled P
   pub past-asks : (l : ℕ) → (t .sizes .m ≤ 500) × (t .sizes .m ≤ length hs) × (0 < l + 1)
   past-asks l = (bounded T .rules, heads-in T (A .block-at), omega arith)
 
-  module _ {k l r : ℕ} (e : k ≡ slots P w g a i y) (h : l < k) (p : r ≡ pastEmpty (t .sizes .m) hs g a i (l + 1)) where
-    past : Passed P w g a i y (l + 1) r
+  module _ {k l r : ℕ} (e : k ≡ slots G g a i y) (h : l < k) (p : r ≡ pastEmpty (t .sizes .m) hs g a i (l + 1)) where
+    past : Passed G g a i y (l + 1) r
     past = passed T A (omega arith) (slot-asks e h .3) p
 
     pub past-within : r ≤ k
@@ -120,7 +110,7 @@ module _ {P : Program} {t : Totals} {hs ss bs ks xs ys : List ℕ} (T : Tabled P
 
   -- ---- how many bytes
 
-  module _ (x : Signed) {k l to r : ℕ} (e : k ≡ slots P w g a i y) (h : l < k) (q : literalIn x ≡ slotLiteral (slot P w g a i y (l + 1))) where
+  module _ (x : Signed) {k l to r : ℕ} (e : k ≡ slots G g a i y) (h : l < k) (q : literalIn x ≡ slotLiteral (slot G g a i y (l + 1))) where
     pub length-more : to ≡ length (text l) → r ≡ length (literalsText (literalsIn x)) → to + r ≡ length (text (l + 1))
     length-more n m = omega (arith, n, m, ap (λ (t : List ℕ). length t) (text-more x e h q), length-append (text l) (literalsText (literalsIn x)))
 
@@ -129,60 +119,60 @@ module _ {P : Program} {t : Totals} {hs ss bs ks xs ys : List ℕ} (T : Tabled P
 
     pub length-fits : to ≡ length (text l) → r ≡ length (literalsText (literalsIn x)) → to + r ≤ 3008
     length-fits n m =
-        omega (arith, length-more n m, text-fits e (more l k h), line-length (clauseAt P w g a i y), line-short)
+        omega (arith, length-more n m, text-fits e (more l k h), line-length (clauseAt G g a i y), line-short)
       where
         more : (l k : ℕ) → l < k → l + 1 ≤ k
         more l k h = omega (arith, h)
 
-  pub length-line : {k l to : ℕ} → k ≡ slots P w g a i y → l ≤ k → k ≤ l → to ≡ length (text l) → to + 2 ≡ length (lineText (clauseAt P w g a i y))
+  pub length-line : {k l to : ℕ} → k ≡ slots G g a i y → l ≤ k → k ≤ l → to ≡ length (text l) → to + 2 ≡ length (lineText (clauseAt G g a i y))
   length-line {k} {l} {to} e h n q =
-      omega (arith, line-length (clauseAt P w g a i y), q, ap (λ (j : ℕ). length (text j)) (ends l k h n ∙ e))
+      omega (arith, line-length (clauseAt G g a i y), q, ap (λ (j : ℕ). length (text j)) (ends l k h n ∙ e))
     where
       ends : (l k : ℕ) → l ≤ k → k ≤ l → l ≡ k
       ends l k h n = omega (arith, h, n)
 
   -- ---- the buffer b, which has room for the line
 
-  module _ (b : List ℕ) (f : length (lineText (clauseAt P w g a i y)) ≤ length b) where
+  module _ (b : List ℕ) (f : length (lineText (clauseAt G g a i y)) ≤ length b) where
     -- there is room for one slot more
-    pub part-fits : (x : Signed) {k l : ℕ} → k ≡ slots P w g a i y → l < k → literalIn x ≡ slotLiteral (slot P w g a i y (l + 1))
+    pub part-fits : (x : Signed) {k l : ℕ} → k ≡ slots G g a i y → l < k → literalIn x ≡ slotLiteral (slot G g a i y (l + 1))
         → length (text l ++ literalsText (literalsIn x)) ≤ length b
     part-fits x {k} {l} e h q =
         subst (λ (t : List ℕ). length t ≤ length b) (text-more x e h q)
-        (omega (arith, text-fits e (more l k h), line-length (clauseAt P w g a i y), f))
+        (omega (arith, text-fits e (more l k h), line-length (clauseAt G g a i y), f))
       where
         more : (l k : ℕ) → l < k → l + 1 ≤ k
         more l k h = omega (arith, h)
 
     -- one slot more has been written
-    pub text-next : (x : Signed) {k l r to : ℕ} {c : List ℕ} → k ≡ slots P w g a i y → l < k → literalIn x ≡ slotLiteral (slot P w g a i y (l + 1))
+    pub text-next : (x : Signed) {k l r to : ℕ} {c : List ℕ} → k ≡ slots G g a i y → l < k → literalIn x ≡ slotLiteral (slot G g a i y (l + 1))
         → r ≡ pastEmpty (t .sizes .m) hs g a i (l + 1) → Begins b c (text l ++ literalsText (literalsIn x)) to → Begins b c (text r) to
     text-next x e h q p B = begins-same B (sym (text-past e h p ∙ text-more x e h q))
 
     -- all slots have been written
-    module _ {k l to : ℕ} {c : List ℕ} (e : k ≡ slots P w g a i y) (h : l ≤ k) (n : k ≤ l) (B : Begins b c (text l) to) where
-      whole-text : Begins b c (literalsText (clauseAt P w g a i y)) to
+    module _ {k l to : ℕ} {c : List ℕ} (e : k ≡ slots G g a i y) (h : l ≤ k) (n : k ≤ l) (B : Begins b c (text l) to) where
+      whole-text : Begins b c (literalsText (clauseAt G g a i y)) to
       whole-text = subst (λ (j : ℕ). Begins b c (text j) to) (ends l k h n ∙ e) B
         where
           ends : (l k : ℕ) → l ≤ k → k ≤ l → l ≡ k
           ends l k h n = omega (arith, h, n)
 
       pub end-small : to + 2 ≤ 3008
-      end-small = omega (arith, whole-text .place, line-length (clauseAt P w g a i y), line-short)
+      end-small = omega (arith, whole-text .place, line-length (clauseAt G g a i y), line-short)
 
       pub end-fits : to + 2 ≤ length c
-      end-fits = omega (arith, whole-text .place, line-length (clauseAt P w g a i y), f, B .same)
+      end-fits = omega (arith, whole-text .place, line-length (clauseAt G g a i y), f, B .same)
 
       -- a byte and one after it have been written: the line
-      pub line-text : (u v : ℕ) → u ≡ 48 → v ≡ 10 → Begins b (set (set c to u) (to + 1) v) (lineText (clauseAt P w g a i y)) (to + 2)
+      pub line-text : (u v : ℕ) → u ≡ 48 → v ≡ 10 → Begins b (set (set c to u) (to + 1) v) (lineText (clauseAt G g a i y)) (to + 2)
       line-text u v p q =
-          subst (λ (n : ℕ). Begins b (set (set c to u) (to + 1) v) (lineText (clauseAt P w g a i y)) n) (two-more to)
+          subst (λ (n : ℕ). Begins b (set (set c to u) (to + 1) v) (lineText (clauseAt G g a i y)) n) (two-more to)
           (begins-same (begins-byte (begins-byte whole-text u (omega (arith, end-fits, B .same))) v (omega (arith, end-fits, B .same))) line-is)
         where
           two-more : (n : ℕ) → n + 1 + 1 ≡ n + 2
           two-more n = omega arith
 
-          line-is : (literalsText (clauseAt P w g a i y) ++ (u ∷ [])) ++ (v ∷ []) ≡ lineText (clauseAt P w g a i y)
+          line-is : (literalsText (clauseAt G g a i y) ++ (u ∷ [])) ++ (v ∷ []) ≡ lineText (clauseAt G g a i y)
           line-is =
-              append-assoc (literalsText (clauseAt P w g a i y)) (u ∷ []) (v ∷ [])
-              ∙ ap₂ (λ (u v : ℕ). literalsText (clauseAt P w g a i y) ++ (u ∷ v ∷ [])) p q
+              append-assoc (literalsText (clauseAt G g a i y)) (u ∷ []) (v ∷ [])
+              ∙ ap₂ (λ (u v : ℕ). literalsText (clauseAt G g a i y) ++ (u ∷ v ∷ [])) p q

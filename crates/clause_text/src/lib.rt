@@ -24,7 +24,7 @@ ghost use Rattle.encoding.specs.Literal.{literalNumber};
 ghost use Rattle.digits.specs.Bytes.{literalsText, lineText};
 ghost use Rattle.clause_slots.specs.Signed.{literalIn};
 ghost use Rattle.clause_walk.specs.Walk.{clauseAt, At};
-ghost use Rattle.clause_tables.specs.Tables.{programIn, Ready};
+ghost use Rattle.clause_tables.specs.Tables.{Ready, codeIn};
 ghost use Rattle.clause_text.specs.Lines.{headerText, refusedText, literalsIn, chainClause};
 ghost use Rattle.clause_text.specs.Blocks.{isBlockwise};
 
@@ -118,9 +118,9 @@ pub fn clause_length<'a>(
     y: u16,
 ) -> usize
     requires { ⌜ (Ready t (now heads) (now starts) (now bodies) (now before) (now partners) (now owners))
-        × (At (programIn (t .sizes) (now heads) (now starts) (now bodies)) (t .sizes .w) g a i y) ⌝ }
+        × (At (codeIn t (now heads) (now starts) (now bodies)) g a i y) ⌝ }
     ensures { λ r. ⌜ r
-        ≡ length (lineText (clauseAt (programIn (t .sizes) (now (heads .entry)) (now (starts .entry)) (now (bodies .entry))) (t .sizes .w) g a i y)) ⌝ }
+        ≡ length (lineText (clauseAt (codeIn t (now (heads .entry)) (now (starts .entry)) (now (bodies .entry))) g a i y)) ⌝ }
 {
     let k = slots(
         t,
@@ -192,12 +192,12 @@ pub fn put_clause<'a>(
     buf: &mut [u8],
 ) -> usize
     requires { ⌜ (Ready t (now heads) (now starts) (now bodies) (now before) (now partners) (now owners))
-        × (At (programIn (t .sizes) (now heads) (now starts) (now bodies)) (t .sizes .w) g a i y)
-        × (length (lineText (clauseAt (programIn (t .sizes) (now heads) (now starts) (now bodies)) (t .sizes .w) g a i y)) ≤ length (now buf)) ⌝ }
+        × (At (codeIn t (now heads) (now starts) (now bodies)) g a i y)
+        × (length (lineText (clauseAt (codeIn t (now heads) (now starts) (now bodies)) g a i y)) ≤ length (now buf)) ⌝ }
     ensures { λ r. ⌜ (r
-        ≡ length (lineText (clauseAt (programIn (t .sizes) (now (heads .entry)) (now (starts .entry)) (now (bodies .entry))) (t .sizes .w) g a i y)))
+        ≡ length (lineText (clauseAt (codeIn t (now (heads .entry)) (now (starts .entry)) (now (bodies .entry))) g a i y)))
         × (now (buf .exit)
-        ≡ lineText (clauseAt (programIn (t .sizes) (now (heads .entry)) (now (starts .entry)) (now (bodies .entry))) (t .sizes .w) g a i y)
+        ≡ lineText (clauseAt (codeIn t (now (heads .entry)) (now (starts .entry)) (now (bodies .entry))) g a i y)
         ++ drop r (now (buf .entry))) ⌝ }
 {
     if g == 5 {

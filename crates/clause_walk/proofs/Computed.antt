@@ -5,8 +5,9 @@ use mathlib.Core.List.{[], _∷_, map}
 use Rattle.meaning.specs.Samples.{fact, ring, loop, lecture, blocked}
 use Rattle.encoding.specs.Counter.{successor, chain}
 use Rattle.encoding.specs.Clauses.{clauses, pairs, pairsBefore, rulesOf}
+use Rattle.encoding.specs.Code.{whole, inner, pairList, before}
 use Rattle.clause_walk.specs.Walk.{itemCount, blockCount, size, slots, slot, walked}
 
-pub samples-walked : map (λ P. walked P 3) (fact ∷ ring ∷ loop ∷ lecture ∷ blocked ∷ []) ≡ map (λ P. clauses P 3) (fact ∷ ring ∷ loop ∷ lecture ∷ blocked ∷ [])
-unfolding walked itemCount blockCount size slots slot clauses pairs pairsBefore rulesOf successor chain
+pub samples-walked : map (λ P. walked (whole P 3)) (fact ∷ ring ∷ loop ∷ lecture ∷ blocked ∷ []) ≡ map (λ P. clauses P 3) (fact ∷ ring ∷ loop ∷ lecture ∷ blocked ∷ [])
+unfolding walked itemCount blockCount size slots slot inner pairList before clauses pairs pairsBefore rulesOf successor chain
 samples-walked = refl

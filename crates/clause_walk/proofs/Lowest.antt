@@ -10,16 +10,20 @@ use lib.Dec.{eqb}
 use borrow.Author.Tests.{eq-eqb, ne-eqb, le-leb, lt-leb}
 use Rattle.lists.specs.Lists.{tab, each}
 use Rattle.lists.proofs.Tables.{tab-ext, each-ext, each-front, tab-each, map-tab}
-use Rattle.meaning.specs.Program.{Program, ruleAt}
+use Rattle.meaning.specs.Program.{ruleAt}
 use Rattle.encoding.specs.Literal.{var, −_, Clause}
 use Rattle.encoding.specs.Variables.{Sizes, bodyVar, foundsVar, levelVar, belowVar, nextBelowVar}
-use Rattle.encoding.specs.Clauses.{sizes, pairsBefore, pairsOf, foundsClauses, lowestClauses, group6}
-use Rattle.clause_walk.specs.Walk.{ruleCount, headOf, positives, signed, two, three, size6, slots6, slot6, itemCount, blockCount, size, slots, slot, block, group}
+use Rattle.encoding.specs.Clauses.{foundsClauses, lowestClauses}
+use Rattle.encoding.specs.Code.{Code, codeSizes, before, pairNumbers, part6}
+use Rattle.clause_walk.specs.Walk.{ruleCount, headOf, innerCount, signed, two, three, size6, slots6, slot6, itemCount, blockCount, size, slots, slot, block, group}
 use Rattle.clause_walk.proofs.Tabs.{head-is, tab-front}
 
-module _ (P : Program) (w : ℕ) where
+module _ (G : Code) where
+  abbrev w : ℕ
+  w = G .w
+
   abbrev S : Sizes
-  S = sizes P w
+  S = codeSizes G
 
   -- ---- group 6
 
@@ -136,9 +140,9 @@ module _ (P : Program) (w : ℕ) where
     block6 p zero = block6-none (pred w) (omega (arith, p))
     block6 p (suc b) = block6-some b
 
-  pub is-group6 : 0 < w → group P w 6 ≡ group6 P w
+  pub is-group6 : 0 < w → group G 6 ≡ part6 G
   unfolding itemCount blockCount size slots slot
   is-group6 p =
-      each-ext (ruleCount P) (λ r. block P w 6 r 1) (λ r. foundsClauses S r (pairsOf P r) ++ lowestClauses S r (ruleAt (P .rules) r .head) (pairsOf P r))
-      (λ i l. block6 (suc i) (headOf P (suc i)) (pairsBefore P (suc i)) p (positives P (suc i))
-      ∙ ap (λ (h : ℕ). foundsClauses S (suc i) (pairsOf P (suc i)) ++ lowestClauses S (suc i) h (pairsOf P (suc i))) (head-is (P .rules) (suc i)))
+      each-ext (ruleCount G) (λ r. block G 6 r 1) (λ r. foundsClauses S r (pairNumbers G r) ++ lowestClauses S r (ruleAt (G .rules) r .head) (pairNumbers G r))
+      (λ i l. block6 (suc i) (headOf G (suc i)) (before G (suc i)) p (innerCount G (suc i))
+      ∙ ap (λ (h : ℕ). foundsClauses S (suc i) (pairNumbers G (suc i)) ++ lowestClauses S (suc i) h (pairNumbers G (suc i))) (head-is (G .rules) (suc i)))

@@ -1,13 +1,13 @@
 -- The clause list as a walk: groups 1 to 7, in each its items (rules, atoms or pairs), in an item its blocks, in a block its clauses, in a clause its
 -- slots, each from 1; a slot holds a literal or none. Code goes from place to place by these numbers and stores no clause.
---   itemCount P g            how many items group g has
---   blockCount P w g         how many blocks an item of group g has
---   size P w g a i           how many clauses block i of item a has
---   slots P w g a i y        how many slots clause y of that block has
---   slot P w g a i y l       the literal in slot l of that clause, if there is one
---   walked P w               all clauses, in the walk's order
---   BlockAt P w g a i        group g has an item a, with a block i
---   At P w g a i y           and that block has a clause y
+--   itemCount G g            how many items group g has
+--   blockCount G g           how many blocks an item of group g has
+--   size G g a i             how many clauses block i of item a has
+--   slots G g a i y          how many slots clause y of that block has
+--   slot G g a i y l         the literal in slot l of that clause, if there is one
+--   walked G                 all clauses, in the walk's order
+--   BlockAt G g a i          group g has an item a, with a block i
+--   At G g a i y             and that block has a clause y
 -- Assumes nothing.
 use Prim.Native.Nat.{ℕ, suc, pred, _+_, _-_, _*_, _/_, _%_, _≤_, _<_}
 use mathlib.Core.Bool.{Bool, cond}
@@ -15,35 +15,38 @@ use mathlib.Core.List.{List, [], _∷_, _++_, map}
 use lib.Dec.{eqb, ltb, leb}
 use lib.ListN.{length, getD}
 use Rattle.lists.specs.Lists.{tab, each}
-use Rattle.meaning.specs.Program.{Program, ruleAt}
 use Rattle.encoding.specs.Literal.{Literal, var, −_, Clause}
 use Rattle.encoding.specs.Variables.{Sizes, bodyVar, foundsVar, levelVar, nextVar, belowVar, nextBelowVar}
-use Rattle.encoding.specs.Clauses.{sizes, pairs, pairCount, pairAt, pairsBefore}
+use Rattle.encoding.specs.Code.{Code, codeSizes, rl, inner, pairTotal, pairBody, pairHead, before}
 
 -- ---- rules and pairs
 
-abbrev pub ruleCount : Program → ℕ
-ruleCount P = length (P .rules)
+abbrev pub ruleCount : Code → ℕ
+ruleCount G = length (G .rules)
 
 -- the heads of the rules, and that of rule r
-abbrev pub headsOf : Program → List ℕ
-headsOf P = map (λ R. R .head) (P .rules)
+abbrev pub headsOf : Code → List ℕ
+headsOf G = map (λ R. R .head) (G .rules)
 
 abbrev pub headAt : List ℕ → ℕ → ℕ
 headAt hs r = getD hs (pred r) 0
 
-abbrev pub headOf : Program → ℕ → ℕ
-headOf P r = headAt (headsOf P) r
+abbrev pub headOf : Code → ℕ → ℕ
+headOf G r = headAt (headsOf G) r
 
-abbrev pub positives : Program → ℕ → ℕ
-positives P r = length (ruleAt (P .rules) r .positive)
+-- how many positive body atoms rule r has, and how many of them are inside
+abbrev pub positives : Code → ℕ → ℕ
+positives G r = length (rl G r .positive)
+
+abbrev pub innerCount : Code → ℕ → ℕ
+innerCount G r = length (inner G r)
 
 -- the body atoms of rule r, B before C
-abbrev pub bodyOf : Program → ℕ → List ℕ
-bodyOf P r = ruleAt (P .rules) r .positive ++ ruleAt (P .rules) r .negative
+abbrev pub bodyOf : Code → ℕ → List ℕ
+bodyOf G r = rl G r .positive ++ rl G r .negative
 
-abbrev pub bodyCount : Program → ℕ → ℕ
-bodyCount P r = length (bodyOf P r)
+abbrev pub bodyCount : Code → ℕ → ℕ
+bodyCount G r = length (bodyOf G r)
 
 -- a variable, or its negation
 abbrev pub signed : Bool → ℕ → Literal
@@ -81,18 +84,18 @@ slot1 S r bs p y l =
 
 -- ---- group 2, atom a: block i for rule i, with a clause if a is its head; then the last block
 
-abbrev pub size2 : Program → ℕ → ℕ → ℕ
-size2 P a i = cond (leb i (ruleCount P)) (cond (eqb (headOf P i) a) 1 0) 1
+abbrev pub size2 : Code → ℕ → ℕ → ℕ
+size2 G a i = cond (leb i (ruleCount G)) (cond (eqb (headOf G i) a) 1 0) 1
 
-abbrev pub slots2 : Program → ℕ → ℕ
-slots2 P i = cond (leb i (ruleCount P)) 2 (suc (ruleCount P))
+abbrev pub slots2 : Code → ℕ → ℕ
+slots2 G i = cond (leb i (ruleCount G)) 2 (suc (ruleCount G))
 
 abbrev pub impliedSlot : Sizes → ℕ → ℕ → ℕ → Literal
 impliedSlot S a r l = two (var a) (− bodyVar S r) l
 
-abbrev pub slot2 : Program → ℕ → ℕ → ℕ → ℕ → List Literal
-slot2 P w a i l =
-    cond (leb i (ruleCount P)) (impliedSlot (sizes P w) a i l ∷ []) (ofHead (headsOf P) a (bodyVar (sizes P w)) l)
+abbrev pub slot2 : Code → ℕ → ℕ → ℕ → List Literal
+slot2 G a i l =
+    cond (leb i (ruleCount G)) (impliedSlot (codeSizes G) a i l ∷ []) (ofHead (headsOf G) a (bodyVar (codeSizes G)) l)
 
 -- ---- group 3, atom a: clause y for bit y
 
@@ -173,57 +176,57 @@ slot6 S r h k b y l =
 
 -- ---- all groups
 
-unfoldable pub itemCount : Program → ℕ → ℕ
-itemCount P g = cond (eqb g 1) (ruleCount P) (cond (eqb g 5) (pairCount P) (cond (eqb g 6) (ruleCount P) (P .atoms)))
+unfoldable pub itemCount : Code → ℕ → ℕ
+itemCount G g = cond (eqb g 1) (ruleCount G) (cond (eqb g 5) (pairTotal G) (cond (eqb g 6) (ruleCount G) (G .n)))
 
-unfoldable pub blockCount : Program → ℕ → ℕ → ℕ
-blockCount P w g = cond (eqb g 2) (suc (ruleCount P)) (cond (eqb g 4) w (cond (eqb g 5) (w + w) 1))
+unfoldable pub blockCount : Code → ℕ → ℕ
+blockCount G g = cond (eqb g 2) (suc (ruleCount G)) (cond (eqb g 4) (G .w) (cond (eqb g 5) (G .w + G .w) 1))
 
-unfoldable pub size : Program → ℕ → ℕ → ℕ → ℕ → ℕ
-size P w g a i =
-    cond (eqb g 1) (suc (bodyCount P a))
-    (cond (eqb g 2) (size2 P a i)
-    (cond (eqb g 3) w
-    (cond (eqb g 4) (2 * i) (cond (eqb g 5) (chainSize (chainBit w i)) (cond (eqb g 6) (size6 w (positives P a)) 1)))))
+unfoldable pub size : Code → ℕ → ℕ → ℕ → ℕ
+size G g a i =
+    cond (eqb g 1) (suc (bodyCount G a))
+    (cond (eqb g 2) (size2 G a i)
+    (cond (eqb g 3) (G .w)
+    (cond (eqb g 4) (2 * i) (cond (eqb g 5) (chainSize (chainBit (G .w) i)) (cond (eqb g 6) (size6 (G .w) (innerCount G a)) 1)))))
 
-unfoldable pub slots : Program → ℕ → ℕ → ℕ → ℕ → ℕ → ℕ
-slots P w g a i y =
-    cond (eqb g 1) (slots1 (bodyCount P a) y)
-    (cond (eqb g 2) (slots2 P i)
+unfoldable pub slots : Code → ℕ → ℕ → ℕ → ℕ → ℕ
+slots G g a i y =
+    cond (eqb g 1) (slots1 (bodyCount G a) y)
+    (cond (eqb g 2) (slots2 G i)
     (cond (eqb g 3) 2
-    (cond (eqb g 4) (slots4 i y) (cond (eqb g 5) (chainSlots (chainBit w i) y) (cond (eqb g 6) (slots6 (positives P a) y) (suc (ruleCount P)))))))
+    (cond (eqb g 4) (slots4 i y) (cond (eqb g 5) (chainSlots (chainBit (G .w) i) y) (cond (eqb g 6) (slots6 (innerCount G a) y) (suc (ruleCount G)))))))
 
-unfoldable pub slot : Program → ℕ → ℕ → ℕ → ℕ → ℕ → ℕ → List Literal
-slot P w g a i y l =
-    cond (eqb g 1) (slot1 (sizes P w) a (bodyOf P a) (positives P a) y l ∷ [])
-    (cond (eqb g 2) (slot2 P w a i l)
-    (cond (eqb g 3) (slot3 (sizes P w) a y l ∷ [])
-    (cond (eqb g 4) (slot4 (sizes P w) a i y l ∷ [])
-    (cond (eqb g 5) (slot5 (sizes P w) a (pairAt (pairs P) a .body) (pairAt (pairs P) a .head) i y l ∷ []) (cond (eqb g 6) (slot6 (sizes P w) a (headOf P a) (pairsBefore P a) (positives P a) y l ∷ []) (ofHead (headsOf P) a (foundsVar (sizes P w)) l))))))
+unfoldable pub slot : Code → ℕ → ℕ → ℕ → ℕ → ℕ → List Literal
+slot G g a i y l =
+    cond (eqb g 1) (slot1 (codeSizes G) a (bodyOf G a) (positives G a) y l ∷ [])
+    (cond (eqb g 2) (slot2 G a i l)
+    (cond (eqb g 3) (slot3 (codeSizes G) a y l ∷ [])
+    (cond (eqb g 4) (slot4 (codeSizes G) a i y l ∷ [])
+    (cond (eqb g 5) (slot5 (codeSizes G) a (pairBody G a) (pairHead G a) i y l ∷ []) (cond (eqb g 6) (slot6 (codeSizes G) a (headOf G a) (before G a) (innerCount G a) y l ∷ []) (ofHead (headsOf G) a (foundsVar (codeSizes G)) l))))))
 
-abbrev pub clauseAt : Program → ℕ → ℕ → ℕ → ℕ → ℕ → Clause
-clauseAt P w g a i y = each (slots P w g a i y) (slot P w g a i y)
+abbrev pub clauseAt : Code → ℕ → ℕ → ℕ → ℕ → Clause
+clauseAt G g a i y = each (slots G g a i y) (slot G g a i y)
 
-abbrev pub block : Program → ℕ → ℕ → ℕ → ℕ → List Clause
-block P w g a i = tab (size P w g a i) (clauseAt P w g a i)
+abbrev pub block : Code → ℕ → ℕ → ℕ → List Clause
+block G g a i = tab (size G g a i) (clauseAt G g a i)
 
-abbrev pub group : Program → ℕ → ℕ → List Clause
-group P w g = each (itemCount P g) (λ a. each (blockCount P w g) (block P w g a))
+abbrev pub group : Code → ℕ → List Clause
+group G g = each (itemCount G g) (λ a. each (blockCount G g) (block G g a))
 
-unfoldable pub walked : Program → ℕ → List Clause
-walked P w = each 7 (group P w)
+unfoldable pub walked : Code → List Clause
+walked G = each 7 (group G)
 
 -- ---- the places
 
-pub record BlockAt (P : Program) (w g a i : ℕ) : Type 0 where
+pub record BlockAt (G : Code) (g a i : ℕ) : Type 0 where
   pub group-some : 0 < g
   pub group-in : g ≤ 7
   pub item-some : 0 < a
-  pub item-in : a ≤ itemCount P g
+  pub item-in : a ≤ itemCount G g
   pub block-some : 0 < i
-  pub block-in : i ≤ blockCount P w g
+  pub block-in : i ≤ blockCount G g
 
-pub record At (P : Program) (w g a i y : ℕ) : Type 0 where
-  pub block-at : BlockAt P w g a i
+pub record At (G : Code) (g a i y : ℕ) : Type 0 where
+  pub block-at : BlockAt G g a i
   pub clause-some : 0 < y
-  pub clause-in : y ≤ size P w g a i
+  pub clause-in : y ≤ size G g a i

@@ -25,13 +25,16 @@ use Rattle.lists.proofs.Highest.{highest-same}
 use Rattle.meaning.specs.Program.{Program, Atoms, isAtom, wellFormed}
 use Rattle.meaning.specs.Stage.{Stable, level}
 use Rattle.encoding.specs.Width.{width}
+use Rattle.encoding.specs.Code.{codeOf}
 use Rattle.encoding.specs.Literal.{Clause, valueOf, clauseTrue, allTrue}
-use Rattle.encoding.specs.Clauses.{sizes, clauses}
+use Rattle.encoding.specs.Clauses.{sizes, clauses, variables}
 use Rattle.encoding.specs.Fill.{fill, trueAtoms, counter}
 use Rattle.theory.proofs.Atoms.{is-atom, by-place}
 use Rattle.theory.proofs.Decided.{stable-atom}
 use Rattle.theory.proofs.Base as Base
 use Rattle.theory.proofs.Widths.{width-enough}
+use Rattle.theory.proofs.Whole.{variables-whole}
+use Rattle.clause_table_laws.proofs.Elements.{program-limited}
 use Rattle.text.specs.Limits.{Admitted}
 use Rattle.reader_laws.proofs.Unique.{text-unique}
 use Rattle.answer_form.specs.Pieces.{Spotted, spotsOf}
@@ -81,6 +84,9 @@ module _ (t : List ℕ) (P : Program) (A : Admitted t P) where
   wide : P .atoms + 2 ≤ 2 ^ width (P .atoms)
   wide = width-enough (P .atoms)
 
+  total : varTotal P ≡ variables P w
+  total = variables-whole P w
+
   -- ---- an answer that is accepted
 
   module _ (u : List ℕ) (xs : List Spotted) (o : Offers u xs) where
@@ -127,7 +133,7 @@ module _ (t : List ℕ) (P : Program) (A : Admitted t P) where
     )
 
     pub accepted-stable : Stable P (trueAtoms P bs) × (bs ≡ fill P w (trueAtoms P bs))
-    accepted-stable = Base.exactly P w form wide bs (accepted-true .0) .0 (accepted-true .1)
+    accepted-stable = Base.exactly P w form wide bs (accepted-true .0 ∙ total) .0 (accepted-true .1)
 
     pub accepted-counter : (a : ℕ) → So (isAtom n a) → counter (sizes P w) (valueOf bs) a ≡ level P (trueAtoms P bs) a
     accepted-counter = Base.counter-is-level P w form wide bs (accepted-true .1)
@@ -178,7 +184,7 @@ module _ (t : List ℕ) (P : Program) (A : Admitted t P) where
 
   pub one-accepted : (bs cs : List Bool) → AcceptedAssignment t P bs → AcceptedAssignment t P cs → trueAtoms P bs ≡ trueAtoms P cs → bs ≡ cs
   one-accepted bs cs X Y e =
-      Base.one-list P w form wide bs cs (accepted-true bs X .0) (accepted-true cs Y .0) (accepted-true bs X .1) (accepted-true cs Y .1) e
+      Base.one-list P w form wide bs cs (accepted-true bs X .0 ∙ total) (accepted-true cs Y .0 ∙ total) (accepted-true bs X .1) (accepted-true cs Y .1) e
 
   -- ---- the answer that prints the filled-out list
 
@@ -187,7 +193,7 @@ module _ (t : List ℕ) (P : Program) (A : Admitted t P) where
     bs = fill P w M
 
     size : length bs ≡ varTotal P
-    size = Base.fill-length P w form wide M
+    size = Base.fill-length P w form wide M ∙ sym total
 
     offers : Offers (offeredText bs) (spotsOf (offered bs))
     unfolding offeredText
@@ -200,7 +206,7 @@ module _ (t : List ℕ) (P : Program) (A : Admitted t P) where
     values = ap₂ valuesOf (sym size) (sym (offered-spots bs)) ∙ offered-values bs
 
     fits : length (offeredText bs) ≤ 65536
-    fits = offered-fits bs (subst (λ (k : ℕ). k ≤ 9890) (sym size) (variables-fit P (A .limits)))
+    fits = offered-fits bs (subst (λ (k : ℕ). k ≤ 9890) (sym size) (variables-fit (codeOf P) (program-limited P (A .limits))))
 
     pub stable-accepted : AcceptedAssignment t P bs
     stable-accepted = true-assignment (offeredText bs) (spotsOf (offered bs)) offers fits fit true-each values

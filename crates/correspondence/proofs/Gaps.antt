@@ -16,11 +16,13 @@ use Rattle.meaning.specs.Program.{Program, Atoms, isAtom, wellFormed}
 use Rattle.meaning.specs.Stage.{Stable, level}
 use Rattle.meaning.specs.Gaps.{WithoutGaps}
 use Rattle.encoding.specs.Width.{width}
+use Rattle.encoding.specs.Code.{codeOf}
 use Rattle.encoding.specs.Literal.{valueOf}
 use Rattle.encoding.specs.Fill.{fill, trueAtoms}
 use Rattle.theory.proofs.Atoms.{by-place}
 use Rattle.theory.proofs.Base as Base
 use Rattle.theory.proofs.Widths.{width-enough}
+use Rattle.theory.proofs.Whole.{variables-whole}
 use Rattle.text.specs.Limits.{Admitted}
 use Rattle.answer_form.specs.Pieces.{Spotted}
 use Rattle.answer_offers.specs.Offered.{valueBytes, valuesOf}
@@ -49,7 +51,7 @@ module _ (P : Program) (form : So (wellFormed P)) (M : Atoms) (σ : Stable P M) 
     value-in =
         by-place n (λ a. valueIn c a ≡ valueOf bs a)
         (λ a h. ap (λ (vs : List ℕ). valueIn vs (suc a)) values-are
-        ∙ value-here (valueBytes bs) x a (omega (arith, h, atoms-within P, size, length-map {B = ℕ} bs (λ b. cond b 1 0))) ∙ value-same bs (suc a))
+        ∙ value-here (valueBytes bs) x a (omega (arith, h, atoms-within (codeOf P), size, length-map {B = ℕ} bs (λ b. cond b 1 0))) ∙ value-same bs (suc a))
 
     pub level-in : (a : ℕ) → So (isAtom n a) → levelByte m a ≡ level P M a
     level-in a i = ap (λ (ls : List ℕ). levelByte ls a) levels-are ∙ level-here n (level P M) y a i
@@ -101,6 +103,6 @@ fill-gaps t s b l k h e = go (fill-accepted t s b l k h e)
         let M = setIn (P .atoms) s in (
           P,
           F .admitted,
-          gaps-written P form M (F .stable) (fill P w M) (Base.fill-length P w form wide M) (Base.fill-has P w form wide M (F .stable)) (drop (varTotal P) b) (drop (P .atoms) l)
+          gaps-written P form M (F .stable) (fill P w M) (Base.fill-length P w form wide M ∙ sym (variables-whole P w)) (Base.fill-has P w form wide M (F .stable)) (drop (varTotal P) b) (drop (P .atoms) l)
               (F .assignment-is) (F .levels-is) (F .count-is) (F .highest-is),
         )

@@ -52,7 +52,7 @@ module _ (t : List ℕ) (P : Program) (A : Admitted t P) where
   abbrev n : ℕ
   n = P .atoms
 
-  -- C, by its formula, is the number of clauses
+  -- C is the number of clauses
   total : clauseTotal P ≡ clauseNumber P
   total = File.clause-total P (A .limits)
 

@@ -4,6 +4,7 @@ use Prim.Native.Nat.{ℕ}
 use mathlib.Core.Path.{_≡_, sym, _∙_, ap, ap₂}
 use mathlib.Core.List.{List}
 use Rattle.meaning.specs.Program.{Program}
+use Rattle.encoding.specs.Code.{codeOf}
 use Rattle.reader.specs.declared.ReadResult.{ReadResult}
 use Rattle.reader.specs.declared.ReadVerdict.{ReadVerdict}
 use Rattle.reader.specs.Verdict.{readOf}
@@ -20,7 +21,7 @@ told f q e = e ∙ sym (ap f q)
 pub numbered : {i j s u : ℕ} {r : Reply} → i ≡ j → s ≡ u → r ≡ refusedReply i s → r ≡ refusedReply j u
 numbered e f q = q ∙ ap₂ refusedReply e f
 
-pub totalled : (P : Program) {t : Totals} {r : Reply} → t ≡ totalsOf P → r ≡ acceptedReply (t .vars) (t .clauses) 0 → r ≡ totalsReply P
+pub totalled : (P : Program) {t : Totals} {r : Reply} → t ≡ totalsOf (codeOf P) → r ≡ acceptedReply (t .vars) (t .clauses) 0 → r ≡ totalsReply P
 unfolding totalsOf
 totalled P e q = q ∙ ap (λ (x : Totals). acceptedReply (x .vars) (x .clauses) 0) e
 

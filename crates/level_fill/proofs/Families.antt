@@ -1,4 +1,4 @@
--- What each family asks and writes, for a program in its tables (Tabled P ..); s are the bytes of the set, ls those of the levels.
+-- What each family asks and writes, for a code in its tables (Tabled G ..); s are the bytes of the set, ls those of the levels.
 --   body-unmet, body-is           the body of a rule, list by list
 --   founds-unmet, founds-is       whether a rule founds its head
 --   rule-asks, rule-inside, rule-row, rules-done    one rule of many
@@ -8,7 +8,6 @@
 --   levels-long, filled-is        with the levels of the stages
 -- Assumes nothing.
 use Prim.Native.Nat.{ℕ, suc, _+_, _-_, _≤_, _<_}
-use native.Mathlib.Nat.{le-trans}
 use native.Mathlib.Numerals.{add-one}
 use native.Mathlib.Omega.{arith}
 use mathlib.Core.Path.{_≡_, refl, sym, _∙_, ap, ap₂, subst}
@@ -18,22 +17,21 @@ use lib.Dec.{eqb, ltb}
 use lib.ListN.{length, getD, drop, length-append}
 use Rattle.lists.specs.Lists.{all, tab, each}
 use Rattle.lists.proofs.Tables.{length-tab}
-use Rattle.meaning.specs.Program.{Rule, Program, Atoms, isAtom, ruleFits, noneIn, bodyTrue}
-use Rattle.meaning.specs.Stage.{level}
-use Rattle.encoding.specs.Clauses.{pairs, pairAt, pairCount, variables}
-use Rattle.encoding.specs.Fill.{founds, fill}
+use Rattle.meaning.specs.Program.{Rule, Atoms, isAtom, noneIn, bodyTrue}
+use Rattle.encoding.specs.Code.{Code, rl, inner, pairTotal, pairBody, pairHead, levelOf, codeFill}
 use Rattle.theory.proofs.Atoms.{RuleIn, atom-pos, atom-le, is-atom}
+use Rattle.theory.proofs.Pairs.{body-in, head-in}
 use Rattle.clause_tables.specs.declared.Totals.{Totals}
 use Rattle.clause_tables.specs.Tables.{Tabled}
-use Rattle.clause_table_laws.proofs.Elements.{pairs-fit, rules-are, atoms-are, width-are, pairs-are, vars-are, all-fit, partner-is, owner-is, partners-length, owners-length}
+use Rattle.clause_table_laws.proofs.Elements.{ranges, inner-all, pairs-fit, rules-are, atoms-are, width-are, pairs-are, vars-are, partner-is, owner-is, partners-length, owners-length}
 use Rattle.truth_clauses.specs.Truth.{valueIn}
 use Rattle.level_stages.specs.Levels.{setIn, levelByte}
 use Rattle.level_stages.proofs.Rules.{set-is, none-is, all-is}
 use Rattle.level_stages.proofs.OneRound.{tab-byte}
 use Rattle.answer_offers.specs.Offered.{valueBytes}
-use Rattle.level_fill.specs.Values.{byteOf, pairBytes, pairAtBytes, familyBytes, filledWith}
+use Rattle.level_fill.specs.Values.{byteOf, foundsAt, pairBytes, pairAtBytes, familyBytes, filledWith}
 use Rattle.level_fill.proofs.Writes.{rows-fit}
-use Rattle.level_fill.proofs.Whole.{pair-atoms, filled-same, filled-fill, values-are, values-length}
+use Rattle.level_fill.proofs.Whole.{filled-same, filled-fill, values-are, values-length}
 use Rattle.digits.proofs.Begins.{Begins}
 
 -- ---- one rule
@@ -47,15 +45,15 @@ module _ {n : ℕ} {R : Rule} (I : RuleIn n R) (s : List ℕ) {u : Bool} (e : u 
       f ∙ none-is n s (R .negative) (I .negative-in)
       ∙ sym (ap (λ (b : Bool). b && noneIn (setIn n s) (R .negative)) (sym (all-is n s (R .positive) (I .positive-in)) ∙ sym e ∙ z))
 
-module _ (M : Atoms) (ls : List ℕ) (R : Rule) {u : Bool} (e : u ≡ bodyTrue M R) where
-  pub founds-unmet : u ≡ false → false ≡ founds M (levelByte ls) R (R .positive)
-  founds-unmet z = sym (ap (λ (b : Bool). b && all (λ b. ltb (levelByte ls b) (levelByte ls (R .head))) (R .positive)) (sym e ∙ z))
+module _ {G : Code} {t : Totals} {hs ss bs ks xs ys : List ℕ} (T : Tabled G t hs ss bs ks xs ys) (M : Atoms) (ls : List ℕ) (r : ℕ) {u : Bool} (e : u ≡ bodyTrue M (rl G r)) where
+  pub founds-unmet : u ≡ false → false ≡ foundsAt G M (levelByte ls) r
+  founds-unmet z = sym (ap (λ (b : Bool). b && all (λ b. ltb (levelByte ls b) (levelByte ls (rl G r .head))) (inner G r)) (sym e ∙ z))
 
-  pub founds-is : {v : Bool} {h y : ℕ} → u ≡ true → h ≡ R .head → y ≡ levelByte ls h → v ≡ all (λ b. ltb (levelByte ls b) y) (R .positive)
-      → v ≡ founds M (levelByte ls) R (R .positive)
+  pub founds-is : {v : Bool} {h y : ℕ} → u ≡ true → h ≡ rl G r .head → y ≡ levelByte ls h → v ≡ all (λ b. ltb (levelByte ls b) y) (rl G r .positive)
+      → v ≡ foundsAt G M (levelByte ls) r
   founds-is z q l f =
-      f ∙ ap (λ (y : ℕ). all (λ b. ltb (levelByte ls b) y) (R .positive)) (l ∙ ap (levelByte ls) q)
-      ∙ sym (ap (λ (b : Bool). b && all (λ b. ltb (levelByte ls b) (levelByte ls (R .head))) (R .positive)) (sym e ∙ z))
+      f ∙ ap₂ (λ (y : ℕ) (cs : List ℕ). all (λ b. ltb (levelByte ls b) y) cs) (l ∙ ap (levelByte ls) q) (sym (inner-all G (T .limits) r))
+      ∙ sym (ap (λ (b : Bool). b && all (λ b. ltb (levelByte ls b) (levelByte ls (rl G r .head))) (inner G r)) (sym e ∙ z))
 
 -- rule k + 1, whose test is x and its byte v
 pub rule-row : (p : ℕ → Bool) (k : ℕ) {x : Bool} {v : ℕ} → x ≡ p (k + 1) → v ≡ byteOf x → v ≡ byteOf (p (suc k))
@@ -67,96 +65,96 @@ atom-row n s a h e = e ∙ ap byteOf (set-is n s (suc a) (is-atom n (suc a) (ome
 
 -- ---- of the tables
 
-module _ {P : Program} {t : Totals} {hs ss bs ks xs ys : List ℕ} (T : Tabled P t hs ss bs ks xs ys) where
+module _ {G : Code} {t : Totals} {hs ss bs ks xs ys : List ℕ} (T : Tabled G t hs ss bs ks xs ys) where
   pub rule-asks : (k : ℕ) → k < t .sizes .m → (0 < k + 1) × (k + 1 ≤ t .sizes .m)
   rule-asks k h = (omega arith, omega (arith, h))
 
-  fit : So (all (ruleFits (t .sizes .n)) (P .rules))
-  fit = subst (λ (n : ℕ). So (all (ruleFits n) (P .rules))) (sym (atoms-are P t hs ss bs ks xs ys T)) (all-fit P (T .limits))
+  atoms : t .sizes .n ≡ G .n
+  atoms = atoms-are G t hs ss bs ks xs ys T
 
-  pub rule-inside : (k : ℕ) → k < t .sizes .m → k < length (P .rules)
-  rule-inside k h = subst (λ (m : ℕ). k < m) (rules-are P t hs ss bs ks xs ys T) h
+  pub rule-inside : (k : ℕ) → k < t .sizes .m → k < length (G .rules)
+  rule-inside k h = subst (λ (m : ℕ). k < m) (rules-are G t hs ss bs ks xs ys T) h
 
   -- as many as there are
-  pub rules-done : (k : ℕ) → k ≤ t .sizes .m → t .sizes .m ≤ k → (k ≤ length (P .rules)) × (length (P .rules) ≤ k)
-  rules-done k h l = (subst (λ (m : ℕ). k ≤ m) (rules-are P t hs ss bs ks xs ys T) h, subst (λ (m : ℕ). m ≤ k) (rules-are P t hs ss bs ks xs ys T) l)
+  pub rules-done : (k : ℕ) → k ≤ t .sizes .m → t .sizes .m ≤ k → (k ≤ length (G .rules)) × (length (G .rules) ≤ k)
+  rules-done k h l = (subst (λ (m : ℕ). k ≤ m) (rules-are G t hs ss bs ks xs ys T) h, subst (λ (m : ℕ). m ≤ k) (rules-are G t hs ss bs ks xs ys T) l)
 
-  pub pairs-done : (k : ℕ) → k ≤ t .pairs → t .pairs ≤ k → (k ≤ pairCount P) × (pairCount P ≤ k)
-  pairs-done k h l = (subst (λ (m : ℕ). k ≤ m) (pairs-are P t hs ss bs ks xs ys T) h, subst (λ (m : ℕ). m ≤ k) (pairs-are P t hs ss bs ks xs ys T) l)
+  pub pairs-done : (k : ℕ) → k ≤ t .pairs → t .pairs ≤ k → (k ≤ pairTotal G) × (pairTotal G ≤ k)
+  pairs-done k h l = (subst (λ (m : ℕ). k ≤ m) (pairs-are G t hs ss bs ks xs ys T) h, subst (λ (m : ℕ). m ≤ k) (pairs-are G t hs ss bs ks xs ys T) l)
 
   -- ---- pair k + 1
   module _ (k : ℕ) (h : k < t .pairs) where
-    pub inside : k < pairCount P
-    inside = subst (λ (m : ℕ). k < m) (pairs-are P t hs ss bs ks xs ys T) h
+    pub inside : k < pairTotal G
+    inside = subst (λ (m : ℕ). k < m) (pairs-are G t hs ss bs ks xs ys T) h
 
     pub partner-asks : (0 < k + 1) × (k + 1 ≤ length xs)
-    partner-asks = (omega arith, omega (arith, inside, pairs-fit P (T .limits), partners-length P t hs ss bs ks xs ys T))
+    partner-asks = (omega arith, omega (arith, inside, pairs-fit G (T .limits), partners-length G t hs ss bs ks xs ys T))
 
     pub owner-asks : (0 < k + 1) × (k + 1 ≤ length ys)
-    owner-asks = (omega arith, omega (arith, inside, pairs-fit P (T .limits), owners-length P t hs ss bs ks xs ys T))
+    owner-asks = (omega arith, omega (arith, inside, pairs-fit G (T .limits), owners-length G t hs ss bs ks xs ys T))
 
-    body-of : {b : ℕ} → b ≡ getD xs (k + 1 - 1) 0 → b ≡ pairAt (pairs P) (suc k) .body
-    body-of e = e ∙ partner-is P t hs ss bs ks xs ys T (k + 1) (omega arith) (omega (arith, inside)) ∙ ap (λ (j : ℕ). pairAt (pairs P) j .body) (add-one k)
+    body-of : {b : ℕ} → b ≡ getD xs (k + 1 - 1) 0 → b ≡ pairBody G (suc k)
+    body-of e = e ∙ partner-is G t hs ss bs ks xs ys T (k + 1) (omega arith) (omega (arith, inside)) ∙ ap (λ (j : ℕ). pairBody G j) (add-one k)
 
-    head-of : {b : ℕ} → b ≡ getD ys (k + 1 - 1) 0 → b ≡ pairAt (pairs P) (suc k) .head
-    head-of e = e ∙ owner-is P t hs ss bs ks xs ys T (k + 1) (omega arith) (omega (arith, inside)) ∙ ap (λ (j : ℕ). pairAt (pairs P) j .head) (add-one k)
+    head-of : {b : ℕ} → b ≡ getD ys (k + 1 - 1) 0 → b ≡ pairHead G (suc k)
+    head-of e = e ∙ owner-is G t hs ss bs ks xs ys T (k + 1) (omega arith) (omega (arith, inside)) ∙ ap (λ (j : ℕ). pairHead G j) (add-one k)
 
-    has-byte : (ls : List ℕ) {a b : ℕ} → t .sizes .n ≤ length ls → a ≡ b → So (isAtom (t .sizes .n) b) → (0 < a) × (a ≤ length ls)
+    has-byte : (ls : List ℕ) {a b : ℕ} → t .sizes .n ≤ length ls → a ≡ b → So (isAtom (G .n) b) → (0 < a) × (a ≤ length ls)
     has-byte ls {a} {b} l e u =
-        let v = subst (λ (x : ℕ). So (isAtom (t .sizes .n) x)) (sym e) u in (atom-pos (t .sizes .n) a v, le-trans (atom-le (t .sizes .n) a v) l)
+        let v = subst (λ (x : ℕ). So (isAtom (G .n) x)) (sym e) u in (atom-pos (G .n) a v, omega (arith, atoms, atom-le (G .n) a v, l))
 
     pub partner-fits : (ls : List ℕ) {b : ℕ} → t .sizes .n ≤ length ls → b ≡ getD xs (k + 1 - 1) 0 → (0 < b) × (b ≤ length ls)
-    partner-fits ls l e = has-byte ls l (body-of e) (pair-atoms (t .sizes .n) P fit k inside .0)
+    partner-fits ls l e = has-byte ls l (body-of e) (body-in G (ranges G (T .limits)) k inside)
 
     pub owner-fits : (ls : List ℕ) {b : ℕ} → t .sizes .n ≤ length ls → b ≡ getD ys (k + 1 - 1) 0 → (0 < b) × (b ≤ length ls)
-    owner-fits ls l e = has-byte ls l (head-of e) (pair-atoms (t .sizes .n) P fit k inside .1)
+    owner-fits ls l e = has-byte ls l (head-of e) (head-in G (ranges G (T .limits)) k inside)
 
     -- x and y are the levels of its body atom b and its head a
     pub pair-row : (w : ℕ) (ls : List ℕ) {a b x y : ℕ} → b ≡ getD xs (k + 1 - 1) 0 → x ≡ levelByte ls b → a ≡ getD ys (k + 1 - 1) 0 → y ≡ levelByte ls a
-        → pairBytes w x y ≡ pairAtBytes P w (levelByte ls) (k + 1)
+        → pairBytes w x y ≡ pairAtBytes G w (levelByte ls) (k + 1)
     pair-row w ls e f g l =
-        ap₂ (pairBytes w) (f ∙ ap (levelByte ls) (body-of e ∙ ap (λ (j : ℕ). pairAt (pairs P) j .body) (sym (add-one k))))
-        (l ∙ ap (levelByte ls) (head-of g ∙ ap (λ (j : ℕ). pairAt (pairs P) j .head) (sym (add-one k))))
+        ap₂ (pairBytes w) (f ∙ ap (levelByte ls) (body-of e ∙ ap (λ (j : ℕ). pairBody G j) (sym (add-one k))))
+        (l ∙ ap (levelByte ls) (head-of g ∙ ap (λ (j : ℕ). pairHead G j) (sym (add-one k))))
 
   -- ---- all families, with w the width
   module _ (s ls : List ℕ) {w : ℕ} (q : w ≡ t .sizes .w) where
     abbrev M : Atoms
     M = setIn (t .sizes .n) s
 
-    families-are : valueBytes (filledWith P (t .sizes .w) M (levelByte ls)) ≡ each 6 (familyBytes P (t .sizes .n) w M (levelByte ls))
+    families-are : valueBytes (filledWith G M (levelByte ls)) ≡ each 6 (familyBytes G (t .sizes .n) w M (levelByte ls))
     families-are =
-        values-are P (t .sizes .w) M (levelByte ls)
-        ∙ ap₂ (λ (n v : ℕ). each 6 (familyBytes P n v M (levelByte ls))) (sym (atoms-are P t hs ss bs ks xs ys T)) (sym q)
+        values-are G M (levelByte ls)
+        ∙ ap₂ (λ (n v : ℕ). each 6 (familyBytes G n v M (levelByte ls))) (sym atoms) (sym (q ∙ width-are G t hs ss bs ks xs ys T))
 
-    families-length : length (each 6 (familyBytes P (t .sizes .n) w M (levelByte ls))) ≡ t .vars
+    families-length : length (each 6 (familyBytes G (t .sizes .n) w M (levelByte ls))) ≡ t .vars
     families-length =
-        ap length (sym families-are) ∙ values-length P (t .sizes .w) M (levelByte ls) ∙ ap (variables P) (width-are P t hs ss bs ks xs ys T)
-        ∙ sym (vars-are P t hs ss bs ks xs ys T)
+        ap length (sym families-are) ∙ values-length G M (levelByte ls) ∙ sym (vars-are G t hs ss bs ks xs ys T)
 
     -- family k + 1 after the first k
     pub family-room : (b : List ℕ) → t .vars ≤ length b → (k : ℕ) → k < 6
-        → length (each k (familyBytes P (t .sizes .n) w M (levelByte ls)) ++ familyBytes P (t .sizes .n) w M (levelByte ls) (k + 1)) ≤ length b
+        → length (each k (familyBytes G (t .sizes .n) w M (levelByte ls)) ++ familyBytes G (t .sizes .n) w M (levelByte ls) (k + 1)) ≤ length b
     family-room b h k l =
-        rows-fit b (familyBytes P (t .sizes .n) w M (levelByte ls)) 6 k refl l (subst (λ (m : ℕ). m ≤ length b) (sym families-length) h)
+        rows-fit b (familyBytes G (t .sizes .n) w M (levelByte ls)) 6 k refl l (subst (λ (m : ℕ). m ≤ length b) (sym families-length) h)
 
-    pub families-written : {b e : List ℕ} {to : ℕ} → Begins b e (each 6 (familyBytes P (t .sizes .n) w M (levelByte ls))) to
-        → (to ≡ t .vars) × (e ≡ valueBytes (filledWith P (t .sizes .w) M (levelByte ls)) ++ drop (t .vars) b)
+    pub families-written : {b e : List ℕ} {to : ℕ} → Begins b e (each 6 (familyBytes G (t .sizes .n) w M (levelByte ls))) to
+        → (to ≡ t .vars) × (e ≡ valueBytes (filledWith G M (levelByte ls)) ++ drop (t .vars) b)
     families-written {b} B =
         let place = B .place ∙ families-length in (place, B .bytes ∙ ap₂ (λ (x : List ℕ) (j : ℕ). x ++ drop j b) (sym families-are) place)
 
   -- ---- with the levels of the stages
-  module _ (s rest : List ℕ) {ls : List ℕ} (q : ls ≡ tab (t .sizes .n) (level P (setIn (t .sizes .n) s)) ++ rest) where
+  module _ (s rest : List ℕ) {ls : List ℕ} (q : ls ≡ tab (t .sizes .n) (levelOf G (setIn (t .sizes .n) s)) ++ rest) where
     pub levels-long : t .sizes .n ≤ length ls
     levels-long =
         omega (
           arith,
           ap length q,
-          length-append (tab (t .sizes .n) (level P (setIn (t .sizes .n) s))) rest,
-          length-tab (t .sizes .n) (level P (setIn (t .sizes .n) s)),
+          length-append (tab (t .sizes .n) (levelOf G (setIn (t .sizes .n) s))) rest,
+          length-tab (t .sizes .n) (levelOf G (setIn (t .sizes .n) s)),
         )
 
-    pub filled-is : filledWith P (t .sizes .w) (setIn (t .sizes .n) s) (levelByte ls) ≡ fill P (t .sizes .w) (setIn (t .sizes .n) s)
+    pub filled-is : filledWith G (setIn (t .sizes .n) s) (levelByte ls) ≡ codeFill G (setIn (t .sizes .n) s)
     filled-is =
-        filled-same (t .sizes .n) P fit (t .sizes .w) (setIn (t .sizes .n) s) (levelByte ls) (level P (setIn (t .sizes .n) s)) (sym (atoms-are P t hs ss bs ks xs ys T))
-        (λ a u. ap (λ (l : List ℕ). levelByte l a) q ∙ tab-byte (t .sizes .n) (level P (setIn (t .sizes .n) s)) rest a u)
-        ∙ filled-fill P (t .sizes .w) (setIn (t .sizes .n) s)
+        filled-same G (ranges G (T .limits)) (setIn (t .sizes .n) s) (levelByte ls) (levelOf G (setIn (t .sizes .n) s))
+        (λ a u. ap (λ (l : List ℕ). levelByte l a) q
+        ∙ tab-byte (t .sizes .n) (levelOf G (setIn (t .sizes .n) s)) rest a (subst (λ (n : ℕ). So (isAtom n a)) (sym atoms) u))
+        ∙ filled-fill G (setIn (t .sizes .n) s)

@@ -2,26 +2,27 @@
 --   values-are       the bytes of the filled-out values, family by family
 --   values-length    they are V
 --   filled-same      levels that agree on the atoms fill out alike
---   filled-fill      with the levels of the stages, the filled-out assignment of document 01
+--   filled-fill      with the levels of the stages, the filled-out assignment
 -- Assumes nothing.
 use Prim.Native.Nat.{ℕ, zero, suc, _+_, _≤_, _<_}
 use native.Mathlib.Nat.{add-zero}
 use native.Mathlib.Omega.{arith}
-use mathlib.Core.Path.{_≡_, refl, sym, _∙_, ap, ap₂, subst}
+use mathlib.Core.Path.{_≡_, refl, sym, _∙_, ap, ap₂}
 use mathlib.Core.Bool.{Bool, _&&_, So}
 use mathlib.Core.List.{List, [], _∷_, _++_, append-assoc, append-nil, map-append}
 use lib.Dec.{ltb}
 use lib.ListN.{length, getD, length-map}
-use Rattle.lists.specs.Lists.{all, tab, each, joined}
-use Rattle.lists.proofs.Bools.{and-in, and-left, and-right}
-use Rattle.lists.proofs.Tests.{all-at, all-in, all-ext, all-each, all-map, allTo-in}
+use Rattle.lists.specs.Lists.{tab, each, joined}
+use Rattle.lists.proofs.Tests.{all-at, all-ext}
 use Rattle.lists.proofs.Tables.{tab-ext, each-ext}
-use Rattle.meaning.specs.Program.{Program, Atoms, noRule, ruleAt, isAtom, ruleFits, bodyTrue}
-use Rattle.meaning.specs.Stage.{level}
+use Rattle.meaning.specs.Program.{Atoms, isAtom, bodyTrue}
+use Rattle.encoding.specs.Code.{Code, codeSizes, rl, inner, pairList, pairTotal, pairBody, pairHead, variablesOf, levelOf, codeFill}
 use Rattle.encoding.specs.Counter.{bit}
-use Rattle.encoding.specs.Clauses.{Pair, noPair, pairAt, pairsWith, sizes, pairs, pairCount, variables}
-use Rattle.encoding.specs.Fill.{lessAt, founds, levelBits, nextBits, chainBits, fillWith, fill}
-use Rattle.theory.proofs.Atoms.{rule-in, is-atom}
+use Rattle.encoding.specs.Clauses.{Pair, pairAt}
+use Rattle.encoding.specs.Fill.{lessAt, founds, levelBits, nextBits, chainBits, fillWith}
+use Rattle.theory.proofs.Atoms.{is-atom}
+use Rattle.theory.proofs.Numbered.{Ranges}
+use Rattle.theory.proofs.Pairs.{inner-in, body-in, head-in}
 use Rattle.theory.proofs.Filled.{fill-length}
 use Rattle.answer_offers.specs.Offered.{valueBytes}
 use Rattle.level_fill.specs.Values.{byteOf, bitBytes, levelBytes, pairBytes, chainBytes, familyBytes, filledWith}
@@ -48,98 +49,79 @@ six a b c d e f =
     nested : (a b c d e f : List Bool) → joined (a ∷ b ∷ c ∷ d ∷ e ∷ f ∷ []) ≡ ((((a ++ b) ++ c) ++ d) ++ e) ++ f
     nested a b c d e f = simp (append-assoc, append-nil)
 
-module _ (P : Program) (w : ℕ) (M : Atoms) (ℓ : ℕ → ℕ) where
-  abbrev ps : List Pair
-  ps = pairs P
+module _ (G : Code) (M : Atoms) (ℓ : ℕ → ℕ) where
+  abbrev w : ℕ
+  w = G .w
 
-  pub values-are : valueBytes (filledWith P w M ℓ) ≡ each 6 (familyBytes P (P .atoms) w M ℓ)
+  abbrev ps : List Pair
+  ps = pairList G
+
+  pub values-are : valueBytes (filledWith G M ℓ) ≡ each 6 (familyBytes G (G .n) w M ℓ)
   unfolding filledWith fillWith
   values-are =
-      six (tab (P .atoms) M) (tab (length (P .rules)) (λ r. bodyTrue M (ruleAt (P .rules) r))) (tab (length (P .rules)) (λ r. founds M ℓ (ruleAt (P .rules) r) (ruleAt (P .rules) r .positive)))
-      (levelBits (sizes P w) ℓ) (nextBits (sizes P w) ℓ) (each (length ps) (chainBits (sizes P w) ps ℓ))
-      ∙ ap₂ _++_ (ap₂ _++_ (ap₂ _++_ (ap₂ _++_ (ap₂ _++_ (bytes-tab (P .atoms) M) (bytes-tab (length (P .rules)) (λ r. bodyTrue M (ruleAt (P .rules) r))))
-      (bytes-tab (length (P .rules)) (λ r. founds M ℓ (ruleAt (P .rules) r) (ruleAt (P .rules) r .positive)))) levels) nexts) chains
+      six (tab (G .n) M) (tab (length (G .rules)) (λ r. bodyTrue M (rl G r))) (tab (length (G .rules)) (λ r. founds M ℓ (rl G r) (inner G r)))
+      (levelBits (codeSizes G) ℓ) (nextBits (codeSizes G) ℓ) (each (length ps) (chainBits (codeSizes G) ps ℓ))
+      ∙ ap₂ _++_ (ap₂ _++_ (ap₂ _++_ (ap₂ _++_ (ap₂ _++_ (bytes-tab (G .n) M) (bytes-tab (length (G .rules)) (λ r. bodyTrue M (rl G r))))
+      (bytes-tab (length (G .rules)) (λ r. founds M ℓ (rl G r) (inner G r)))) levels) nexts) chains
     where
-      levels : valueBytes (each (P .atoms) (λ a. tab w (bit (ℓ a)))) ≡ levelBytes (P .atoms) w 0 ℓ
+      levels : valueBytes (each (G .n) (λ a. tab w (bit (ℓ a)))) ≡ levelBytes (G .n) w 0 ℓ
       levels =
-          bytes-each (P .atoms) (λ a. tab w (bit (ℓ a)))
-          ∙ each-ext (P .atoms) (λ a. valueBytes (tab w (bit (ℓ a)))) (λ a. bitBytes w (ℓ a + 0)) (λ a h. bytes-tab w (bit (ℓ (suc a))) ∙ ap (bitBytes w) (sym (add-zero (ℓ (suc a)))))
+          bytes-each (G .n) (λ a. tab w (bit (ℓ a)))
+          ∙ each-ext (G .n) (λ a. valueBytes (tab w (bit (ℓ a)))) (λ a. bitBytes w (ℓ a + 0)) (λ a h. bytes-tab w (bit (ℓ (suc a))) ∙ ap (bitBytes w) (sym (add-zero (ℓ (suc a)))))
 
-      nexts : valueBytes (each (P .atoms) (λ a. tab w (bit (ℓ a + 1)))) ≡ levelBytes (P .atoms) w 1 ℓ
+      nexts : valueBytes (each (G .n) (λ a. tab w (bit (ℓ a + 1)))) ≡ levelBytes (G .n) w 1 ℓ
       nexts =
-          bytes-each (P .atoms) (λ a. tab w (bit (ℓ a + 1)))
-          ∙ each-ext (P .atoms) (λ a. valueBytes (tab w (bit (ℓ a + 1)))) (λ a. bitBytes w (ℓ a + 1)) (λ a h. bytes-tab w (bit (ℓ (suc a) + 1)))
+          bytes-each (G .n) (λ a. tab w (bit (ℓ a + 1)))
+          ∙ each-ext (G .n) (λ a. valueBytes (tab w (bit (ℓ a + 1)))) (λ a. bitBytes w (ℓ a + 1)) (λ a h. bytes-tab w (bit (ℓ (suc a) + 1)))
 
       pair : (x y : ℕ) → valueBytes (tab w (lessAt x y) ++ tab w (lessAt (x + 1) y)) ≡ pairBytes w x y
       pair x y = map-append byteOf (tab w (lessAt x y)) (tab w (lessAt (x + 1) y)) ∙ ap₂ _++_ (bytes-tab w (lessAt x y)) (bytes-tab w (lessAt (x + 1) y))
 
-      chains : valueBytes (each (length ps) (chainBits (sizes P w) ps ℓ)) ≡ chainBytes P w ℓ
+      chains : valueBytes (each (length ps) (chainBits (codeSizes G) ps ℓ)) ≡ chainBytes G w ℓ
       chains =
-          bytes-each (length ps) (chainBits (sizes P w) ps ℓ)
-          ∙ each-ext (length ps) (λ k. valueBytes (chainBits (sizes P w) ps ℓ k)) (λ k. pairBytes w (ℓ (pairAt ps k .body)) (ℓ (pairAt ps k .head)))
+          bytes-each (length ps) (chainBits (codeSizes G) ps ℓ)
+          ∙ each-ext (length ps) (λ k. valueBytes (chainBits (codeSizes G) ps ℓ k)) (λ k. pairBytes w (ℓ (pairAt ps k .body)) (ℓ (pairAt ps k .head)))
           (λ k h. pair (ℓ (pairAt ps (suc k) .body)) (ℓ (pairAt ps (suc k) .head)))
 
-  pub values-length : length (valueBytes (filledWith P w M ℓ)) ≡ variables P w
-  unfolding filledWith variables
+  pub values-length : length (valueBytes (filledWith G M ℓ)) ≡ variablesOf G
+  unfolding filledWith
   values-length =
-      length-map (filledWith P w M ℓ) byteOf ∙ fill-length (sizes P w) (ruleAt (P .rules)) (λ r. ruleAt (P .rules) r .positive) (pairs P) M ℓ
+      length-map (filledWith G M ℓ) byteOf ∙ fill-length (codeSizes G) (rl G) (inner G) (pairList G) M ℓ
 
 -- ---- levels that agree on the atoms
 
-module _ (n : ℕ) (P : Program) (fit : So (all (ruleFits n) (P .rules))) where
-  abbrev pairFits : Pair → Bool
-  pairFits p = isAtom n (p .body) && isAtom n (p .head)
-
-  -- both atoms of a pair are atoms
-  pairs-fit : So (all pairFits (pairs P))
-  unfolding pairs
-  pairs-fit =
-      all-each pairFits (length (P .rules)) (λ r. pairsWith (ruleAt (P .rules) r .head) (ruleAt (P .rules) r .positive))
-      ∙ allTo-in (length (P .rules)) (λ r. all pairFits (pairsWith (ruleAt (P .rules) r .head) (ruleAt (P .rules) r .positive)))
-      (λ j h.
-      let I = rule-in n (P .rules) fit j h in
-      let R = getD (P .rules) j noRule in
-      all-map pairFits (λ b. record { body = b; head = R .head }) (R .positive)
-      ∙ all-in (λ b. isAtom n b && isAtom n (R .head)) (R .positive) 0 (λ i k. and-in (all-at (isAtom n) (R .positive) 0 (I .positive-in) i k) (I .head-in)))
-
-  pub pair-atoms : (k : ℕ) → k < pairCount P → So (isAtom n (pairAt (pairs P) (suc k) .body)) × So (isAtom n (pairAt (pairs P) (suc k) .head))
-  pair-atoms k h =
-      let p = getD (pairs P) k noPair in
-      let t = all-at pairFits (pairs P) noPair pairs-fit k h in
-      (and-left (isAtom n (p .body)) (isAtom n (p .head)) t, and-right (isAtom n (p .body)) (isAtom n (p .head)) t)
-
-  pub filled-same : (w : ℕ) (M : Atoms) (ℓ κ : ℕ → ℕ) → P .atoms ≡ n → ((a : ℕ) → So (isAtom n a) → ℓ a ≡ κ a) → filledWith P w M ℓ ≡ filledWith P w M κ
+module _ (G : Code) (I : Ranges G) where
+  pub filled-same : (M : Atoms) (ℓ κ : ℕ → ℕ) → ((a : ℕ) → So (isAtom (G .n) a) → ℓ a ≡ κ a) → filledWith G M ℓ ≡ filledWith G M κ
   unfolding filledWith fillWith
-  filled-same w M ℓ κ q e =
-      ap (λ (l : List Bool). tab (P .atoms) M ++ (tab (length (P .rules)) (λ r. bodyTrue M (ruleAt (P .rules) r)) ++ l))
+  filled-same M ℓ κ e =
+      ap (λ (l : List Bool). tab (G .n) M ++ (tab (length (G .rules)) (λ r. bodyTrue M (rl G r)) ++ l))
       (ap₂ _++_ founded (ap₂ _++_ levels (ap₂ _++_ nexts (ap (λ (l : List Bool). l ++ []) chains))))
     where
-      at : (a : ℕ) → a < P .atoms → ℓ (suc a) ≡ κ (suc a)
-      at a h = e (suc a) (is-atom n (suc a) (omega arith) (subst (λ (m : ℕ). suc a ≤ m) q h))
+      at : (a : ℕ) → a < G .n → ℓ (suc a) ≡ κ (suc a)
+      at a h = e (suc a) (is-atom (G .n) (suc a) (omega arith) h)
 
-      founded : tab (length (P .rules)) (λ r. founds M ℓ (ruleAt (P .rules) r) (ruleAt (P .rules) r .positive)) ≡ tab (length (P .rules)) (λ r. founds M κ (ruleAt (P .rules) r) (ruleAt (P .rules) r .positive))
+      founded : tab (length (G .rules)) (λ r. founds M ℓ (rl G r) (inner G r)) ≡ tab (length (G .rules)) (λ r. founds M κ (rl G r) (inner G r))
       founded =
-          tab-ext (length (P .rules)) (λ r. founds M ℓ (ruleAt (P .rules) r) (ruleAt (P .rules) r .positive)) (λ r. founds M κ (ruleAt (P .rules) r) (ruleAt (P .rules) r .positive))
+          tab-ext (length (G .rules)) (λ r. founds M ℓ (rl G r) (inner G r)) (λ r. founds M κ (rl G r) (inner G r))
           (λ j h.
-          let I = rule-in n (P .rules) fit j h in
-          let R = getD (P .rules) j noRule in
+          let R = rl G (suc j) in
+          let bs = inner G (suc j) in
           ap (λ (b : Bool). bodyTrue M R && b)
-          (all-ext (λ b. ltb (ℓ b) (ℓ (R .head))) (λ b. ltb (κ b) (κ (R .head))) (R .positive) 0
-          (λ i k. ap₂ ltb (e (getD (R .positive) i 0) (all-at (isAtom n) (R .positive) 0 (I .positive-in) i k)) (e (R .head) (I .head-in)))))
+          (all-ext (λ b. ltb (ℓ b) (ℓ (R .head))) (λ b. ltb (κ b) (κ (R .head))) bs 0
+          (λ i k. ap₂ ltb (e (getD bs i 0) (all-at (isAtom (G .n)) bs 0 (inner-in G I j h) i k)) (e (R .head) (I .head-in j h)))))
 
-      levels : levelBits (sizes P w) ℓ ≡ levelBits (sizes P w) κ
-      levels = each-ext (P .atoms) (λ a. tab w (bit (ℓ a))) (λ a. tab w (bit (κ a))) (λ a h. ap (λ (x : ℕ). tab w (bit x)) (at a h))
+      levels : levelBits (codeSizes G) ℓ ≡ levelBits (codeSizes G) κ
+      levels = each-ext (G .n) (λ a. tab (G .w) (bit (ℓ a))) (λ a. tab (G .w) (bit (κ a))) (λ a h. ap (λ (x : ℕ). tab (G .w) (bit x)) (at a h))
 
-      nexts : nextBits (sizes P w) ℓ ≡ nextBits (sizes P w) κ
-      nexts = each-ext (P .atoms) (λ a. tab w (bit (ℓ a + 1))) (λ a. tab w (bit (κ a + 1))) (λ a h. ap (λ (x : ℕ). tab w (bit (x + 1))) (at a h))
+      nexts : nextBits (codeSizes G) ℓ ≡ nextBits (codeSizes G) κ
+      nexts = each-ext (G .n) (λ a. tab (G .w) (bit (ℓ a + 1))) (λ a. tab (G .w) (bit (κ a + 1))) (λ a h. ap (λ (x : ℕ). tab (G .w) (bit (x + 1))) (at a h))
 
-      chains : each (pairCount P) (chainBits (sizes P w) (pairs P) ℓ) ≡ each (pairCount P) (chainBits (sizes P w) (pairs P) κ)
+      chains : each (pairTotal G) (chainBits (codeSizes G) (pairList G) ℓ) ≡ each (pairTotal G) (chainBits (codeSizes G) (pairList G) κ)
       chains =
-          each-ext (pairCount P) (chainBits (sizes P w) (pairs P) ℓ) (chainBits (sizes P w) (pairs P) κ)
+          each-ext (pairTotal G) (chainBits (codeSizes G) (pairList G) ℓ) (chainBits (codeSizes G) (pairList G) κ)
           (λ k h.
-          let t = pair-atoms k h in
-          ap₂ (λ (x y : ℕ). tab w (lessAt x y) ++ tab w (lessAt (x + 1) y)) (e (pairAt (pairs P) (suc k) .body) (t .0)) (e (pairAt (pairs P) (suc k) .head) (t .1)))
+          ap₂ (λ (x y : ℕ). tab (G .w) (lessAt x y) ++ tab (G .w) (lessAt (x + 1) y)) (e (pairBody G (suc k)) (body-in G I k h)) (e (pairHead G (suc k)) (head-in G I k h)))
 
-pub filled-fill : (P : Program) (w : ℕ) (M : Atoms) → filledWith P w M (level P M) ≡ fill P w M
-unfolding filledWith fill
-filled-fill P w M = refl
+pub filled-fill : (G : Code) (M : Atoms) → filledWith G M (levelOf G M) ≡ codeFill G M
+unfolding filledWith
+filled-fill G M = refl

@@ -15,13 +15,12 @@ ghost use mathlib.Core.List.{_++_};
 ghost use lib.Dec.{eqb};
 ghost use lib.ListN.{length, drop};
 ghost use Rattle.lists.specs.Lists.{tab};
-ghost use Rattle.meaning.specs.Program.{ruleAt, bodyTrue};
-ghost use Rattle.meaning.specs.Stage.{level};
-ghost use Rattle.encoding.specs.Fill.{founds, fill};
-ghost use Rattle.clause_tables.specs.Tables.{programIn, Ready};
+ghost use Rattle.meaning.specs.Program.{bodyTrue};
+ghost use Rattle.encoding.specs.Code.{rl, levelOf, codeFill};
+ghost use Rattle.clause_tables.specs.Tables.{codeIn, Ready};
 ghost use Rattle.level_stages.specs.Levels.{setIn, levelByte};
 ghost use Rattle.answer_offers.specs.Offered.{valueBytes};
-ghost use Rattle.level_fill.specs.Values.{byteOf, atomBytes, bodyBytes, foundsBytes, bitBytes, levelBytes, lessBytes, pairBytes, chainBytes, filledWith};
+ghost use Rattle.level_fill.specs.Values.{byteOf, atomBytes, bodyBytes, foundsAt, foundsBytes, bitBytes, levelBytes, lessBytes, pairBytes, chainBytes, filledWith};
 
 fn as_byte(x: bool) -> u8
     ensures { λ r. ⌜ r ≡ byteOf x ⌝ }
@@ -143,7 +142,7 @@ fn body_true<'a>(
         × (t .sizes .n ≤ length (now set)) ⌝ }
     ensures { λ x. ⌜ x
         ≡ bodyTrue (setIn (t .sizes .n) (now (set .entry)))
-        (ruleAt (programIn (t .sizes) (now (heads .entry)) (now (starts .entry)) (now (bodies .entry)) .rules) r) ⌝ }
+        (rl (codeIn t (now (heads .entry)) (now (starts .entry)) (now (bodies .entry))) r) ⌝ }
 {
     if !positives_in(t, heads, starts, bodies, before, partners, owners, r, set) {
         return false;
@@ -167,9 +166,8 @@ fn rule_founds<'a>(
     requires { ⌜ (Ready t (now heads) (now starts) (now bodies) (now before) (now partners) (now owners)) × (0 < r) × (r ≤ t .sizes .m)
         × (t .sizes .n ≤ length (now set)) × (t .sizes .n ≤ length (now levels)) ⌝ }
     ensures { λ x. ⌜ x
-        ≡ founds (setIn (t .sizes .n) (now (set .entry))) (levelByte (now (levels .entry)))
-        (ruleAt (programIn (t .sizes) (now (heads .entry)) (now (starts .entry)) (now (bodies .entry)) .rules) r)
-        (ruleAt (programIn (t .sizes) (now (heads .entry)) (now (starts .entry)) (now (bodies .entry)) .rules) r .positive) ⌝ }
+        ≡ foundsAt (codeIn t (now (heads .entry)) (now (starts .entry)) (now (bodies .entry))) (setIn (t .sizes .n) (now (set .entry)))
+        (levelByte (now (levels .entry))) r ⌝ }
 {
     if !body_true(t, heads, starts, bodies, before, partners, owners, r, set) {
         return false;
@@ -203,13 +201,13 @@ fn put_bodies<'a>(
     buf: &mut [u8],
 ) -> usize
     requires { ⌜ (Ready t (now heads) (now starts) (now bodies) (now before) (now partners) (now owners)) × (t .sizes .n ≤ length (now set))
-        × (length (bodyBytes (programIn (t .sizes) (now heads) (now starts) (now bodies)) (setIn (t .sizes .n) (now set))) ≤ length (now buf)) ⌝ }
+        × (length (bodyBytes (codeIn t (now heads) (now starts) (now bodies)) (setIn (t .sizes .n) (now set))) ≤ length (now buf)) ⌝ }
     ensures { λ r. ⌜ (r
         ≡ length
-        (bodyBytes (programIn (t .sizes) (now (heads .entry)) (now (starts .entry)) (now (bodies .entry)))
+        (bodyBytes (codeIn t (now (heads .entry)) (now (starts .entry)) (now (bodies .entry)))
         (setIn (t .sizes .n) (now (set .entry)))))
         × (now (buf .exit)
-        ≡ bodyBytes (programIn (t .sizes) (now (heads .entry)) (now (starts .entry)) (now (bodies .entry))) (setIn (t .sizes .n) (now (set .entry)))
+        ≡ bodyBytes (codeIn t (now (heads .entry)) (now (starts .entry)) (now (bodies .entry))) (setIn (t .sizes .n) (now (set .entry)))
         ++ drop r (now (buf .entry))) ⌝ }
 {
     let mut r: u16 = 0;
@@ -247,14 +245,14 @@ fn put_founds<'a>(
 ) -> usize
     requires { ⌜ (Ready t (now heads) (now starts) (now bodies) (now before) (now partners) (now owners)) × (t .sizes .n ≤ length (now set))
         × (t .sizes .n ≤ length (now levels))
-        × (length (foundsBytes (programIn (t .sizes) (now heads) (now starts) (now bodies)) (setIn (t .sizes .n) (now set)) (levelByte (now levels)))
+        × (length (foundsBytes (codeIn t (now heads) (now starts) (now bodies)) (setIn (t .sizes .n) (now set)) (levelByte (now levels)))
         ≤ length (now buf)) ⌝ }
     ensures { λ r. ⌜ (r
         ≡ length
-        (foundsBytes (programIn (t .sizes) (now (heads .entry)) (now (starts .entry)) (now (bodies .entry)))
+        (foundsBytes (codeIn t (now (heads .entry)) (now (starts .entry)) (now (bodies .entry)))
         (setIn (t .sizes .n) (now (set .entry))) (levelByte (now (levels .entry)))))
         × (now (buf .exit)
-        ≡ foundsBytes (programIn (t .sizes) (now (heads .entry)) (now (starts .entry)) (now (bodies .entry)))
+        ≡ foundsBytes (codeIn t (now (heads .entry)) (now (starts .entry)) (now (bodies .entry)))
         (setIn (t .sizes .n) (now (set .entry))) (levelByte (now (levels .entry))) ++ drop r (now (buf .entry))) ⌝ }
 {
     let mut r: u16 = 0;
@@ -292,12 +290,12 @@ fn put_chains<'a>(
     buf: &mut [u8],
 ) -> usize
     requires { ⌜ (Ready t (now heads) (now starts) (now bodies) (now before) (now partners) (now owners)) × (t .sizes .n ≤ length (now levels))
-        × (length (chainBytes (programIn (t .sizes) (now heads) (now starts) (now bodies)) w (levelByte (now levels))) ≤ length (now buf)) ⌝ }
+        × (length (chainBytes (codeIn t (now heads) (now starts) (now bodies)) w (levelByte (now levels))) ≤ length (now buf)) ⌝ }
     ensures { λ r. ⌜ (r
         ≡ length
-        (chainBytes (programIn (t .sizes) (now (heads .entry)) (now (starts .entry)) (now (bodies .entry))) w (levelByte (now (levels .entry)))))
+        (chainBytes (codeIn t (now (heads .entry)) (now (starts .entry)) (now (bodies .entry))) w (levelByte (now (levels .entry)))))
         × (now (buf .exit)
-        ≡ chainBytes (programIn (t .sizes) (now (heads .entry)) (now (starts .entry)) (now (bodies .entry))) w (levelByte (now (levels .entry)))
+        ≡ chainBytes (codeIn t (now (heads .entry)) (now (starts .entry)) (now (bodies .entry))) w (levelByte (now (levels .entry)))
         ++ drop r (now (buf .entry))) ⌝ }
 {
     let mut to: usize = 0;
@@ -329,7 +327,7 @@ fn put_values<'a>(
     ensures { λ r. ⌜ (r ≡ t .vars)
         × (now (buf .exit)
         ≡ valueBytes
-        (filledWith (programIn (t .sizes) (now (heads .entry)) (now (starts .entry)) (now (bodies .entry))) (t .sizes .w)
+        (filledWith (codeIn t (now (heads .entry)) (now (starts .entry)) (now (bodies .entry)))
         (setIn (t .sizes .n) (now (set .entry))) (levelByte (now (levels .entry)))) ++ drop (t .vars) (now (buf .entry))) ⌝ }
 {
     let n = t.sizes.n;
@@ -390,11 +388,11 @@ pub fn put_filled<'a>(
 )
     requires { ⌜ (Ready t (now heads) (now starts) (now bodies) (now before) (now partners) (now owners)) × (t .sizes .n ≤ length (now set))
         × (now levels
-        ≡ tab (t .sizes .n) (level (programIn (t .sizes) (now heads) (now starts) (now bodies)) (setIn (t .sizes .n) (now set)))
+        ≡ tab (t .sizes .n) (levelOf (codeIn t (now heads) (now starts) (now bodies)) (setIn (t .sizes .n) (now set)))
         ++ drop (t .sizes .n) (now levels)) × (t .vars ≤ length (now assignment)) ⌝ }
     ensures { λ r. ⌜ now (assignment .exit)
         ≡ valueBytes
-        (fill (programIn (t .sizes) (now (heads .entry)) (now (starts .entry)) (now (bodies .entry))) (t .sizes .w)
+        (codeFill (codeIn t (now (heads .entry)) (now (starts .entry)) (now (bodies .entry)))
         (setIn (t .sizes .n) (now (set .entry)))) ++ drop (t .vars) (now (assignment .entry)) ⌝ }
 {
     put_values(

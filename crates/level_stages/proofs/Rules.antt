@@ -1,7 +1,7 @@
 -- The two lists of a rule as parts of the array of body atoms, and what code asks of them.
 --   set-is, none-is, all-is          of atoms alone, a set is its bytes
 --   Part bs x y l                    from x to y the array holds the list l
--- Of rule r of a program in its tables (Tabled P ..):
+-- Of rule r of a code in its tables (Tabled G ..):
 --   start-asks                       what its starts ask
 --   positive-part, negative-part     its two lists
 --   rule-atoms                       its atoms are atoms
@@ -19,9 +19,10 @@ use mathlib.Core.List.{List, [], _∷_, _++_}
 use lib.Dec.{ltb}
 use lib.ListN.{length, getD, take, drop}
 use lib.Seq.{take-take, take-add, drop-drop, take-at, drop-at}
+use Rattle.encoding.specs.Code.{Code}
 use Rattle.lists.specs.Lists.{all}
 use Rattle.lists.proofs.Tests.{all-at, all-in, all-ext}
-use Rattle.meaning.specs.Program.{Rule, Program, ruleAt, isAtom, noneIn}
+use Rattle.meaning.specs.Program.{Rule, ruleAt, isAtom, noneIn}
 use Rattle.theory.proofs.Atoms.{RuleIn, rule-in, atom-pos, atom-le, is-atom}
 use Rattle.truth_clauses.specs.Truth.{valueIn}
 use Rattle.clause_tables.specs.declared.Totals.{Totals}
@@ -101,54 +102,54 @@ all-is n s xs t = all-ext (valueIn s) (setIn n s) xs 0 (λ j h. set-is n s (getD
 
 -- ---- of the tables
 
-module _ {P : Program} {t : Totals} {hs ss bs ks xs ys : List ℕ} (T : Tabled P t hs ss bs ks xs ys) (r : ℕ) (p : 0 < r) (h : r ≤ t .sizes .m) where
-  inside : r ≤ length (P .rules)
-  inside = subst (λ (m : ℕ). r ≤ m) (rules-are P t hs ss bs ks xs ys T) h
+module _ {G : Code} {t : Totals} {hs ss bs ks xs ys : List ℕ} (T : Tabled G t hs ss bs ks xs ys) (r : ℕ) (p : 0 < r) (h : r ≤ t .sizes .m) where
+  inside : r ≤ length (G .rules)
+  inside = subst (λ (m : ℕ). r ≤ m) (rules-are G t hs ss bs ks xs ys T) h
 
-  listed : Listed P ss bs r (r - 1)
-  listed = start-first P t hs ss bs ks xs ys T r p inside
+  listed : Listed G ss bs r (r - 1)
+  listed = start-first G t hs ss bs ks xs ys T r p inside
 
   pub start-asks : (k : ℕ) → k ≤ 2 → (0 < r) × (r ≤ 500) × (k ≤ 2) × (length ss ≡ 1001)
-  start-asks k l = (p, le-trans inside (rules-fit P t hs ss bs ks xs ys T), l, starts-length P t hs ss bs ks xs ys T)
+  start-asks k l = (p, le-trans inside (rules-fit G t hs ss bs ks xs ys T), l, starts-length G t hs ss bs ks xs ys T)
 
-  pub positive-part : {x y : ℕ} → x ≡ getD ss (2 * (r - 1) + 0) 0 → y ≡ getD ss (2 * (r - 1) + 1) 0 → Part bs x y (ruleAt (P .rules) r .positive)
+  pub positive-part : {x y : ℕ} → x ≡ getD ss (2 * (r - 1) + 0) 0 → y ≡ getD ss (2 * (r - 1) + 1) 0 → Part bs x y (ruleAt (G .rules) r .positive)
   positive-part e f =
       part-at
-      (first-part bs (ruleAt (P .rules) r .positive) (ruleAt (P .rules) r .negative) _ _ _ (listed .first-up) (listed .second-up) (listed .end-fits)
-      (bodies-length P t hs ss bs ks xs ys T) (listed .positives-are) (listed .body-are))
+      (first-part bs (ruleAt (G .rules) r .positive) (ruleAt (G .rules) r .negative) _ _ _ (listed .first-up) (listed .second-up) (listed .end-fits)
+      (bodies-length G t hs ss bs ks xs ys T) (listed .positives-are) (listed .body-are))
       (e ∙ ap (λ (k : ℕ). getD ss k 0) (add-zero (2 * (r - 1)))) f
 
-  pub negative-part : {x y : ℕ} → x ≡ getD ss (2 * (r - 1) + 1) 0 → y ≡ getD ss (2 * (r - 1) + 2) 0 → Part bs x y (ruleAt (P .rules) r .negative)
+  pub negative-part : {x y : ℕ} → x ≡ getD ss (2 * (r - 1) + 1) 0 → y ≡ getD ss (2 * (r - 1) + 2) 0 → Part bs x y (ruleAt (G .rules) r .negative)
   negative-part =
       part-at
-      (second-part bs (ruleAt (P .rules) r .positive) (ruleAt (P .rules) r .negative) _ _ _ (listed .first-up) (listed .second-up) (listed .end-fits)
-      (bodies-length P t hs ss bs ks xs ys T) (listed .positives-are) (listed .body-are))
+      (second-part bs (ruleAt (G .rules) r .positive) (ruleAt (G .rules) r .negative) _ _ _ (listed .first-up) (listed .second-up) (listed .end-fits)
+      (bodies-length G t hs ss bs ks xs ys T) (listed .positives-are) (listed .body-are))
 
-  pub rule-atoms : RuleIn (t .sizes .n) (ruleAt (P .rules) r)
+  pub rule-atoms : RuleIn (t .sizes .n) (ruleAt (G .rules) r)
   rule-atoms =
-      subst (λ (n : ℕ). RuleIn n (ruleAt (P .rules) r)) (sym (atoms-are P t hs ss bs ks xs ys T))
-      (rule-in (P .atoms) (P .rules) (all-fit P (T .limits)) (pred r) (before-it r p inside))
+      subst (λ (n : ℕ). RuleIn n (ruleAt (G .rules) r)) (sym (atoms-are G t hs ss bs ks xs ys T))
+      (rule-in (G .n) (G .rules) (all-fit G (T .limits)) (pred r) (before-it r p inside))
     where
       before-it : (r : ℕ) {m : ℕ} → 0 < r → r ≤ m → pred r < m
       before-it zero l k = absurd (not-suc-le-zero l)
       before-it (suc r) l k = k
 
   -- the part's atoms have bytes
-  pub positives-asked : (b : List ℕ) {x y : ℕ} → t .sizes .n ≤ length b → Part bs x y (ruleAt (P .rules) r .positive)
+  pub positives-asked : (b : List ℕ) {x y : ℕ} → t .sizes .n ≤ length b → Part bs x y (ruleAt (G .rules) r .positive)
       → So (all (isAtom (length b)) (take (y - x) (drop x bs)))
   positives-asked b k q =
-      subst (λ (l : List ℕ). So (all (isAtom (length b)) l)) (sym (q .list-is)) (all-wider (t .sizes .n) (length b) (ruleAt (P .rules) r .positive) k (rule-atoms .positive-in))
+      subst (λ (l : List ℕ). So (all (isAtom (length b)) l)) (sym (q .list-is)) (all-wider (t .sizes .n) (length b) (ruleAt (G .rules) r .positive) k (rule-atoms .positive-in))
 
-  pub negatives-asked : (b : List ℕ) {x y : ℕ} → t .sizes .n ≤ length b → Part bs x y (ruleAt (P .rules) r .negative)
+  pub negatives-asked : (b : List ℕ) {x y : ℕ} → t .sizes .n ≤ length b → Part bs x y (ruleAt (G .rules) r .negative)
       → So (all (isAtom (length b)) (take (y - x) (drop x bs)))
   negatives-asked b k q =
-      subst (λ (l : List ℕ). So (all (isAtom (length b)) l)) (sym (q .list-is)) (all-wider (t .sizes .n) (length b) (ruleAt (P .rules) r .negative) k (rule-atoms .negative-in))
+      subst (λ (l : List ℕ). So (all (isAtom (length b)) l)) (sym (q .list-is)) (all-wider (t .sizes .n) (length b) (ruleAt (G .rules) r .negative) k (rule-atoms .negative-in))
 
   pub head-asks : (0 < r) × (r ≤ length hs)
-  head-asks = (p, omega (arith, inside, rules-fit P t hs ss bs ks xs ys T, heads-length P t hs ss bs ks xs ys T))
+  head-asks = (p, omega (arith, inside, rules-fit G t hs ss bs ks xs ys T, heads-length G t hs ss bs ks xs ys T))
 
-  pub its-head-is : {a : ℕ} → a ≡ getD hs (r - 1) 0 → a ≡ ruleAt (P .rules) r .head
-  its-head-is e = e ∙ head-is P t hs ss bs ks xs ys T r p inside ∙ its-head (P .rules) r
+  pub its-head-is : {a : ℕ} → a ≡ getD hs (r - 1) 0 → a ≡ ruleAt (G .rules) r .head
+  its-head-is e = e ∙ head-is G t hs ss bs ks xs ys T r p inside ∙ its-head (G .rules) r
 
   pub head-fits : (b : List ℕ) {a : ℕ} → t .sizes .n ≤ length b → a ≡ getD hs (r - 1) 0 → (0 < a) × (a ≤ length b)
   head-fits b {a} k e =

@@ -11,9 +11,9 @@ ghost use mathlib.Core.List.{_++_};
 ghost use lib.Dec.{eqb, ltb};
 ghost use lib.ListN.{length, getD, drop, set as put};
 ghost use Rattle.lists.specs.Lists.{all, any, tab};
-ghost use Rattle.meaning.specs.Program.{ruleAt, isAtom, noneIn};
-ghost use Rattle.meaning.specs.Stage.{level};
-ghost use Rattle.clause_tables.specs.Tables.{programIn, Ready};
+ghost use Rattle.meaning.specs.Program.{isAtom, noneIn};
+ghost use Rattle.encoding.specs.Code.{rl, levelOf};
+ghost use Rattle.clause_tables.specs.Tables.{codeIn, Ready};
 ghost use Rattle.truth_clauses.specs.Truth.{valueIn};
 ghost use Rattle.level_stages.specs.Levels.{setIn, levelByte, enters, fires, firedBytes, levelAfter, firstDifference};
 
@@ -101,7 +101,7 @@ pub fn negatives_out<'a>(
         × (t .sizes .n ≤ length (now bytes)) ⌝ }
     ensures { λ x. ⌜ x
         ≡ noneIn (valueIn (now (bytes .entry)))
-        (ruleAt (programIn (t .sizes) (now (heads .entry)) (now (starts .entry)) (now (bodies .entry)) .rules) r .negative) ⌝ }
+        (rl (codeIn t (now (heads .entry)) (now (starts .entry)) (now (bodies .entry))) r .negative) ⌝ }
 {
     let first = list_start(starts, r, 1);
     let end = list_start(starts, r, 2);
@@ -123,7 +123,7 @@ pub fn positives_in<'a>(
         × (t .sizes .n ≤ length (now bytes)) ⌝ }
     ensures { λ x. ⌜ x
         ≡ all (valueIn (now (bytes .entry)))
-        (ruleAt (programIn (t .sizes) (now (heads .entry)) (now (starts .entry)) (now (bodies .entry)) .rules) r .positive) ⌝ }
+        (rl (codeIn t (now (heads .entry)) (now (starts .entry)) (now (bodies .entry))) r .positive) ⌝ }
 {
     let first = list_start(starts, r, 0);
     let end = list_start(starts, r, 1);
@@ -146,7 +146,7 @@ pub fn positives_below<'a>(
         × (t .sizes .n ≤ length (now bytes)) ⌝ }
     ensures { λ x. ⌜ x
         ≡ all (λ b. ltb (levelByte (now (bytes .entry)) b) y)
-        (ruleAt (programIn (t .sizes) (now (heads .entry)) (now (starts .entry)) (now (bodies .entry)) .rules) r .positive) ⌝ }
+        (rl (codeIn t (now (heads .entry)) (now (starts .entry)) (now (bodies .entry))) r .positive) ⌝ }
 {
     let first = list_start(starts, r, 0);
     let end = list_start(starts, r, 1);
@@ -171,7 +171,7 @@ fn rule_enters<'a>(
         × (t .sizes .n ≤ length (now set)) × (t .sizes .n ≤ length (now levels)) ⌝ }
     ensures { λ x. ⌜ x
         ≡ enters (setIn (t .sizes .n) (now (set .entry))) (now (levels .entry)) i
-        (ruleAt (programIn (t .sizes) (now (heads .entry)) (now (starts .entry)) (now (bodies .entry)) .rules) r) ⌝ }
+        (rl (codeIn t (now (heads .entry)) (now (starts .entry)) (now (bodies .entry))) r) ⌝ }
 {
     if !negatives_out(t, heads, starts, bodies, before, partners, owners, r, set) {
         return false;
@@ -221,10 +221,10 @@ fn put_rule<'a>(
         × (t .sizes .n ≤ length (now set)) × (t .sizes .n ≤ length (now levels)) ⌝ }
     ensures { λ x. ⌜ (x
         ≡ fires (setIn (t .sizes .n) (now (set .entry))) (now (levels .entry)) i
-        (ruleAt (programIn (t .sizes) (now (heads .entry)) (now (starts .entry)) (now (bodies .entry)) .rules) r))
+        (rl (codeIn t (now (heads .entry)) (now (starts .entry)) (now (bodies .entry))) r))
         × (now (levels .exit)
         ≡ firedBytes (setIn (t .sizes .n) (now (set .entry))) i
-        (ruleAt (programIn (t .sizes) (now (heads .entry)) (now (starts .entry)) (now (bodies .entry)) .rules) r) (now (levels .entry))) ⌝ }
+        (rl (codeIn t (now (heads .entry)) (now (starts .entry)) (now (bodies .entry))) r) (now (levels .entry))) ⌝ }
 {
     let h = head(heads, Rule(r)).0;
     if byte_of(&levels[..], h) != 0 {
@@ -275,11 +275,11 @@ fn round<'a>(
         × (t .sizes .n ≤ length (now levels)) ⌝ }
     ensures { λ x. ⌜ (x
         ≡ any (fires (setIn (t .sizes .n) (now (set .entry))) (now (levels .entry)) i)
-        (programIn (t .sizes) (now (heads .entry)) (now (starts .entry)) (now (bodies .entry)) .rules))
+        (codeIn t (now (heads .entry)) (now (starts .entry)) (now (bodies .entry)) .rules))
         × (now (levels .exit)
         ≡ tab (t .sizes .n)
         (levelAfter (setIn (t .sizes .n) (now (set .entry))) (now (levels .entry)) i
-        (programIn (t .sizes) (now (heads .entry)) (now (starts .entry)) (now (bodies .entry)) .rules))
+        (codeIn t (now (heads .entry)) (now (starts .entry)) (now (bodies .entry)) .rules))
         ++ drop (t .sizes .n) (now (levels .entry))) ⌝ }
 {
     let mut given = false;
@@ -331,7 +331,7 @@ fn rounds<'a>(
         × (t .sizes .n ≤ length (now levels)) × (now levels ≡ tab (t .sizes .n) (λ a. 0) ++ drop (t .sizes .n) (now levels)) ⌝ }
     ensures { λ r. ⌜ now (levels .exit)
         ≡ tab (t .sizes .n)
-        (level (programIn (t .sizes) (now (heads .entry)) (now (starts .entry)) (now (bodies .entry))) (setIn (t .sizes .n) (now (set .entry))))
+        (levelOf (codeIn t (now (heads .entry)) (now (starts .entry)) (now (bodies .entry))) (setIn (t .sizes .n) (now (set .entry))))
         ++ drop (t .sizes .n) (now (levels .entry)) ⌝ }
 {
     let mut i: u8 = 0;
@@ -370,7 +370,7 @@ pub fn stage_levels<'a>(
         × (t .sizes .n ≤ length (now levels)) ⌝ }
     ensures { λ r. ⌜ now (levels .exit)
         ≡ tab (t .sizes .n)
-        (level (programIn (t .sizes) (now (heads .entry)) (now (starts .entry)) (now (bodies .entry))) (setIn (t .sizes .n) (now (set .entry))))
+        (levelOf (codeIn t (now (heads .entry)) (now (starts .entry)) (now (bodies .entry))) (setIn (t .sizes .n) (now (set .entry))))
         ++ drop (t .sizes .n) (now (levels .entry)) ⌝ }
 {
     zero_bytes(t.sizes.n, &mut *levels);

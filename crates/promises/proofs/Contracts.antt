@@ -5,7 +5,7 @@
 --   working     working material: what ties definitions that the code alone uses to those of specs/Promised.antt. No promise speaks of them.
 -- What `files` reads and `writer_output` hands over goes through the C library, whose contracts are axioms of the kit (specs/Promised.antt).
 use Prim.Native.Nat.{ℕ, zero, pred, _-_, _≤_, _<_}
-use mathlib.Core.Path.{_≡_}
+use mathlib.Core.Path.{_≡_, refl, _∙_}
 use mathlib.Core.Logic.{_↔_}
 use mathlib.Core.Bool.{Bool}
 use mathlib.Core.List.{List, []}
@@ -15,7 +15,7 @@ use Rattle.meaning.specs.Stage.{reduct}
 use Rattle.encoding.specs.Width.{width}
 use Rattle.encoding.specs.Clauses.{clauses, variables}
 use Rattle.encoding.specs.Fill.{fill}
-use Rattle.theory.specs.Code.{whole, reductOf, clausesOf, variablesOf, fillOf}
+use Rattle.encoding.specs.Code.{whole, codeOf, reductOf, clausesOf, variablesOf, codeFill}
 use Rattle.theory.proofs.Whole.{reduct-whole, clauses-whole, variables-whole, fill-whole}
 use Rattle.theory.proofs.Widths.{width-some}
 use Rattle.text.specs.Limits.{Limits}
@@ -128,7 +128,7 @@ pub record General (P : Program) (w : ℕ) : Type 0 where
   pub same-clauses : clausesOf (whole P w) ≡ clauses P w
   pub same-variables : variablesOf (whole P w) ≡ variables P w
   pub same-reduct : (M : Atoms) → reductOf (whole P w) M ≡ reduct P M
-  pub same-fill : (M : Atoms) → fillOf (whole P w) M ≡ fill P w M
+  pub same-fill : (M : Atoms) → codeFill (whole P w) M ≡ fill P w M
 
 -- the form of an answer, as the check finds it
 pub record AnswerForm (t : List ℕ) : Type 0 where
@@ -165,11 +165,11 @@ pub record Completing (t : List ℕ) (p n : ℕ) : Type 0 where
 
 pub record Working : Type 0 where
   -- the walk by which code yields the clauses, by group, item, block, clause and slot, gives the clause list
-  pub walk : (P : Program) → walked P (width (P .atoms)) ≡ clauses P (width (P .atoms))
+  pub walk : (P : Program) → walked (codeOf P) ≡ clauses P (width (P .atoms))
   -- code finds clause j at place j of the walk
   pub placed : (P : Program) → Limits P → (j : ℕ) → zero < j → j ≤ clauseTotal P
-      → clauseIn P (width (P .atoms)) (placeAt P (width (P .atoms)) j .coordinates) ≡ getD (clauses P (width (P .atoms))) (pred j) []
-  -- the theory's definitions are document 01's
+      → clauseIn (codeOf P) (placeAt (codeOf P) j .coordinates) ≡ getD (clauses P (width (P .atoms))) (pred j) []
+  -- the general definitions, which the theorem and the code are proved over, are document 01's
   pub general : (P : Program) (w : ℕ) → General P w
   -- an answer is read by its form, then literal by literal into a buffer of bytes, and completed
   pub answer-form : (t : List ℕ) → AnswerForm t
@@ -214,7 +214,7 @@ module _ (t : List ℕ) (p n : ℕ) where
 pub working : Working
 working =
     record {
-      walk = λ P. walked-clauses P (width (P .atoms)) (width-some (P .atoms));
+      walk = λ P. walked-clauses (codeOf P) (width-some (P .atoms)) (λ a. refl) ∙ clauses-whole P (width (P .atoms));
       placed = File.placed;
       general = general;
       answer-form = answer-form;

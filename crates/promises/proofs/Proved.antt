@@ -15,6 +15,7 @@ use Rattle.meaning.specs.Stage.{Definite, reduct, Stable, level}
 use Rattle.encoding.specs.Width.{width}
 use Rattle.encoding.specs.Literal.{Assignment}
 use Rattle.encoding.specs.Clauses.{clauses}
+use Rattle.encoding.specs.Code.{codeOf}
 use Rattle.theory.proofs.LeastModel.{union-model, union-least, first-stage-unique}
 use Rattle.theory.proofs.Decided as Decided
 use Rattle.theory.proofs.LevelNumberings.{stable-level-numbering, level-numbering-stable, level-numbering-unique}
@@ -23,6 +24,7 @@ use Rattle.theory.proofs.Counters.{chain-iff, successor-iff}
 use Rattle.theory.proofs.GroupMeanings.{group1-iff, group2-iff, group3-iff, group4-iff, group5-iff, group6-iff, group7-iff, pairs-are, pairs-counted}
 use Rattle.theory.proofs.Widths.{width-is, width-unique, width-table, width-zeros, width-enough}
 use Rattle.theory.proofs.Counts.{count-whole}
+use Rattle.theory.proofs.Whole.{variables-whole}
 use Rattle.theory.proofs.Base as Base
 use Rattle.text.specs.Limits.{Limits, Admitted}
 use Rattle.program.specs.Arrays.{decoded}
@@ -36,6 +38,7 @@ use Rattle.reader_laws.proofs.Spot as TextSpot
 use Rattle.reader_laws.proofs.Unique.{text-unique}
 use Rattle.reader_laws.proofs.Rows.{first-unique, answers-first, first-answers, accepted-none, none-accepted, answers-malformed, answers-breach}
 use Rattle.reader_laws.proofs.Contents.{accepted-admitted, admitted-answer, refused-empty}
+use Rattle.clause_table_laws.proofs.Elements.{program-limited}
 use Rattle.clause_table_laws.proofs.Bounds.{variables-fit, clauses-fit}
 use Rattle.clause_runs.specs.Lines.{clauseTotal, linesOf, lineOf, fitting, runIn}
 use Rattle.clause_runs.proofs.Runs.{joined-append}
@@ -185,9 +188,11 @@ clause-file P L =
       header = File.header-line P;
       clause-line = File.clause-line P L;
       all-lines = all-lines P L;
+      variable-total = variables-whole P (width (P .atoms));
       clause-total = File.clause-total P L;
-      few-variables = variables-fit P L;
-      few-clauses = clauses-fit P L;
+      clause-formula = File.clause-total P L ∙ count-whole P (width (P .atoms)) (L .all-atoms) (width-enough (P .atoms));
+      few-variables = subst (λ (v : ℕ). v ≤ 9890) (variables-whole P (width (P .atoms))) (variables-fit (codeOf P) (program-limited P L));
+      few-clauses = clauses-fit (codeOf P) (program-limited P L);
       short-lines = File.short-lines P L;
     }
 

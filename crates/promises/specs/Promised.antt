@@ -232,8 +232,10 @@ pub record ClauseFile (P : Program) : Type 0 where
   pub clause-line : (j : ℕ) → zero < j → j ≤ clauseTotal P → lineOf P j ≡ lineText (getD (clauses P (width (P .atoms))) (pred j) [])
   -- there are no other lines
   pub all-lines : linesOf P ≡ tab (suc (clauseTotal P)) (λ i. lineOf P (pred i))
-  -- C, by its formula, is the number of clauses
+  -- V and C are document 01's: C is the number of clauses, and its formula
+  pub variable-total : varTotal P ≡ variables P (width (P .atoms))
   pub clause-total : clauseTotal P ≡ length (clauses P (width (P .atoms)))
+  pub clause-formula : clauseTotal P ≡ clauseCount P (width (P .atoms))
   -- at most 9,890 variables and 53,690 clauses, and no line passes 3,008 bytes
   pub few-variables : variables P (width (P .atoms)) ≤ 9890
   pub few-clauses : clauseTotal P ≤ 53690

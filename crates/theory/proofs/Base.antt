@@ -16,7 +16,7 @@ use Rattle.theory.proofs.Decided.{reduct-heads}
 use Rattle.encoding.specs.Literal.{Clause, valueOf, allTrue, within, occurs}
 use Rattle.encoding.specs.Clauses.{sizes, clauses, variables}
 use Rattle.encoding.specs.Fill.{fill, trueAtoms, counter}
-use Rattle.theory.specs.Code.{Code, whole, clausesOf, variablesOf}
+use Rattle.encoding.specs.Code.{Code, whole, clausesOf, variablesOf}
 use Rattle.theory.proofs.Gaps.{without-gaps}
 use Rattle.theory.proofs.Theorem.{Fit, fill-vars, true-exactly, counters, filled-true, fill-atoms, one-each}
 use Rattle.theory.proofs.Whole.{variables-whole, clauses-whole, level-whole, fill-whole, stable-whole, whole-ranges, whole-fit}

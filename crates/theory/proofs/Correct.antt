@@ -25,7 +25,7 @@ use Rattle.encoding.specs.Literal.{Assignment}
 use Rattle.encoding.specs.Variables.{Sizes, bodyVar, foundsVar, levelVar, nextVar, belowVar, nextBelowVar}
 use Rattle.encoding.specs.Counter.{value, bit}
 use Rattle.encoding.specs.Fill.{lessAt, founds, trueIn, counter}
-use Rattle.theory.specs.Code.{Code, m, sizesOf, rl, inner, pairList, bodyOf, headOf, pairNumbers, before, levelOf, StableIn}
+use Rattle.encoding.specs.Code.{Code, m, codeSizes, rl, inner, pairList, pairBody, pairHead, pairNumbers, before, levelOf, StableIn}
 use Rattle.theory.proofs.Bits.{value-ext, value-mod, value-bit, bit-value, bit-mod}
 use Rattle.theory.proofs.Counters.{bits, Compares, one-iff}
 use Rattle.theory.proofs.Groups.{oneTest, lowTest}
@@ -35,14 +35,14 @@ use Rattle.theory.proofs.Pairs.{body-in, head-in, all-pairs}
 
 pub record Canon (G : Code) (M : Atoms) (A : Assignment) : Type 0 where
   pub atoms : (a : ℕ) → a < G .n → A (suc a) ≡ M (suc a)
-  pub bodies : (r : ℕ) → r < m G → A (bodyVar (sizesOf G) (suc r)) ≡ bodyTrue M (rl G (suc r))
-  pub foundings : (r : ℕ) → r < m G → A (foundsVar (sizesOf G) (suc r)) ≡ founds M (levelOf G M) (rl G (suc r)) (inner G (suc r))
-  pub levels : (a : ℕ) → a < G .n → (i : ℕ) → i < G .w → A (levelVar (sizesOf G) (suc a) (suc i)) ≡ bit (levelOf G M (suc a)) (suc i)
-  pub nexts : (a : ℕ) → a < G .n → (i : ℕ) → i < G .w → A (nextVar (sizesOf G) (suc a) (suc i)) ≡ bit (levelOf G M (suc a) + 1) (suc i)
-  pub belows : (k : ℕ) → k < length (pairList G) → (i : ℕ) → i < G .w → A (belowVar (sizesOf G) (suc k) (suc i))
-      ≡ lessAt (levelOf G M (bodyOf G (suc k))) (levelOf G M (headOf G (suc k))) (suc i)
-  pub nextBelows : (k : ℕ) → k < length (pairList G) → (i : ℕ) → i < G .w → A (nextBelowVar (sizesOf G) (suc k) (suc i))
-      ≡ lessAt (levelOf G M (bodyOf G (suc k)) + 1) (levelOf G M (headOf G (suc k))) (suc i)
+  pub bodies : (r : ℕ) → r < m G → A (bodyVar (codeSizes G) (suc r)) ≡ bodyTrue M (rl G (suc r))
+  pub foundings : (r : ℕ) → r < m G → A (foundsVar (codeSizes G) (suc r)) ≡ founds M (levelOf G M) (rl G (suc r)) (inner G (suc r))
+  pub levels : (a : ℕ) → a < G .n → (i : ℕ) → i < G .w → A (levelVar (codeSizes G) (suc a) (suc i)) ≡ bit (levelOf G M (suc a)) (suc i)
+  pub nexts : (a : ℕ) → a < G .n → (i : ℕ) → i < G .w → A (nextVar (codeSizes G) (suc a) (suc i)) ≡ bit (levelOf G M (suc a) + 1) (suc i)
+  pub belows : (k : ℕ) → k < length (pairList G) → (i : ℕ) → i < G .w → A (belowVar (codeSizes G) (suc k) (suc i))
+      ≡ lessAt (levelOf G M (pairBody G (suc k))) (levelOf G M (pairHead G (suc k))) (suc i)
+  pub nextBelows : (k : ℕ) → k < length (pairList G) → (i : ℕ) → i < G .w → A (nextBelowVar (codeSizes G) (suc k) (suc i))
+      ≡ lessAt (levelOf G M (pairBody G (suc k)) + 1) (levelOf G M (pairHead G (suc k))) (suc i)
 
 -- ---- small laws
 
@@ -101,7 +101,7 @@ not-all p xs t = let q = any-at (λ x. not (p x)) xs 0 (any-not p xs ∙ t) in (
 
 module _ (G : Code) (A : Assignment) (g : Ranges G) (z : zero < G .w) (s : Says G A) where
   abbrev S : Sizes
-  S = sizesOf G
+  S = codeSizes G
 
   abbrev M : Atoms
   M = trueIn (G .n) A
@@ -123,10 +123,10 @@ module _ (G : Code) (A : Assignment) (g : Ranges G) (z : zero < G .w) (s : Says 
       go a h true e = refl
       go a h false e = value-none (λ i. A (levelVar S (suc a) i)) (G .w) (s .zeroed a h (true-in (G .n) A a h ∙ e))
 
-  below-is : (k : ℕ) → k < length (pairList G) → A (belowVar S (suc k) (G .w)) ≡ ltb (ℓ (bodyOf G (suc k))) (ℓ (headOf G (suc k)))
+  below-is : (k : ℕ) → k < length (pairList G) → A (belowVar S (suc k) (G .w)) ≡ ltb (ℓ (pairBody G (suc k))) (ℓ (pairHead G (suc k)))
   below-is k h =
-      top-bit (λ i. Compares A (belowVar S (suc k)) (levelVar S (bodyOf G (suc k))) (levelVar S (headOf G (suc k))) i) (G .w) z (s .belows k h)
-      ∙ ap₂ ltb (counter-is (bodyOf G (suc k)) (body-in G g k h)) (counter-is (headOf G (suc k)) (head-in G g k h))
+      top-bit (λ i. Compares A (belowVar S (suc k)) (levelVar S (pairBody G (suc k))) (levelVar S (pairHead G (suc k))) i) (G .w) z (s .belows k h)
+      ∙ ap₂ ltb (counter-is (pairBody G (suc k)) (body-in G g k h)) (counter-is (pairHead G (suc k)) (head-in G g k h))
 
   founds-is : (r : ℕ) → r < m G → A (foundsVar S (suc r)) ≡ founds M ℓ (rl G (suc r)) (inner G (suc r))
   founds-is r h = s .founds r h ∙ ap₂ _&&_ (bodies-true r h) (all-pairs G (λ k. A (belowVar S k (G .w))) (λ b h. ltb (ℓ b) (ℓ h)) below-is r h)
@@ -136,11 +136,11 @@ module _ (G : Code) (A : Assignment) (g : Ranges G) (z : zero < G .w) (s : Says 
   next-value = by-place (G .n) (λ a. value (bits A (nextVar S a)) (G .w) ≡ (c a + 1) % 2 ^ G .w) (s .nexts)
 
   next-below-is : (k : ℕ) → k < length (pairList G)
-      → A (nextBelowVar S (suc k) (G .w)) ≡ ltb ((ℓ (bodyOf G (suc k)) + 1) % 2 ^ G .w) (ℓ (headOf G (suc k)))
+      → A (nextBelowVar S (suc k) (G .w)) ≡ ltb ((ℓ (pairBody G (suc k)) + 1) % 2 ^ G .w) (ℓ (pairHead G (suc k)))
   next-below-is k h =
-      top-bit (λ i. Compares A (nextBelowVar S (suc k)) (nextVar S (bodyOf G (suc k))) (levelVar S (headOf G (suc k))) i) (G .w) z (s .nextBelows k h)
-      ∙ ap₂ ltb (next-value (bodyOf G (suc k)) (body-in G g k h) ∙ ap (λ (x : ℕ). (x + 1) % 2 ^ G .w) (counter-is (bodyOf G (suc k)) (body-in G g k h)))
-      (counter-is (headOf G (suc k)) (head-in G g k h))
+      top-bit (λ i. Compares A (nextBelowVar S (suc k)) (nextVar S (pairBody G (suc k))) (levelVar S (pairHead G (suc k))) i) (G .w) z (s .nextBelows k h)
+      ∙ ap₂ ltb (next-value (pairBody G (suc k)) (body-in G g k h) ∙ ap (λ (x : ℕ). (x + 1) % 2 ^ G .w) (counter-is (pairBody G (suc k)) (body-in G g k h)))
+      (counter-is (pairHead G (suc k)) (head-in G g k h))
 
   numbering : Numbering G M ℓ
   numbering =
@@ -207,8 +207,8 @@ module _ (G : Code) (A : Assignment) (g : Ranges G) (z : zero < G .w) (s : Says 
         nexts = λ a h i j.
             bit-mod (bits A (nextVar S (suc a))) (c (suc a) + 1) (G .w) i (s .nexts a h) j
             ∙ ap (λ (x : ℕ). bit (x + 1) (suc i)) (counter-level (suc a) (is-atom (G .n) (suc a) (omega arith) h));
-        belows = λ k h i j. s .belows k h i j ∙ ap₂ ltb (lower (bodyOf G (suc k)) (body-in G g k h) i j) (lower (headOf G (suc k)) (head-in G g k h) i j);
-        nextBelows = λ k h i j. s .nextBelows k h i j ∙ ap₂ ltb (lower-next (bodyOf G (suc k)) (body-in G g k h) i j) (lower (headOf G (suc k)) (head-in G g k h) i j);
+        belows = λ k h i j. s .belows k h i j ∙ ap₂ ltb (lower (pairBody G (suc k)) (body-in G g k h) i j) (lower (pairHead G (suc k)) (head-in G g k h) i j);
+        nextBelows = λ k h i j. s .nextBelows k h i j ∙ ap₂ ltb (lower-next (pairBody G (suc k)) (body-in G g k h) i j) (lower (pairHead G (suc k)) (head-in G g k h) i j);
       }
     where
       lower : (a : ℕ) → So (isAtom (G .n) a) → (i : ℕ) → i < G .w → value (bits A (levelVar S a)) (suc i) ≡ levelOf G M a % 2 ^ suc i
@@ -227,7 +227,7 @@ module _ (G : Code) (M : Atoms) (A : Assignment) (g : Ranges G) (stable : Stable
   lev = levelOf G M
 
   abbrev T : Sizes
-  T = sizesOf G
+  T = codeSizes G
 
   num : Numbering G M lev
   num = stable-numbered G M g stable
@@ -256,15 +256,15 @@ module _ (G : Code) (M : Atoms) (A : Assignment) (g : Ranges G) (stable : Stable
   counter-lev : (a : ℕ) → So (isAtom (G .n) a) → counter T A a ≡ lev a
   counter-lev a t = low-level a t (G .w) (le-refl (G .w)) ∙ mod-eq-of-lt (lev-lt a)
 
-  below-w : (k : ℕ) → k < length (pairList G) → A (belowVar T (suc k) (G .w)) ≡ ltb (lev (bodyOf G (suc k))) (lev (headOf G (suc k)))
+  below-w : (k : ℕ) → k < length (pairList G) → A (belowVar T (suc k) (G .w)) ≡ ltb (lev (pairBody G (suc k))) (lev (pairHead G (suc k)))
   below-w k h =
-      top-bit (λ i. A (belowVar T (suc k) i) ≡ lessAt (lev (bodyOf G (suc k))) (lev (headOf G (suc k))) i) (G .w) some-bit (can .belows k h)
-      ∙ less-w (lev (bodyOf G (suc k))) (lev (headOf G (suc k))) (G .w) (lev-lt (bodyOf G (suc k))) (lev-lt (headOf G (suc k)))
+      top-bit (λ i. A (belowVar T (suc k) i) ≡ lessAt (lev (pairBody G (suc k))) (lev (pairHead G (suc k))) i) (G .w) some-bit (can .belows k h)
+      ∙ less-w (lev (pairBody G (suc k))) (lev (pairHead G (suc k))) (G .w) (lev-lt (pairBody G (suc k))) (lev-lt (pairHead G (suc k)))
 
-  next-below-w : (k : ℕ) → k < length (pairList G) → A (nextBelowVar T (suc k) (G .w)) ≡ ltb (lev (bodyOf G (suc k)) + 1) (lev (headOf G (suc k)))
+  next-below-w : (k : ℕ) → k < length (pairList G) → A (nextBelowVar T (suc k) (G .w)) ≡ ltb (lev (pairBody G (suc k)) + 1) (lev (pairHead G (suc k)))
   next-below-w k h =
-      top-bit (λ i. A (nextBelowVar T (suc k) i) ≡ lessAt (lev (bodyOf G (suc k)) + 1) (lev (headOf G (suc k))) i) (G .w) some-bit (can .nextBelows k h)
-      ∙ less-w (lev (bodyOf G (suc k)) + 1) (lev (headOf G (suc k))) (G .w) (fits (bodyOf G (suc k))) (lev-lt (headOf G (suc k)))
+      top-bit (λ i. A (nextBelowVar T (suc k) i) ≡ lessAt (lev (pairBody G (suc k)) + 1) (lev (pairHead G (suc k))) i) (G .w) some-bit (can .nextBelows k h)
+      ∙ less-w (lev (pairBody G (suc k)) + 1) (lev (pairHead G (suc k))) (G .w) (fits (pairBody G (suc k))) (lev-lt (pairHead G (suc k)))
 
   low-holds : (r : ℕ) → r < m G → So (bodyTrue M (rl G (suc r))) → (l : ℕ) → length (inner G (suc r)) ≡ l → So (lowTest T A (rl G (suc r) .head) (pairNumbers G (suc r)))
   low-holds r h b zero e =
@@ -292,8 +292,8 @@ module _ (G : Code) (M : Atoms) (A : Assignment) (g : Ranges G) (stable : Stable
         nexts = λ a h.
             let t = is-atom (G .n) (suc a) (omega arith) h in
             low-next (suc a) t (G .w) (le-refl (G .w)) ∙ ap (λ (x : ℕ). (x + 1) % 2 ^ G .w) (sym (counter-lev (suc a) t));
-        belows = λ k h i l. can .belows k h i l ∙ ap₂ ltb (sym (low-level (bodyOf G (suc k)) (body-in G g k h) (suc i) l)) (sym (low-level (headOf G (suc k)) (head-in G g k h) (suc i) l));
-        nextBelows = λ k h i l. can .nextBelows k h i l ∙ ap₂ ltb (sym (low-next (bodyOf G (suc k)) (body-in G g k h) (suc i) l)) (sym (low-level (headOf G (suc k)) (head-in G g k h) (suc i) l));
+        belows = λ k h i l. can .belows k h i l ∙ ap₂ ltb (sym (low-level (pairBody G (suc k)) (body-in G g k h) (suc i) l)) (sym (low-level (pairHead G (suc k)) (head-in G g k h) (suc i) l));
+        nextBelows = λ k h i l. can .nextBelows k h i l ∙ ap₂ ltb (sym (low-next (pairBody G (suc k)) (body-in G g k h) (suc i) l)) (sym (low-level (pairHead G (suc k)) (head-in G g k h) (suc i) l));
         founds = λ r h. can .foundings r h ∙ ap₂ _&&_ (sym (can .bodies r h)) (sym (all-pairs G (λ k. A (belowVar T k (G .w))) (λ b h. ltb (lev b) (lev h)) below-w r h));
         lowest = λ r h t. low-holds r h (sym (can .bodies r h) ∙ t) (length (inner G (suc r))) refl;
         founded = λ a h o t.

@@ -18,7 +18,7 @@ use Rattle.encoding.specs.Literal.{−_, Clause}
 use Rattle.encoding.specs.Variables.{Sizes, bodyVar, levelVar, nextVar, belowVar, nextBelowVar}
 use Rattle.encoding.specs.Counter.{chain, chainAt, successor, successorAt, keepsClauses, flipsClauses}
 use Rattle.encoding.specs.Clauses.{bodyClauses, impliedClauses, supportedClause, zeroClauses, nextClauses, pairClauses, foundsClauses, oneClauses, lowestClauses, foundedClause, rulesOf, clauses, pairCount, bodyAtoms, emptyBodies, clauseCount}
-use Rattle.theory.specs.Code.{Code, whole, m, sizesOf, rl, inner, its, pairList, bodyOf, headOf, before, pairNumbers, part1, part2, part3, part4, part5, part6, part7, clausesOf}
+use Rattle.encoding.specs.Code.{Code, whole, m, codeSizes, rl, inner, its, pairList, pairBody, pairHead, before, pairNumbers, part1, part2, part3, part4, part5, part6, part7, clausesOf}
 use Rattle.theory.proofs.Numbered.{Ranges}
 use Rattle.theory.proofs.Whole.{inner-whole, pairs-whole, clauses-whole, whole-fit}
 use Rattle.theory.proofs.Pairs.{pair-count}
@@ -70,7 +70,7 @@ openCount G = sum (G .n) (λ a. one (G .opened a))
 
 module _ (G : Code) (g : Ranges G) (k : ℕ) (wide : G .w ≡ suc k) where
   abbrev S : Sizes
-  S = sizesOf G
+  S = codeSizes G
 
   its-count : sum (G .n) (λ a. length (its G a)) ≡ m G
   unfolding rulesOf
@@ -111,8 +111,8 @@ module _ (G : Code) (g : Ranges G) (k : ℕ) (wide : G .w ≡ suc k) where
 
   count5 : length (part5 G) ≡ length (pairList G) * (6 + 12 * k)
   count5 =
-      length-each (length (pairList G)) (λ p. pairClauses S p (bodyOf G p) (headOf G p))
-      ∙ sum-ext (length (pairList G)) _ (λ p. 6 + 12 * k) (λ p h. pair-clauses (suc p) (bodyOf G (suc p)) (headOf G (suc p)))
+      length-each (length (pairList G)) (λ p. pairClauses S p (pairBody G p) (pairHead G p))
+      ∙ sum-ext (length (pairList G)) _ (λ p. 6 + 12 * k) (λ p h. pair-clauses (suc p) (pairBody G (suc p)) (pairHead G (suc p)))
       ∙ sum-const (length (pairList G)) (6 + 12 * k)
     where
       chain-length : (z x y : ℕ → ℕ) → length (chain (G .w) z x y) ≡ 3 + 6 * k

@@ -20,7 +20,7 @@ use Rattle.lists.proofs.Highest.{highest-le, highest-at, reached-count}
 use Rattle.meaning.specs.Program.{Atoms, isAtom, bodyTrue}
 use Rattle.meaning.specs.Gaps.{WithoutGaps}
 use Rattle.theory.proofs.Atoms.{is-atom, by-place}
-use Rattle.theory.specs.Code.{Code, m, rl, inner, levelOf, StableIn}
+use Rattle.encoding.specs.Code.{Code, m, rl, inner, levelOf, StableIn}
 use Rattle.theory.proofs.Reducts.{inner-of-body}
 use Rattle.theory.proofs.Numbered.{Ranges, Numbering, stable-numbered}
 

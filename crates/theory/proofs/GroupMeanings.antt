@@ -22,7 +22,7 @@ use Rattle.encoding.specs.Variables.{Sizes, bodyVar, foundsVar, levelVar, nextV
 use Rattle.encoding.specs.Counter.{value, chain}
 use Rattle.encoding.specs.Clauses.{impliedClauses, supportedClause, foundsClauses, lowestClauses, foundedClause, sizes, Pair, pairs, pairAt, pairCount, pairsBefore, pairsOf, rulesOf, group1, group2, group3, group4, group5, group6, group7}
 use Rattle.encoding.specs.Fill.{counter}
-use Rattle.theory.specs.Code.{whole}
+use Rattle.encoding.specs.Code.{whole}
 use Rattle.theory.specs.GroupMeaning.{SomeRule, ComparesPair, FoundsRule}
 use Rattle.theory.proofs.Atoms.{by-place, is-atom}
 use Rattle.theory.proofs.Bits.{value-ext, value-inj}

@@ -20,7 +20,7 @@ use Rattle.lists.proofs.First.{greatest}
 use Rattle.meaning.specs.Program.{Rule, Program, Atoms, noRule, noneIn, bodyTrue, isAtom, wellFormed}
 use Rattle.meaning.specs.Stage.{Stable, level}
 use Rattle.meaning.specs.Numbering.{largest, bodyLevel, LevelNumbering}
-use Rattle.theory.specs.Code.{Code, whole, inner, levelOf}
+use Rattle.encoding.specs.Code.{Code, whole, inner, levelOf}
 use Rattle.theory.proofs.Numbered.{Numbering, numbered-stable, numbered-level, stable-numbered, positive}
 use Rattle.theory.proofs.Whole.{inner-whole, level-whole, stable-whole, whole-ranges, whole-rank}
 

@@ -18,35 +18,35 @@ use Rattle.encoding.specs.Variables.{Sizes, bodyVar, foundsVar, levelVar, nextV
 use Rattle.encoding.specs.Counter.{value, chain}
 use Rattle.encoding.specs.Clauses.{impliedClauses, supportedClause, foundsClauses, oneClauses, lowestClauses, foundedClause, rulesOf}
 use Rattle.encoding.specs.Fill.{counter}
-use Rattle.theory.specs.Code.{Code, m, sizesOf, rl, its, pairList, bodyOf, headOf, pairNumbers, part1, part2, part3, part4, part5, part6, part7, clausesOf}
+use Rattle.encoding.specs.Code.{Code, m, codeSizes, rl, its, pairList, pairBody, pairHead, pairNumbers, part1, part2, part3, part4, part5, part6, part7, clausesOf}
 use Rattle.theory.proofs.AllTrue.{so-or, or-so, so-implies, each-at, each-in, append-left, append-right, append-in, one-of}
 use Rattle.theory.proofs.Counters.{bits, Compares, chain-iff, successor-iff}
 use Rattle.theory.proofs.Groups.{body-means, implied-means, supported-means, zero-means, founds-means, oneTest, one-means, lowTest, lowest-means, founded-means}
 
 pub record Says (G : Code) (A : Assignment) : Type 0 where
   -- group 1
-  pub bodies : (r : ℕ) → r < m G → A (bodyVar (sizesOf G) (suc r)) ≡ bodyTrue A (rl G (suc r))
+  pub bodies : (r : ℕ) → r < m G → A (bodyVar (codeSizes G) (suc r)) ≡ bodyTrue A (rl G (suc r))
   -- group 2
-  pub implied : (a : ℕ) → a < G .n → (r : ℕ) → r < m G → rl G (suc r) .head ≡ suc a → So (A (bodyVar (sizesOf G) (suc r))) → So (A (suc a))
+  pub implied : (a : ℕ) → a < G .n → (r : ℕ) → r < m G → rl G (suc r) .head ≡ suc a → So (A (bodyVar (codeSizes G) (suc r))) → So (A (suc a))
   pub supported : (a : ℕ) → a < G .n → G .opened (suc a) ≡ false → So (A (suc a))
-      → (r : ℕ) × (r < m G) × (rl G (suc r) .head ≡ suc a) × So (A (bodyVar (sizesOf G) (suc r)))
+      → (r : ℕ) × (r < m G) × (rl G (suc r) .head ≡ suc a) × So (A (bodyVar (codeSizes G) (suc r)))
   -- group 3
-  pub zeroed : (a : ℕ) → a < G .n → A (suc a) ≡ false → (i : ℕ) → i < G .w → A (levelVar (sizesOf G) (suc a) (suc i)) ≡ false
+  pub zeroed : (a : ℕ) → a < G .n → A (suc a) ≡ false → (i : ℕ) → i < G .w → A (levelVar (codeSizes G) (suc a) (suc i)) ≡ false
   -- group 4
-  pub nexts : (a : ℕ) → a < G .n → value (bits A (nextVar (sizesOf G) (suc a))) (G .w) ≡ (counter (sizesOf G) A (suc a) + 1) % 2 ^ G .w
+  pub nexts : (a : ℕ) → a < G .n → value (bits A (nextVar (codeSizes G) (suc a))) (G .w) ≡ (counter (codeSizes G) A (suc a) + 1) % 2 ^ G .w
   -- group 5
   pub belows : (k : ℕ) → k < length (pairList G) → (i : ℕ) → i < G .w
-      → Compares A (belowVar (sizesOf G) (suc k)) (levelVar (sizesOf G) (bodyOf G (suc k))) (levelVar (sizesOf G) (headOf G (suc k))) (suc i)
+      → Compares A (belowVar (codeSizes G) (suc k)) (levelVar (codeSizes G) (pairBody G (suc k))) (levelVar (codeSizes G) (pairHead G (suc k))) (suc i)
   pub nextBelows : (k : ℕ) → k < length (pairList G) → (i : ℕ) → i < G .w
-      → Compares A (nextBelowVar (sizesOf G) (suc k)) (nextVar (sizesOf G) (bodyOf G (suc k))) (levelVar (sizesOf G) (headOf G (suc k))) (suc i)
+      → Compares A (nextBelowVar (codeSizes G) (suc k)) (nextVar (codeSizes G) (pairBody G (suc k))) (levelVar (codeSizes G) (pairHead G (suc k))) (suc i)
   -- group 6
-  pub founds : (r : ℕ) → r < m G → A (foundsVar (sizesOf G) (suc r))
-      ≡ (A (bodyVar (sizesOf G) (suc r)) && all (λ k. A (belowVar (sizesOf G) k (G .w))) (pairNumbers G (suc r)))
-  pub lowest : (r : ℕ) → r < m G → So (A (bodyVar (sizesOf G) (suc r))) → So (lowTest (sizesOf G) A (rl G (suc r) .head) (pairNumbers G (suc r)))
+  pub founds : (r : ℕ) → r < m G → A (foundsVar (codeSizes G) (suc r))
+      ≡ (A (bodyVar (codeSizes G) (suc r)) && all (λ k. A (belowVar (codeSizes G) k (G .w))) (pairNumbers G (suc r)))
+  pub lowest : (r : ℕ) → r < m G → So (A (bodyVar (codeSizes G) (suc r))) → So (lowTest (codeSizes G) A (rl G (suc r) .head) (pairNumbers G (suc r)))
   -- group 7
   pub founded : (a : ℕ) → a < G .n → G .opened (suc a) ≡ false → So (A (suc a))
-      → (r : ℕ) × (r < m G) × (rl G (suc r) .head ≡ suc a) × So (A (foundsVar (sizesOf G) (suc r)))
-  pub one : (a : ℕ) → a < G .n → So (G .opened (suc a)) → So (A (suc a)) → So (oneTest (sizesOf G) A (suc a))
+      → (r : ℕ) × (r < m G) × (rl G (suc r) .head ≡ suc a) × So (A (foundsVar (codeSizes G) (suc r)))
+  pub one : (a : ℕ) → a < G .n → So (G .opened (suc a)) → So (A (suc a)) → So (oneTest (codeSizes G) A (suc a))
 
 -- ---- the rules of an atom
 
@@ -80,7 +80,7 @@ module _ (G : Code) (p : ℕ → Bool) (a : ℕ) where
 
 module _ (G : Code) (A : Assignment) where
   abbrev S : Sizes
-  S = sizesOf G
+  S = codeSizes G
 
   -- ---- the list, part by part
 
@@ -112,10 +112,10 @@ module _ (G : Code) (A : Assignment) where
   unopened a = cond (G .opened a) [] (supportedClause S a (its G a) ∷ [])
 
   abbrev belowChain : ℕ → List Clause
-  belowChain k = chain (G .w) (belowVar S k) (levelVar S (bodyOf G k)) (levelVar S (headOf G k))
+  belowChain k = chain (G .w) (belowVar S k) (levelVar S (pairBody G k)) (levelVar S (pairHead G k))
 
   abbrev nextBelowChain : ℕ → List Clause
-  nextBelowChain k = chain (G .w) (nextBelowVar S k) (nextVar S (bodyOf G k)) (levelVar S (headOf G k))
+  nextBelowChain k = chain (G .w) (nextBelowVar S k) (nextVar S (pairBody G k)) (levelVar S (pairHead G k))
 
   abbrev foundsPart : ℕ → List Clause
   foundsPart r = foundsClauses S r (pairNumbers G r)

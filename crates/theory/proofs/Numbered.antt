@@ -26,7 +26,7 @@ use Rattle.meaning.specs.Stage.{Definite, stage, InUnion}
 use Rattle.theory.proofs.Atoms.{is-atom}
 use Rattle.theory.proofs.Stages.{stage-zero, stage-atom, stage-le}
 use Rattle.theory.proofs.LeastModel.{collect, level-none, level-pos, level-first, level-least}
-use Rattle.theory.specs.Code.{Code, m, rl, inner, keeps, ruleKept, openKept, reductOf, levelOf, full, StableIn}
+use Rattle.encoding.specs.Code.{Code, m, rl, inner, keeps, ruleKept, openKept, reductOf, levelOf, full, StableIn}
 use Rattle.theory.proofs.Reducts.{ByRule, ByOpen, stage-in-rule, stage-in-open, stage-cases, kept-of-body, inner-of-body, body-of-kept}
 
 pub record Ranges (G : Code) : Type 0 where

@@ -20,7 +20,7 @@ use Rattle.encoding.specs.Literal.{Literal, var, −_, variable, Clause, within
 use Rattle.encoding.specs.Variables.{Sizes, bodyVar, foundsVar, levelVar, nextVar, belowVar, nextBelowVar}
 use Rattle.encoding.specs.Counter.{chain, chainAt, successor, successorAt, keepsClauses, flipsClauses}
 use Rattle.encoding.specs.Clauses.{impliedClauses, supportedClause, foundsClauses, oneClauses, lowestClauses, foundedClause}
-use Rattle.theory.specs.Code.{Code, m, sizesOf, rl, inner, its, pairList, bodyOf, headOf, before, pairNumbers, part1, part2, part3, part4, part5, part6, part7, clausesOf, variablesOf}
+use Rattle.encoding.specs.Code.{Code, m, codeSizes, rl, inner, its, pairList, pairBody, pairHead, before, pairNumbers, part1, part2, part3, part4, part5, part6, part7, clausesOf, variablesOf}
 use Rattle.theory.proofs.Numbered.{Ranges}
 use Rattle.theory.proofs.Pairs.{pair-below, body-in, head-in}
 use Rattle.theory.proofs.Meaning.{all-its}
@@ -28,7 +28,7 @@ use Rattle.theory.proofs.Families.{Member, atomAt, bodyAt, foundsAt, le
 
 module _ (G : Code) (g : Ranges G) (some : zero < G .w) where
   abbrev S : Sizes
-  S = sizesOf G
+  S = codeSizes G
 
   abbrev V′ : ℕ
   V′ = variablesOf G
@@ -177,9 +177,9 @@ module _ (G : Code) (g : Ranges G) (some : zero < G .w) where
 
   fit5 : So (allFit (part5 G))
   fit5 = each-fit (length (pairList G)) _ (λ k h.
-      append-fit (chain (G .w) (belowVar S (suc k)) (levelVar S (bodyOf G (suc k))) (levelVar S (headOf G (suc k)))) _
-      (chain-fit _ _ _ (ok-below k h) (ok-level (bodyOf G (suc k)) (body-in G g k h)) (ok-level (headOf G (suc k)) (head-in G g k h)))
-      (chain-fit _ _ _ (ok-next-below k h) (ok-next (bodyOf G (suc k)) (body-in G g k h)) (ok-level (headOf G (suc k)) (head-in G g k h))))
+      append-fit (chain (G .w) (belowVar S (suc k)) (levelVar S (pairBody G (suc k))) (levelVar S (pairHead G (suc k)))) _
+      (chain-fit _ _ _ (ok-below k h) (ok-level (pairBody G (suc k)) (body-in G g k h)) (ok-level (pairHead G (suc k)) (head-in G g k h)))
+      (chain-fit _ _ _ (ok-next-below k h) (ok-next (pairBody G (suc k)) (body-in G g k h)) (ok-level (pairHead G (suc k)) (head-in G g k h))))
 
   one-clauses-fit : (x h : ℕ) → So (ok x) → So (isAtom (G .n) h) → So (allFit (oneClauses S x h))
   one-clauses-fit x h t u =
@@ -288,10 +288,10 @@ module _ (G : Code) (g : Ranges G) (some : zero < G .w) where
     member-occurs (nextAt a i h l e) = in-part 3 (lit< tt) (in-next a i h l e)
     member-occurs (belowAt k i h l e) =
         in-part 4 (lit< tt) (each-has (length (pairList G)) _ k h
-        (append-left (chain (G .w) (belowVar S (suc k)) (levelVar S (bodyOf G (suc k))) (levelVar S (headOf G (suc k)))) _ (in-chain _ _ _ i l e)))
+        (append-left (chain (G .w) (belowVar S (suc k)) (levelVar S (pairBody G (suc k))) (levelVar S (pairHead G (suc k)))) _ (in-chain _ _ _ i l e)))
     member-occurs (nextBelowAt k i h l e) =
         in-part 4 (lit< tt) (each-has (length (pairList G)) _ k h
-        (append-right (chain (G .w) (belowVar S (suc k)) (levelVar S (bodyOf G (suc k))) (levelVar S (headOf G (suc k)))) _ (in-chain _ _ _ i l e)))
+        (append-right (chain (G .w) (belowVar S (suc k)) (levelVar S (pairBody G (suc k))) (levelVar S (pairHead G (suc k)))) _ (in-chain _ _ _ i l e)))
 
   pub all-occur : (v : ℕ) → zero < v → v ≤ variablesOf G → So (occurs v (clausesOf G))
   all-occur v p h = member-occurs v (member S (length (pairList G)) v p h)

@@ -16,7 +16,7 @@ use Rattle.lists.proofs.Tables.{all-keep, all-of-keep}
 use Rattle.meaning.specs.Program.{Atoms, noneIn, bodyTrue, isAtom}
 use Rattle.meaning.specs.Stage.{Definite, stage}
 use Rattle.theory.proofs.Atoms.{is-atom, by-place}
-use Rattle.theory.specs.Code.{Code, rl, inner, keeps, ruleKept, openKept, reductOf, m}
+use Rattle.encoding.specs.Code.{Code, rl, inner, keeps, ruleKept, openKept, reductOf, m}
 
 module _ (G : Code) (M : Atoms) where
   -- rule r is kept and puts a into the stage above i

@@ -16,7 +16,7 @@ use Rattle.meaning.specs.Program.{Atoms, isAtom}
 use Rattle.theory.proofs.Atoms.{by-place}
 use Rattle.encoding.specs.Literal.{Assignment, valueOf, allTrue}
 use Rattle.encoding.specs.Fill.{trueIn, counter}
-use Rattle.theory.specs.Code.{Code, sizesOf, rl, inner, pairList, levelOf, StableIn, clausesOf, variablesOf, fillOf}
+use Rattle.encoding.specs.Code.{Code, codeSizes, rl, inner, pairList, levelOf, StableIn, clausesOf, variablesOf, codeFill}
 use Rattle.theory.proofs.Numbered.{Ranges, Rank, stable-in}
 use Rattle.theory.proofs.Meaning.{clauses-iff}
 use Rattle.theory.proofs.Correct.{Canon, says-stable, says-canon, counter-level, canon-says}
@@ -30,23 +30,23 @@ pub record Fit (G : Code) : Type 0 where
   pub level-fits : (M : Atoms) → StableIn G M → (a : ℕ) → levelOf G M a + 1 < 2 ^ G .w
 
 module _ (G : Code) where
-  pub fill-canon : (M : Atoms) → Canon G M (valueOf (fillOf G M))
+  pub fill-canon : (M : Atoms) → Canon G M (valueOf (codeFill G M))
   fill-canon M =
       record {
-        atoms = atom-value (sizesOf G) (rl G) (inner G) (pairList G) M (levelOf G M);
-        bodies = body-value (sizesOf G) (rl G) (inner G) (pairList G) M (levelOf G M);
-        foundings = founds-value (sizesOf G) (rl G) (inner G) (pairList G) M (levelOf G M);
-        levels = λ a h i. level-value (sizesOf G) (rl G) (inner G) (pairList G) M (levelOf G M) a i h;
-        nexts = λ a h i. next-value (sizesOf G) (rl G) (inner G) (pairList G) M (levelOf G M) a i h;
-        belows = λ k h i. below-value (sizesOf G) (rl G) (inner G) (pairList G) M (levelOf G M) k i h;
-        nextBelows = λ k h i. next-below-value (sizesOf G) (rl G) (inner G) (pairList G) M (levelOf G M) k i h;
+        atoms = atom-value (codeSizes G) (rl G) (inner G) (pairList G) M (levelOf G M);
+        bodies = body-value (codeSizes G) (rl G) (inner G) (pairList G) M (levelOf G M);
+        foundings = founds-value (codeSizes G) (rl G) (inner G) (pairList G) M (levelOf G M);
+        levels = λ a h i. level-value (codeSizes G) (rl G) (inner G) (pairList G) M (levelOf G M) a i h;
+        nexts = λ a h i. next-value (codeSizes G) (rl G) (inner G) (pairList G) M (levelOf G M) a i h;
+        belows = λ k h i. below-value (codeSizes G) (rl G) (inner G) (pairList G) M (levelOf G M) k i h;
+        nextBelows = λ k h i. next-below-value (codeSizes G) (rl G) (inner G) (pairList G) M (levelOf G M) k i h;
       }
 
-  pub fill-vars : (M : Atoms) → length (fillOf G M) ≡ variablesOf G
-  fill-vars M = fill-length (sizesOf G) (rl G) (inner G) (pairList G) M (levelOf G M)
+  pub fill-vars : (M : Atoms) → length (codeFill G M) ≡ variablesOf G
+  fill-vars M = fill-length (codeSizes G) (rl G) (inner G) (pairList G) M (levelOf G M)
 
   -- two assignments with the values of M agree on every variable
-  canon-same : (M : Atoms) (A B : Assignment) → Canon G M A → Canon G M B → (v : ℕ) → Member (sizesOf G) (length (pairList G)) v → A v ≡ B v
+  canon-same : (M : Atoms) (A B : Assignment) → Canon G M A → Canon G M B → (v : ℕ) → Member (codeSizes G) (length (pairList G)) v → A v ≡ B v
   canon-same M A B c d v (atomAt a h e) = ap A e ∙ c .atoms a h ∙ sym (d .atoms a h) ∙ ap B (sym e)
   canon-same M A B c d v (bodyAt r h e) = ap A e ∙ c .bodies r h ∙ sym (d .bodies r h) ∙ ap B (sym e)
   canon-same M A B c d v (foundsAt r h e) = ap A e ∙ c .foundings r h ∙ sym (d .foundings r h) ∙ ap B (sym e)
@@ -55,15 +55,15 @@ module _ (G : Code) where
   canon-same M A B c d v (belowAt k i h g e) = ap A e ∙ c .belows k h i g ∙ sym (d .belows k h i g) ∙ ap B (sym e)
   canon-same M A B c d v (nextBelowAt k i h g e) = ap A e ∙ c .nextBelows k h i g ∙ sym (d .nextBelows k h i g) ∙ ap B (sym e)
 
-  canon-fill : (M : Atoms) (bs : List Bool) → length bs ≡ variablesOf G → Canon G M (valueOf bs) → bs ≡ fillOf G M
+  canon-fill : (M : Atoms) (bs : List Bool) → length bs ≡ variablesOf G → Canon G M (valueOf bs) → bs ≡ codeFill G M
   unfolding valueOf
   canon-fill M bs e c =
-      ext-getD false bs (fillOf G M) (e ∙ sym (fill-vars M))
-      (λ x h. canon-same M (valueOf bs) (valueOf (fillOf G M)) c (fill-canon M) (suc x) (member (sizesOf G) (length (pairList G)) (suc x) (omega arith) (subst (λ (k : ℕ). x < k) e h)))
+      ext-getD false bs (codeFill G M) (e ∙ sym (fill-vars M))
+      (λ x h. canon-same M (valueOf bs) (valueOf (codeFill G M)) c (fill-canon M) (suc x) (member (codeSizes G) (length (pairList G)) (suc x) (omega arith) (subst (λ (k : ℕ). x < k) e h)))
 
   module _ (f : Fit G) where
     pub true-exactly : (bs : List Bool) → length bs ≡ variablesOf G
-        → So (allTrue (valueOf bs) (clausesOf G)) ↔ (StableIn G (trueIn (G .n) (valueOf bs)) × (bs ≡ fillOf G (trueIn (G .n) (valueOf bs))))
+        → So (allTrue (valueOf bs) (clausesOf G)) ↔ (StableIn G (trueIn (G .n) (valueOf bs)) × (bs ≡ codeFill G (trueIn (G .n) (valueOf bs))))
     true-exactly bs e = (
       λ t. let s = clauses-iff G (valueOf bs) .0 t in (
         says-stable G (valueOf bs) (f .ranges) (f .some-bit) s (f .rank),
@@ -76,19 +76,19 @@ module _ (G : Code) where
 
     -- the counter of each atom is its level
     pub counters : (bs : List Bool) → So (allTrue (valueOf bs) (clausesOf G))
-        → (a : ℕ) → So (isAtom (G .n) a) → counter (sizesOf G) (valueOf bs) a ≡ levelOf G (trueIn (G .n) (valueOf bs)) a
+        → (a : ℕ) → So (isAtom (G .n) a) → counter (codeSizes G) (valueOf bs) a ≡ levelOf G (trueIn (G .n) (valueOf bs)) a
     counters bs t = counter-level G (valueOf bs) (f .ranges) (f .some-bit) (clauses-iff G (valueOf bs) .0 t)
 
-    pub filled-true : (M : Atoms) → StableIn G M → So (allTrue (valueOf (fillOf G M)) (clausesOf G))
-    filled-true M s = clauses-iff G (valueOf (fillOf G M)) .1 (canon-says G M (valueOf (fillOf G M)) (f .ranges) s (f .level-fits M s) (fill-canon M))
+    pub filled-true : (M : Atoms) → StableIn G M → So (allTrue (valueOf (codeFill G M)) (clausesOf G))
+    filled-true M s = clauses-iff G (valueOf (codeFill G M)) .1 (canon-says G M (valueOf (codeFill G M)) (f .ranges) s (f .level-fits M s) (fill-canon M))
 
-    pub fill-atoms : (M : Atoms) → StableIn G M → trueIn (G .n) (valueOf (fillOf G M)) ≡ M
+    pub fill-atoms : (M : Atoms) → StableIn G M → trueIn (G .n) (valueOf (codeFill G M)) ≡ M
     fill-atoms M s =
-        fun-ext (λ a. ⊎-elim (λ (t : So (isAtom (G .n) a)). ap (λ b. b && valueOf (fillOf G M) a) t ∙ by-place (G .n) (λ a. valueOf (fillOf G M) a ≡ M a) (fill-canon M .atoms) a t)
-        (λ (e : isAtom (G .n) a ≡ false). ap (λ b. b && valueOf (fillOf G M) a) e ∙ sym (false-of (M a) (λ t. not-So (isAtom (G .n) a) e (stable-in G M (f .ranges) s a t))))
+        fun-ext (λ a. ⊎-elim (λ (t : So (isAtom (G .n) a)). ap (λ b. b && valueOf (codeFill G M) a) t ∙ by-place (G .n) (λ a. valueOf (codeFill G M) a ≡ M a) (fill-canon M .atoms) a t)
+        (λ (e : isAtom (G .n) a ≡ false). ap (λ b. b && valueOf (codeFill G M) a) e ∙ sym (false-of (M a) (λ t. not-So (isAtom (G .n) a) e (stable-in G M (f .ranges) s a t))))
         (So-or-not (isAtom (G .n) a)))
 
     pub one-each : (bs cs : List Bool) → length bs ≡ variablesOf G → length cs ≡ variablesOf G
         → So (allTrue (valueOf bs) (clausesOf G)) → So (allTrue (valueOf cs) (clausesOf G))
         → trueIn (G .n) (valueOf bs) ≡ trueIn (G .n) (valueOf cs) → bs ≡ cs
-    one-each bs cs d e t u p = true-exactly bs d .0 t .1 ∙ ap (fillOf G) p ∙ sym (true-exactly cs e .0 u .1)
+    one-each bs cs d e t u p = true-exactly bs d .0 t .1 ∙ ap (codeFill G) p ∙ sym (true-exactly cs e .0 u .1)

@@ -20,7 +20,7 @@ use Rattle.encoding.specs.Clauses.{Pair, sizes, pairs, pairsWith, pairAt, pairs
 use Rattle.encoding.specs.Literal.{Clause}
 use Rattle.encoding.specs.Variables.{varCount}
 use Rattle.encoding.specs.Fill.{fill, fillWith}
-use Rattle.theory.specs.Code.{Code, whole, inner, ruleKept, reductOf, levelOf, pairList, before, pairNumbers, clausesOf, variablesOf, fillOf, StableIn}
+use Rattle.encoding.specs.Code.{Code, whole, inner, ruleKept, reductOf, levelOf, pairList, before, pairNumbers, clausesOf, variablesOf, codeFill, StableIn}
 use Rattle.theory.proofs.Numbered.{Ranges, Rank}
 use Rattle.theory.proofs.Theorem.{Fit}
 
@@ -72,7 +72,7 @@ module _ (P : Program) (w : ℕ) where
   pub level-whole : (M : Atoms) (a : ℕ) → levelOf G M a ≡ level P M a
   level-whole M a = ap (λ (D : List Definite). levelIn (P .atoms) D a) (reduct-whole M)
 
-  pub fill-whole : (M : Atoms) → fillOf G M ≡ fill P w M
+  pub fill-whole : (M : Atoms) → codeFill G M ≡ fill P w M
   unfolding fill
   fill-whole M =
       ap₂ (λ (f : ℕ → List ℕ) (ps : List Pair). fillWith (sizes P w) (ruleAt (P .rules)) f ps M (levelOf G M)) (fun-ext inner-whole) pairs-whole

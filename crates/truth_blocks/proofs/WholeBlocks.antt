@@ -1,4 +1,4 @@
--- The blocks of groups 3 to 6, in a program whose tables are given: their clauses, their variables, and which blocks are taken whole.
+-- The blocks of groups 3 to 6, in a code whose tables are given: their clauses, their variables, and which blocks are taken whole.
 --   block-of                     a block by the literals in its slots
 --   bit-block, next-block, zero-block, rule-block  the blocks of groups 5, 4, 3 and 6
 --   bit-in, next-asks, zero-asks, rule-asks        their variables have bytes
@@ -17,11 +17,10 @@ use borrow.Author.Tests.{eq-eqb, ne-eqb, eqb-true}
 use Rattle.lists.specs.Lists.{all, any, each, allTo, anyTo}
 use Rattle.lists.proofs.Bools.{and-left}
 use Rattle.lists.proofs.Tests.{allTo-ext, anyTo-ext, any-each}
-use Rattle.meaning.specs.Program.{Program, isAtom}
-use Rattle.encoding.specs.Width.{width}
+use Rattle.meaning.specs.Program.{isAtom}
+use Rattle.encoding.specs.Code.{Code, pairTotal, variablesOf}
 use Rattle.encoding.specs.Literal.{Assignment, Literal, literalTrue, clauseTrue, variable}
 use Rattle.encoding.specs.Variables.{Sizes, levelVar, nextVar, varCount}
-use Rattle.encoding.specs.Clauses.{sizes, pairCount, variables}
 use Rattle.theory.proofs.Atoms.{atom-pos, atom-le}
 use Rattle.clause_literals.specs.Sizes.{sizesOf, Bounded}
 use Rattle.clause_walk.specs.Walk.{headOf, itemCount, size, slots, slot, clauseAt, slot3, slots4, slot4, size6, slots6, slot6, chainSize, chainSlots, chainSlot, chainFirst, chainNext, chainBit, BlockAt, At}
@@ -29,7 +28,7 @@ use Rattle.clause_slots.specs.declared.Chain.{Chain}
 use Rattle.clause_slots.specs.Signed.{slotLiteral}
 use Rattle.clause_tables.specs.declared.Totals.{Totals}
 use Rattle.clause_tables.specs.Tables.{Tabled}
-use Rattle.clause_table_laws.proofs.Elements.{width-are, vars-are, rules-are, heads-length, starts-length, before-length, head-atom, head-is, before-is, before-fits, pairs-fit}
+use Rattle.clause_table_laws.proofs.Elements.{inner-positives, vars-are, rules-are, heads-length, starts-length, before-length, head-atom, head-is, before-is, before-fits, pairs-fit}
 use Rattle.clause_table_laws.proofs.Bounds.{slot-in}
 use Rattle.clause_layout.specs.BlockChain.{chainOfBlock}
 use Rattle.clause_layout.proofs.Groups.{sizes-are, bounded, atom3, atom4, block4, bits4, size-zero, size-next, size-pair, size-rule, slots-zero, slots-next, slots-pair, slots-rule, slot-zero, slot-next, slot-rule, rule6, rule-fits, first-middle, span1}
@@ -90,108 +89,103 @@ any-slots : (p : Literal → Bool) (n : ℕ) (f : ℕ → List Literal) (F : ℕ
 any-slots p n f F q =
     any-each p n f ∙ anyTo-ext n (λ l. any p (f l)) (λ l. p (F l)) (λ l h. ap (any p) (q l h) ∙ or-false (p (F (suc l))))
 
-module _ (P : Program) (w g a i y l : ℕ) where
-  single5 : g ≡ 5 → slot P w g a i y l ≡ slotLiteral (slot P w g a i y l) ∷ []
+module _ (G : Code) (g a i y l : ℕ) where
+  single5 : g ≡ 5 → slot G g a i y l ≡ slotLiteral (slot G g a i y l) ∷ []
   unfolding slot
-  single5 e = subst (λ (g : ℕ). slot P w g a i y l ≡ slotLiteral (slot P w g a i y l) ∷ []) (sym e) refl
+  single5 e = subst (λ (g : ℕ). slot G g a i y l ≡ slotLiteral (slot G g a i y l) ∷ []) (sym e) refl
 
-  single4 : g ≡ 4 → slot P w g a i y l ≡ slotLiteral (slot P w g a i y l) ∷ []
+  single4 : g ≡ 4 → slot G g a i y l ≡ slotLiteral (slot G g a i y l) ∷ []
   unfolding slot
-  single4 e = subst (λ (g : ℕ). slot P w g a i y l ≡ slotLiteral (slot P w g a i y l) ∷ []) (sym e) refl
+  single4 e = subst (λ (g : ℕ). slot G g a i y l ≡ slotLiteral (slot G g a i y l) ∷ []) (sym e) refl
 
-  single3 : g ≡ 3 → slot P w g a i y l ≡ slotLiteral (slot P w g a i y l) ∷ []
+  single3 : g ≡ 3 → slot G g a i y l ≡ slotLiteral (slot G g a i y l) ∷ []
   unfolding slot
-  single3 e = subst (λ (g : ℕ). slot P w g a i y l ≡ slotLiteral (slot P w g a i y l) ∷ []) (sym e) refl
+  single3 e = subst (λ (g : ℕ). slot G g a i y l ≡ slotLiteral (slot G g a i y l) ∷ []) (sym e) refl
 
-module _ (P : Program) (w g a i y l : ℕ) where
-  single6 : g ≡ 6 → slot P w g a i y l ≡ slotLiteral (slot P w g a i y l) ∷ []
+module _ (G : Code) (g a i y l : ℕ) where
+  single6 : g ≡ 6 → slot G g a i y l ≡ slotLiteral (slot G g a i y l) ∷ []
   unfolding slot
-  single6 e = subst (λ (g : ℕ). slot P w g a i y l ≡ slotLiteral (slot P w g a i y l) ∷ []) (sym e) refl
+  single6 e = subst (λ (g : ℕ). slot G g a i y l ≡ slotLiteral (slot G g a i y l) ∷ []) (sym e) refl
 
-items3 : (P : Program) → itemCount P 3 ≡ P .atoms
+items3 : (G : Code) → itemCount G 3 ≡ G .n
 unfolding itemCount
-items3 P = refl
+items3 G = refl
 
-items4 : (P : Program) → itemCount P 4 ≡ P .atoms
+items4 : (G : Code) → itemCount G 4 ≡ G .n
 unfolding itemCount
-items4 P = refl
+items4 G = refl
 
 -- ---- which blocks are taken whole
 
-module _ (P : Program) (w : ℕ) (A : Assignment) (g a i : ℕ) {r : Bool} where
-  passes : isWhole g ≡ true → r ≡ blockTrue P w A g a i → r ≡ blockPasses P w A g a i
-  passes q e = e ∙ sym (ap (λ (d : Bool). cond d (blockTrue P w A g a i) false) q)
+module _ (G : Code) (A : Assignment) (g a i : ℕ) {r : Bool} where
+  passes : isWhole g ≡ true → r ≡ blockTrue G A g a i → r ≡ blockPasses G A g a i
+  passes q e = e ∙ sym (ap (λ (d : Bool). cond d (blockTrue G A g a i) false) q)
 
-  pub passes-five : g ≡ 5 → r ≡ blockTrue P w A g a i → r ≡ blockPasses P w A g a i
+  pub passes-five : g ≡ 5 → r ≡ blockTrue G A g a i → r ≡ blockPasses G A g a i
   passes-five q e = passes (ap (λ (d : Bool). cond d true (cond (eqb g 4) true (cond (eqb g 3) true (eqb g 6)))) (eq-eqb g 5 q)) e
 
-  pub passes-four : g ≡ 4 → r ≡ blockTrue P w A g a i → r ≡ blockPasses P w A g a i
+  pub passes-four : g ≡ 4 → r ≡ blockTrue G A g a i → r ≡ blockPasses G A g a i
   passes-four q e = passes (ap isWhole q) e
 
-  pub passes-six : g ≡ 6 → r ≡ blockTrue P w A g a i → r ≡ blockPasses P w A g a i
+  pub passes-six : g ≡ 6 → r ≡ blockTrue G A g a i → r ≡ blockPasses G A g a i
   passes-six q e = passes (ap isWhole q) e
 
-  pub passes-three : g ≡ 3 → r ≡ blockTrue P w A g a i → r ≡ blockPasses P w A g a i
+  pub passes-three : g ≡ 3 → r ≡ blockTrue G A g a i → r ≡ blockPasses G A g a i
   passes-three q e = passes (ap isWhole q) e
 
-pub passes-none : (P : Program) (w : ℕ) (A : Assignment) (g a i : ℕ) → (g ≡ 5 → ⊥) → (g ≡ 4 → ⊥) → (g ≡ 3 → ⊥) → (g ≡ 6 → ⊥) → false ≡ blockPasses P w A g a i
-passes-none P w A g a i x y z u =
+pub passes-none : (G : Code) (A : Assignment) (g a i : ℕ) → (g ≡ 5 → ⊥) → (g ≡ 4 → ⊥) → (g ≡ 3 → ⊥) → (g ≡ 6 → ⊥) → false ≡ blockPasses G A g a i
+passes-none G A g a i x y z u =
     sym
-    (ap₂ (λ (d e : Bool). cond (cond d true (cond e true (cond (eqb g 3) true (eqb g 6)))) (blockTrue P w A g a i) false) (ne-eqb g 5 x) (ne-eqb g 4 y)
-    ∙ ap₂ (λ (d e : Bool). cond (cond d true e) (blockTrue P w A g a i) false) (ne-eqb g 3 z) (ne-eqb g 6 u))
+    (ap₂ (λ (d e : Bool). cond (cond d true (cond e true (cond (eqb g 3) true (eqb g 6)))) (blockTrue G A g a i) false) (ne-eqb g 5 x) (ne-eqb g 4 y)
+    ∙ ap₂ (λ (d e : Bool). cond (cond d true e) (blockTrue G A g a i) false) (ne-eqb g 3 z) (ne-eqb g 6 u))
 
-module _ {P : Program} {t : Totals} {hs ss bs ks xs ys : List ℕ} (T : Tabled P t hs ss bs ks xs ys) {g a i : ℕ} (R : BlockAt P (t .sizes .w) g a i) where
+module _ {G : Code} {t : Totals} {hs ss bs ks xs ys : List ℕ} (T : Tabled G t hs ss bs ks xs ys) {g a i : ℕ} (R : BlockAt G g a i) where
   abbrev w : ℕ
   w = t .sizes .w
 
-  clause-at : (y : ℕ) → 0 < y → y ≤ size P w g a i → At P w g a i y
+  clause-at : (y : ℕ) → 0 < y → y ≤ size G g a i → At G g a i y
   clause-at y p h = record { block-at = R; clause-some = p; clause-in = h }
 
-  block-of : (A : Assignment) (k : ℕ) (n : ℕ → ℕ) (F : ℕ → ℕ → Literal) → k ≡ size P w g a i → ((y : ℕ) → At P w g a i y → n y ≡ slots P w g a i y)
-      → ((y l : ℕ) → At P w g a i y → slot P w g a i y l ≡ F y l ∷ [])
-      → allTo k (λ y. anyTo (n y) (λ l. literalTrue A (F y l))) ≡ blockTrue P w A g a i
+  block-of : (A : Assignment) (k : ℕ) (n : ℕ → ℕ) (F : ℕ → ℕ → Literal) → k ≡ size G g a i → ((y : ℕ) → At G g a i y → n y ≡ slots G g a i y)
+      → ((y l : ℕ) → At G g a i y → slot G g a i y l ≡ F y l ∷ [])
+      → allTo k (λ y. anyTo (n y) (λ l. literalTrue A (F y l))) ≡ blockTrue G A g a i
   unfolding blockTrue
   block-of A k n F e q s =
-      allTo-ext k (λ y. anyTo (n y) (λ l. literalTrue A (F y l))) (λ y. clauseTrue A (clauseAt P w g a i y)) (λ y h. clause-is (suc y) (clause-at (suc y) (omega arith) (subst (λ (m : ℕ). y < m) e h)))
-      ∙ ap (λ (m : ℕ). allTo m (λ y. clauseTrue A (clauseAt P w g a i y))) e
+      allTo-ext k (λ y. anyTo (n y) (λ l. literalTrue A (F y l))) (λ y. clauseTrue A (clauseAt G g a i y)) (λ y h. clause-is (suc y) (clause-at (suc y) (omega arith) (subst (λ (m : ℕ). y < m) e h)))
+      ∙ ap (λ (m : ℕ). allTo m (λ y. clauseTrue A (clauseAt G g a i y))) e
     where
-      clause-is : (y : ℕ) → At P w g a i y → anyTo (n y) (λ l. literalTrue A (F y l)) ≡ clauseTrue A (clauseAt P w g a i y)
+      clause-is : (y : ℕ) → At G g a i y → anyTo (n y) (λ l. literalTrue A (F y l)) ≡ clauseTrue A (clauseAt G g a i y)
       clause-is y B =
           ap (λ (m : ℕ). anyTo m (λ l. literalTrue A (F y l))) (q y B)
-          ∙ sym (any-slots (literalTrue A) (slots P w g a i y) (slot P w g a i y) (F y) (λ l h. s y (suc l) B))
+          ∙ sym (any-slots (literalTrue A) (slots G g a i y) (slot G g a i y) (F y) (λ l h. s y (suc l) B))
 
   -- a variable of the block has a number from 1 to V
-  variable-in : (y l : ℕ) (x : Literal) → At P w g a i y → 0 < l → l ≤ slots P w g a i y → slot P w g a i y l ≡ x ∷ [] → (0 < variable x) × (variable x ≤ t .vars)
+  variable-in : (y l : ℕ) (x : Literal) → At G g a i y → 0 < l → l ≤ slots G g a i y → slot G g a i y l ≡ x ∷ [] → (0 < variable x) × (variable x ≤ t .vars)
   variable-in y l x B p h q =
-      (atom-pos many (variable x) u, subst (λ (n : ℕ). variable x ≤ n) (sym (vars-are P t hs ss bs ks xs ys T)) (atom-le many (variable x) u))
+      (atom-pos many (variable x) u, subst (λ (n : ℕ). variable x ≤ n) (sym (vars-are G t hs ss bs ks xs ys T)) (atom-le many (variable x) u))
     where
       many : ℕ
-      many = variables P (width (P .atoms))
+      many = variablesOf G
 
-      v : So (all (λ z. isAtom many (variable z)) (slot P w g a i y l))
-      v =
-          subst (λ (v : ℕ). At P v g a i y → l ≤ slots P v g a i y → So (all (λ z. isAtom (variables P (width (P .atoms))) (variable z)) (slot P v g a i y l))) (sym (width-are P t hs ss bs ks xs ys T))
-          (λ B h. slot-in P (T .limits) g a i y l B p h) B h
+      v : So (all (λ z. isAtom many (variable z)) (slot G g a i y l))
+      v = slot-in G (T .limits) g a i y l B p h
 
       u : So (isAtom many (variable x))
       u = and-left (isAtom many (variable x)) true (subst (λ (ls : List Literal). So (all (λ z. isAtom many (variable z)) ls)) q v)
 
-  vars-of : t .vars ≡ varCount (sizesOf (t .sizes)) (pairCount P)
-  unfolding variables
-  vars-of =
-      vars-are P t hs ss bs ks xs ys T ∙ ap (λ (v : ℕ). varCount (sizes P v) (pairCount P)) (sym (width-are P t hs ss bs ks xs ys T))
-      ∙ ap (λ (S : Sizes). varCount S (pairCount P)) (sym (sizes-are T))
+  vars-of : t .vars ≡ varCount (sizesOf (t .sizes)) (pairTotal G)
+  vars-of = vars-are G t hs ss bs ks xs ys T ∙ ap (λ (S : Sizes). varCount S (pairTotal G)) (sym (sizes-are T))
 
-  atoms-of : P .atoms ≡ t .sizes .n
+  atoms-of : G .n ≡ t .sizes .n
   atoms-of = ap (λ (S : Sizes). S .n) (sym (sizes-are T))
 
   -- ---- group 5
 
-  module _ (e : g ≡ 5) {c : Chain} {j : ℕ} (p : c ≡ chainOfBlock P w g a i) (q : j ≡ chainBit w i) where
-    chain-slot : (y l : ℕ) → slot P w g a i y l ≡ chainSlot (c .z .0) (c .x .0) (c .y .0) (c .g .0) j y l ∷ []
-    chain-slot y l = single5 P w g a i y l e ∙ ap (λ (x : Literal). x ∷ []) (sym (literal-pair T R y l e p q refl))
+  module _ (e : g ≡ 5) {c : Chain} {j : ℕ} (p : c ≡ chainOfBlock G g a i) (q : j ≡ chainBit w i) where
+    chain-slot : (y l : ℕ) → slot G g a i y l ≡ chainSlot (c .z .0) (c .x .0) (c .y .0) (c .g .0) j y l ∷ []
+    chain-slot y l = single5 G g a i y l e ∙ ap (λ (x : Literal). x ∷ []) (sym (literal-pair T R y l e p q refl))
 
-    pub bit-block : (A : Assignment) → bitTrue A c j ≡ blockTrue P w A g a i
+    pub bit-block : (A : Assignment) → bitTrue A c j ≡ blockTrue G A g a i
     unfolding bitTrue
     bit-block A =
         block-of A (chainSize j) (chainSlots j) (chainSlot (c .z .0) (c .x .0) (c .y .0) (c .g .0) j) (size-pair T R e q refl)
@@ -209,47 +203,47 @@ module _ {P : Program} {t : Totals} {hs ss bs ks xs ys : List ℕ} (T : Tabled P
   -- ---- group 4
 
   module _ (e : g ≡ 4) where
-    pub next-block : (A : Assignment) → nextTrue A (sizesOf (t .sizes)) a i ≡ blockTrue P w A g a i
+    pub next-block : (A : Assignment) → nextTrue A (sizesOf (t .sizes)) a i ≡ blockTrue G A g a i
     unfolding nextTrue
     next-block A =
         block-of A (2 * i) (slots4 i) (slot4 (sizesOf (t .sizes)) a i) (size-next T R e) (λ y B. slots-next T B e refl)
-        (λ y l B. single4 P w g a i y l e ∙ ap (λ (x : Literal). x ∷ []) (sym (slot-next T B l e refl)))
+        (λ y l B. single4 G g a i y l e ∙ ap (λ (x : Literal). x ∷ []) (sym (slot-next T B l e refl)))
 
     pub next-asks : (vs : List ℕ) → t .vars ≤ length vs
         → (Bounded (t .sizes)) × (0 < a) × (a ≤ 126) × (0 < i) × (i ≤ 7) × (levelVar (sizesOf (t .sizes)) a i ≤ length vs) × (nextVar (sizesOf (t .sizes)) a i ≤ length vs)
     next-asks vs f =
-        (bounded T, R .item-some, atom4 T R e, R .block-some, bits4 T R e, fits (levelVar (sizesOf (t .sizes)) a i) (level-fits (sizesOf (t .sizes)) a i (pairCount P) (R .item-some) in-atoms (block4 T R e)), fits (nextVar (sizesOf (t .sizes)) a i) (next-fits (sizesOf (t .sizes)) a i (pairCount P) (R .item-some) in-atoms (block4 T R e)))
+        (bounded T, R .item-some, atom4 T R e, R .block-some, bits4 T R e, fits (levelVar (sizesOf (t .sizes)) a i) (level-fits (sizesOf (t .sizes)) a i (pairTotal G) (R .item-some) in-atoms (block4 T R e)), fits (nextVar (sizesOf (t .sizes)) a i) (next-fits (sizesOf (t .sizes)) a i (pairTotal G) (R .item-some) in-atoms (block4 T R e)))
       where
         in-atoms : a ≤ t .sizes .n
-        in-atoms = subst (λ (n : ℕ). a ≤ n) (items4 P ∙ atoms-of) (subst (λ (g : ℕ). a ≤ itemCount P g) e (R .item-in))
+        in-atoms = subst (λ (n : ℕ). a ≤ n) (items4 G ∙ atoms-of) (subst (λ (g : ℕ). a ≤ itemCount G g) e (R .item-in))
 
-        fits : (v : ℕ) → v ≤ varCount (sizesOf (t .sizes)) (pairCount P) → v ≤ length vs
+        fits : (v : ℕ) → v ≤ varCount (sizesOf (t .sizes)) (pairTotal G) → v ≤ length vs
         fits v h = le-trans (subst (λ (n : ℕ). v ≤ n) (sym vars-of) h) f
 
   -- ---- group 3
 
   module _ (e : g ≡ 3) where
-    pub zero-block : (A : Assignment) → zeroTrue A (sizesOf (t .sizes)) a ≡ blockTrue P w A g a i
+    pub zero-block : (A : Assignment) → zeroTrue A (sizesOf (t .sizes)) a ≡ blockTrue G A g a i
     unfolding zeroTrue
     zero-block A =
         block-of A w (λ y. 2) (slot3 (sizesOf (t .sizes)) a) (size-zero T R e) (λ y B. slots-zero T B e)
-        (λ y l B. single3 P w g a i y l e ∙ ap (λ (x : Literal). x ∷ []) (sym (slot-zero T B l e refl)))
+        (λ y l B. single3 G g a i y l e ∙ ap (λ (x : Literal). x ∷ []) (sym (slot-zero T B l e refl)))
 
     pub zero-asks : (vs : List ℕ) → t .vars ≤ length vs
         → (Bounded (t .sizes)) × (0 < a) × (a ≤ 126) × (a ≤ length vs) × (levelVar (sizesOf (t .sizes)) a w ≤ length vs)
     zero-asks vs f =
-        (bounded T, R .item-some, atom3 T R e, le-trans in-atoms (fits (t .sizes .n) (omega arith)), fits (levelVar (sizesOf (t .sizes)) a w) (level-fits (sizesOf (t .sizes)) a w (pairCount P) (R .item-some) in-atoms (le-refl w)))
+        (bounded T, R .item-some, atom3 T R e, le-trans in-atoms (fits (t .sizes .n) (omega arith)), fits (levelVar (sizesOf (t .sizes)) a w) (level-fits (sizesOf (t .sizes)) a w (pairTotal G) (R .item-some) in-atoms (le-refl w)))
       where
         in-atoms : a ≤ t .sizes .n
-        in-atoms = subst (λ (n : ℕ). a ≤ n) (items3 P ∙ atoms-of) (subst (λ (g : ℕ). a ≤ itemCount P g) e (R .item-in))
+        in-atoms = subst (λ (n : ℕ). a ≤ n) (items3 G ∙ atoms-of) (subst (λ (g : ℕ). a ≤ itemCount G g) e (R .item-in))
 
-        fits : (v : ℕ) → v ≤ varCount (sizesOf (t .sizes)) (pairCount P) → v ≤ length vs
+        fits : (v : ℕ) → v ≤ varCount (sizesOf (t .sizes)) (pairTotal G) → v ≤ length vs
         fits v h = le-trans (subst (λ (n : ℕ). v ≤ n) (sym vars-of) h) f
 
   -- ---- group 6
 
   module _ (e : g ≡ 6) where
-    rule : a ≤ length (P .rules)
+    rule : a ≤ length (G .rules)
     rule = rule6 T R e
 
     span : getD ss (2 * (a - 1) + 1) 0 - getD ss (2 * (a - 1)) 0 ≡ getD ss (2 * (a - 1) + 1) 0 - getD ss (2 * (a - 1) + 0) 0
@@ -257,34 +251,34 @@ module _ {P : Program} {t : Totals} {hs ss bs ks xs ys : List ℕ} (T : Tabled P
 
     pub count-asks : (0 < a) × (a ≤ 500) × (length ss ≡ 1001) × (getD ss (2 * (a - 1)) 0 ≤ getD ss (2 * (a - 1) + 1) 0)
     count-asks =
-        (R .item-some, rule-fits T R rule, starts-length P t hs ss bs ks xs ys T, subst (λ (n : ℕ). getD ss n 0 ≤ getD ss (2 * (a - 1) + 1) 0) (add-zero (2 * (a - 1))) (first-middle T R rule))
+        (R .item-some, rule-fits T R rule, starts-length G t hs ss bs ks xs ys T, subst (λ (n : ℕ). getD ss n 0 ≤ getD ss (2 * (a - 1) + 1) 0) (add-zero (2 * (a - 1))) (first-middle T R rule))
 
     pub head-asks : (0 < a) × (a ≤ length hs)
-    head-asks = (R .item-some, subst (λ (k : ℕ). a ≤ k) (sym (heads-length P t hs ss bs ks xs ys T)) (rule-fits T R rule))
+    head-asks = (R .item-some, subst (λ (k : ℕ). a ≤ k) (sym (heads-length G t hs ss bs ks xs ys T)) (rule-fits T R rule))
 
     pub before-asks : (0 < a) × (a ≤ length ks)
-    before-asks = (R .item-some, subst (λ (k : ℕ). a ≤ k) (sym (before-length P t hs ss bs ks xs ys T)) (le-trans (rule-fits T R rule) (omega arith)))
+    before-asks = (R .item-some, subst (λ (k : ℕ). a ≤ k) (sym (before-length G t hs ss bs ks xs ys T)) (le-trans (rule-fits T R rule) (omega arith)))
 
     module _ {h k b : ℕ} (p : h ≡ getD hs (a - 1) 0) (q : k ≡ getD ks (a - 1) 0) (s : b ≡ getD ss (2 * (a - 1) + 1) 0 - getD ss (2 * (a - 1)) 0) where
-      pub rule-block : (A : Assignment) → ruleTrue A (sizesOf (t .sizes)) a h k b ≡ blockTrue P w A g a i
+      pub rule-block : (A : Assignment) → ruleTrue A (sizesOf (t .sizes)) a h k b ≡ blockTrue G A g a i
       rule-block A =
           rule-is A (sizesOf (t .sizes)) a h k b
           ∙ block-of A (size6 w b) (slots6 b) (slot6 (sizesOf (t .sizes)) a h k b) (size-rule T R e (s ∙ span) refl) (λ y B. slots-rule T B e (s ∙ span) refl)
-          (λ y l B. single6 P w g a i y l e ∙ ap (λ (x : Literal). x ∷ []) (sym (slot-rule T B l e p q (s ∙ span) refl)))
+          (λ y l B. single6 G g a i y l e ∙ ap (λ (x : Literal). x ∷ []) (sym (slot-rule T B l e p q (s ∙ span) refl)))
 
       pub rule-asks : (vs : List ℕ) → t .vars ≤ length vs
           → (Bounded (t .sizes)) × (0 < a) × (a ≤ t .sizes .m) × (0 < h) × (h ≤ t .sizes .n) × (k + b ≤ 500) × (varCount (sizesOf (t .sizes)) (k + b) ≤ length vs)
       rule-asks vs f =
-          (bounded T, R .item-some, subst (λ (n : ℕ). a ≤ n) (sym (rules-are P t hs ss bs ks xs ys T)) rule, subst (λ (n : ℕ). 0 < n) (sym head) (x .0), subst (λ (n : ℕ). n ≤ t .sizes .n) (sym head) (subst (λ (n : ℕ). headOf P a ≤ n) atoms-of (x .1)), le-trans in-pairs (pairs-fit P (T .limits)), le-trans (subst (λ (n : ℕ). varCount (sizesOf (t .sizes)) (k + b) ≤ n) (sym vars-of) (count-grows (sizesOf (t .sizes)) (k + b) (pairCount P) in-pairs)) f)
+          (bounded T, R .item-some, subst (λ (n : ℕ). a ≤ n) (sym (rules-are G t hs ss bs ks xs ys T)) rule, subst (λ (n : ℕ). 0 < n) (sym head) (x .0), subst (λ (n : ℕ). n ≤ t .sizes .n) (sym head) (subst (λ (n : ℕ). headOf G a ≤ n) atoms-of (x .1)), le-trans in-pairs (pairs-fit G (T .limits)), le-trans (subst (λ (n : ℕ). varCount (sizesOf (t .sizes)) (k + b) ≤ n) (sym vars-of) (count-grows (sizesOf (t .sizes)) (k + b) (pairTotal G) in-pairs)) f)
         where
-          x : (0 < headOf P a) × (headOf P a ≤ P .atoms)
-          x = head-atom P (T .limits) a (R .item-some) rule
+          x : (0 < headOf G a) × (headOf G a ≤ G .n)
+          x = head-atom G (T .limits) a (R .item-some) rule
 
-          head : h ≡ headOf P a
-          head = p ∙ head-is P t hs ss bs ks xs ys T a (R .item-some) rule
+          head : h ≡ headOf G a
+          head = p ∙ head-is G t hs ss bs ks xs ys T a (R .item-some) rule
 
-          in-pairs : k + b ≤ pairCount P
+          in-pairs : k + b ≤ pairTotal G
           in-pairs =
-              subst (λ (n : ℕ). n ≤ pairCount P)
-              (sym (ap₂ (λ (k b : ℕ). k + b) (q ∙ before-is P t hs ss bs ks xs ys T a (R .item-some) (le-trans rule (omega arith))) (s ∙ span ∙ span1 T R rule)))
-              (before-fits P (T .limits) a (R .item-some) rule)
+              subst (λ (n : ℕ). n ≤ pairTotal G)
+              (sym (ap₂ (λ (k b : ℕ). k + b) (q ∙ before-is G t hs ss bs ks xs ys T a (R .item-some) (le-trans rule (omega arith))) (s ∙ span ∙ span1 T R rule ∙ sym (inner-positives G (T .limits) a))))
+              (before-fits G (T .limits) a (R .item-some) rule)

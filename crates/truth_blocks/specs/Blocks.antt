@@ -9,8 +9,8 @@
 --   factTrue A S r h            its last clauses, where it has no pair and head h
 --   boundTrue A S r k b         its last clause, where it has pairs
 --   ruleTrue A S r h k b        every clause of rule r is true
---   blockTrue P w A g a i       every clause of block i of item a of group g is true
---   blockPasses P w A g a i     group g is 3, 4, 5 or 6, and every clause of that block is true
+--   blockTrue G A g a i       every clause of block i of item a of group g is true
+--   blockPasses G A g a i     group g is 3, 4, 5 or 6, and every clause of that block is true
 -- Assumes nothing.
 use Prim.Native.Nat.{ℕ, _+_, _*_, _≤_, _<_}
 use mathlib.Core.Path.{_≡_}
@@ -19,7 +19,7 @@ use mathlib.Core.List.{List}
 use lib.Dec.{eqb}
 use lib.ListN.{length}
 use Rattle.lists.specs.Lists.{allTo, anyTo}
-use Rattle.meaning.specs.Program.{Program}
+use Rattle.encoding.specs.Code.{Code}
 use Rattle.encoding.specs.Literal.{Assignment, −_, literalTrue, clauseTrue}
 use Rattle.encoding.specs.Variables.{Sizes, bodyVar, foundsVar, levelVar, belowVar, nextBelowVar}
 use Rattle.clause_walk.specs.Walk.{signed, slot3, slots4, slot4, chainSize, chainSlots, chainSlot, size, clauseAt}
@@ -76,11 +76,11 @@ boundTrue A S r k b = literalTrue A (− bodyVar S r) || anyTo b (λ j. literalT
 unfoldable pub ruleTrue : Assignment → Sizes → ℕ → ℕ → ℕ → ℕ → Bool
 ruleTrue A S r h k b = foundsTrue A S r k b && cond (eqb b 0) (factTrue A S r h) (boundTrue A S r k b)
 
-unfoldable pub blockTrue : Program → ℕ → Assignment → ℕ → ℕ → ℕ → Bool
-blockTrue P w A g a i = allTo (size P w g a i) (λ y. clauseTrue A (clauseAt P w g a i y))
+unfoldable pub blockTrue : Code → Assignment → ℕ → ℕ → ℕ → Bool
+blockTrue G A g a i = allTo (size G g a i) (λ y. clauseTrue A (clauseAt G g a i y))
 
 abbrev pub isWhole : ℕ → Bool
 isWhole g = cond (eqb g 5) true (cond (eqb g 4) true (cond (eqb g 3) true (eqb g 6)))
 
-abbrev pub blockPasses : Program → ℕ → Assignment → ℕ → ℕ → ℕ → Bool
-blockPasses P w A g a i = cond (isWhole g) (blockTrue P w A g a i) false
+abbrev pub blockPasses : Code → Assignment → ℕ → ℕ → ℕ → Bool
+blockPasses G A g a i = cond (isWhole g) (blockTrue G A g a i) false

@@ -28,7 +28,7 @@ ghost use Rattle.encoding.specs.Literal.{literalTrue};
 ghost use Rattle.encoding.specs.Variables.{levelVar, nextVar, varCount};
 ghost use Rattle.clause_literals.specs.Sizes.{sizesOf, Bounded};
 ghost use Rattle.clause_walk.specs.Walk.{signed, BlockAt};
-ghost use Rattle.clause_tables.specs.Tables.{programIn, Ready};
+ghost use Rattle.clause_tables.specs.Tables.{Ready, codeIn};
 ghost use Rattle.truth_blocks.specs.Values.{valueIn, numberTrue};
 ghost use Rattle.truth_blocks.specs.Blocks.{Has, twoTrue, threeTrue, BitIn, bitTrue, nextTrue};
 ghost use Rattle.truth_blocks.specs.Blocks.{zeroTrue, foundsTrue, factTrue, boundTrue, ruleTrue, blockPasses};
@@ -273,9 +273,9 @@ pub fn block_passes<'a>(
     assignment: &'a [u8],
 ) -> bool
     requires { ⌜ (Ready t (now heads) (now starts) (now bodies) (now before) (now partners) (now owners))
-        × (BlockAt (programIn (t .sizes) (now heads) (now starts) (now bodies)) (t .sizes .w) g a i) × (t .vars ≤ length (now assignment)) ⌝ }
+        × (BlockAt (codeIn t (now heads) (now starts) (now bodies)) g a i) × (t .vars ≤ length (now assignment)) ⌝ }
     ensures { λ r. ⌜ r
-        ≡ blockPasses (programIn (t .sizes) (now (heads .entry)) (now (starts .entry)) (now (bodies .entry))) (t .sizes .w)
+        ≡ blockPasses (codeIn t (now (heads .entry)) (now (starts .entry)) (now (bodies .entry)))
         (valueIn (now (assignment .entry))) g a i ⌝ }
 {
     if g == 5 {

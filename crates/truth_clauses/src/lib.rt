@@ -20,9 +20,9 @@ ghost use lib.ListN.{length};
 ghost use Rattle.lists.specs.Lists.{any};
 ghost use Rattle.encoding.specs.Literal.{literalTrue, clauseTrue};
 ghost use Rattle.clause_walk.specs.Walk.{clauseAt, At};
-ghost use Rattle.clause_tables.specs.Tables.{programIn, Ready};
+ghost use Rattle.clause_tables.specs.Tables.{codeIn, Ready};
 ghost use Rattle.clause_text.specs.Lines.{literalsIn};
-ghost use Rattle.truth_clauses.specs.Truth.{valueIn, firstFalse};
+ghost use Rattle.truth_clauses.specs.Truth.{valueIn, codeFirstFalse};
 ghost use Rattle.truth_clauses.specs.Standing.{Standing};
 
 // Whether a slot holds a true literal.
@@ -52,10 +52,10 @@ fn clause_holds<'a>(
     assignment: &'a [u8],
 ) -> bool
     requires { ⌜ (Ready t (now heads) (now starts) (now bodies) (now before) (now partners) (now owners))
-        × (At (programIn (t .sizes) (now heads) (now starts) (now bodies)) (t .sizes .w) g a i y) × (t .vars ≤ length (now assignment)) ⌝ }
+        × (At (codeIn t (now heads) (now starts) (now bodies)) g a i y) × (t .vars ≤ length (now assignment)) ⌝ }
     ensures { λ r. ⌜ r
         ≡ clauseTrue (valueIn (now (assignment .entry)))
-        (clauseAt (programIn (t .sizes) (now (heads .entry)) (now (starts .entry)) (now (bodies .entry))) (t .sizes .w) g a i y) ⌝ }
+        (clauseAt (codeIn t (now (heads .entry)) (now (starts .entry)) (now (bodies .entry))) g a i y) ⌝ }
 {
     let k = slots(
         t,
@@ -109,9 +109,9 @@ fn through_blocks<'a>(
     assignment: &'a [u8],
 ) -> Place
     requires { ⌜ (Ready t (now heads) (now starts) (now bodies) (now before) (now partners) (now owners))
-        × (Standing (programIn (t .sizes) (now heads) (now starts) (now bodies)) t (now assignment) c) × (c .number ≤ t .clauses)
+        × (Standing (codeIn t (now heads) (now starts) (now bodies)) t (now assignment) c) × (c .number ≤ t .clauses)
         × (t .vars ≤ length (now assignment)) ⌝ }
-    ensures { λ r. ⌜ (Standing (programIn (t .sizes) (now (heads .entry)) (now (starts .entry)) (now (bodies .entry))) t (now (assignment .entry)) r)
+    ensures { λ r. ⌜ (Standing (codeIn t (now (heads .entry)) (now (starts .entry)) (now (bodies .entry))) t (now (assignment .entry)) r)
         × (c .number ≤ r .number) × (r .number ≤ t .clauses) ⌝ }
 {
     let mut at = c;
@@ -167,7 +167,7 @@ pub fn first_false<'a>(
     assignment: &'a [u8],
 ) -> usize
     requires { ⌜ (Ready t (now heads) (now starts) (now bodies) (now before) (now partners) (now owners)) × (t .vars ≤ length (now assignment)) ⌝ }
-    ensures { λ r. ⌜ r ≡ firstFalse (programIn (t .sizes) (now (heads .entry)) (now (starts .entry)) (now (bodies .entry))) (now (assignment .entry)) ⌝ }
+    ensures { λ r. ⌜ r ≡ codeFirstFalse (codeIn t (now (heads .entry)) (now (starts .entry)) (now (bodies .entry))) (now (assignment .entry)) ⌝ }
 {
     let mut at = next(
         t,

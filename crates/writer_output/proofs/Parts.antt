@@ -7,36 +7,36 @@ use mathlib.Core.List.{List, _++_}
 use lib.ListN.{length, take, drop, length-append, length-drop}
 use lib.Seq.{length-take-le, take-add, take-all}
 use Rattle.lists.specs.Lists.{joined}
-use Rattle.meaning.specs.Program.{Program}
+use Rattle.encoding.specs.Code.{Code, codeOf}
 use Rattle.program.specs.declared.Program.{Program as Arrays}
 use Rattle.program.specs.Arrays.{decoded}
 use Rattle.clause_tables.specs.declared.Pairs.{Pairs}
 use Rattle.clause_tables.specs.declared.Totals.{Totals}
-use Rattle.clause_tables.specs.Tables.{Stored, Tabled, pairTable, totalsOf, programIn}
+use Rattle.clause_tables.specs.Tables.{Stored, Tabled, pairTable, totalsOf, codeIn}
 use Rattle.clause_places.specs.declared.Place.{Place}
 use Rattle.clause_places.specs.Places.{placeAt}
 use Rattle.clause_runs.specs.declared.RunPart.{RunPart}
-use Rattle.clause_runs.specs.Lines.{linesOf, fitting, partIn, runIn, runBytesIn}
-use Rattle.call_laws.proofs.Tabled.{program-is, tabled}
+use Rattle.clause_runs.specs.Lines.{linesOf, fitting, codePart, runIn, codeRunBytes}
+use Rattle.call_laws.proofs.Tabled.{code-is, tabled}
 use Rattle.clause_runs.proofs.Runs.{joined-append, part-bytes, part-place, part-within, part-onward}
 use Rattle.clause_table_laws.proofs.Bounds.{clauses-short}
 use Rattle.clause_runs.proofs.Placed.{lines-count}
 use Rattle.writer_output.specs.Output.{clauseFile, fileBefore, Stands, PartPut}
 
-module _ {A : Arrays} {k : Pairs} {t : Totals} (pre : Stored A × (k ≡ pairTable (decoded A)) × (t ≡ totalsOf (decoded A))) where
-  T : Tabled (decoded A) t (A .heads) (A .starts) (A .bodies) (k .before) (k .bodies) (k .heads)
+module _ {A : Arrays} {k : Pairs} {t : Totals} (pre : Stored A × (k ≡ pairTable (decoded A)) × (t ≡ totalsOf (codeOf (decoded A)))) where
+  T : Tabled (codeOf (decoded A)) t (A .heads) (A .starts) (A .bodies) (k .before) (k .bodies) (k .heads)
   T = tabled (pre .0) (pre .1) (pre .2)
 
-  pub placed : (n : ℕ) {r : Place} → r ≡ placeAt (programIn (t .sizes) (A .heads) (A .starts) (A .bodies)) (t .sizes .w) n → r ≡ placeAt (decoded A) (t .sizes .w) n
-  placed n e = e ∙ ap (λ (P : Program). placeAt P (t .sizes .w) n) (program-is A (pre .2))
+  pub placed : (n : ℕ) {r : Place} → r ≡ placeAt (codeIn t (A .heads) (A .starts) (A .bodies)) n → r ≡ placeAt (codeOf (decoded A)) n
+  placed n e = e ∙ ap (λ (G : Code). placeAt G n) (code-is A (pre .2))
 
-  pub placed-in : (n : ℕ) {r : Place} → r ≡ placeAt (decoded A) (t .sizes .w) n → r ≡ placeAt (programIn (t .sizes) (A .heads) (A .starts) (A .bodies)) (t .sizes .w) n
-  placed-in n e = e ∙ ap (λ (P : Program). placeAt P (t .sizes .w) n) (sym (program-is A (pre .2)))
+  pub placed-in : (n : ℕ) {r : Place} → r ≡ placeAt (codeOf (decoded A)) n → r ≡ placeAt (codeIn t (A .heads) (A .starts) (A .bodies)) n
+  placed-in n e = e ∙ ap (λ (G : Code). placeAt G n) (sym (code-is A (pre .2)))
 
   module _ (c : Place) (h : c .number ≤ t .clauses) (b : List ℕ) (f : 3008 ≤ length b) {q : RunPart} {l : List ℕ}
-      (u : (q ≡ partIn (programIn (t .sizes) (A .heads) (A .starts) (A .bodies)) (t .sizes .w) (c .number) (length b)) × (l ≡ runBytesIn (programIn (t .sizes) (A .heads) (A .starts) (A .bodies)) (c .number) b)) where
-    v : (q ≡ partIn (decoded A) (t .sizes .w) (c .number) (length b)) × (l ≡ runBytesIn (decoded A) (c .number) b)
-    v = subst (λ (P : Program). (q ≡ partIn P (t .sizes .w) (c .number) (length b)) × (l ≡ runBytesIn P (c .number) b)) (program-is A (pre .2)) u
+      (u : (q ≡ codePart (codeIn t (A .heads) (A .starts) (A .bodies)) (c .number) (length b)) × (l ≡ codeRunBytes (codeIn t (A .heads) (A .starts) (A .bodies)) (c .number) b)) where
+    v : (q ≡ codePart (codeOf (decoded A)) (c .number) (length b)) × (l ≡ codeRunBytes (codeOf (decoded A)) (c .number) b)
+    v = subst (λ (G : Code). (q ≡ codePart G (c .number) (length b)) × (l ≡ codeRunBytes G (c .number) b)) (code-is A (pre .2)) u
 
     bytes-in : q .bytes ≤ length b
     bytes-in = part-bytes T (c .number) (length b) (v .0)
@@ -92,8 +92,8 @@ module _ {A : Arrays} {k : Pairs} {t : Totals} (pre : Stored A × (k ≡ pairTab
 
   -- ---- the beginning and the end
 
-  pub first-stands : {c : Place} → c ≡ placeAt (programIn (t .sizes) (A .heads) (A .starts) (A .bodies)) (t .sizes .w) 0 → Stands (decoded A) t c 0
-  first-stands {c} e = record { placed = placed 0 e ∙ ap (placeAt (decoded A) (t .sizes .w)) (sym number); within = omega (arith, number); handed = ap (λ (j : ℕ). length (fileBefore (decoded A) j)) (sym number); bounded = omega arith }
+  pub first-stands : {c : Place} → c ≡ placeAt (codeIn t (A .heads) (A .starts) (A .bodies)) 0 → Stands (decoded A) t c 0
+  first-stands {c} e = record { placed = placed 0 e ∙ ap (placeAt (codeOf (decoded A))) (sym number); within = omega (arith, number); handed = ap (λ (j : ℕ). length (fileBefore (decoded A) j)) (sym number); bounded = omega arith }
     where
       number : c .number ≡ 0
       number = ap (λ (d : Place). d .number) e

@@ -14,6 +14,7 @@ use mathlib.Core.List.{List, []}
 use lib.ListN.{length, take}
 use Rattle.lists.specs.Lists.{joined}
 use Rattle.meaning.specs.Program.{Program}
+use Rattle.encoding.specs.Code.{codeOf}
 use Rattle.program.specs.Arrays.{decoded}
 use Rattle.refusals.specs.Numbers.{textNumber, textSpot}
 use Rattle.reader.specs.declared.ReadResult.{ReadResult}
@@ -27,7 +28,7 @@ use Rattle.clause_places.specs.declared.Place.{Place}
 use Rattle.clause_places.specs.Places.{placeAt}
 use Rattle.io.specs.Counts.{Counts}
 use Rattle.clause_runs.specs.declared.RunPart.{RunPart}
-use Rattle.clause_runs.specs.Lines.{linesOf, partIn, runBytesIn}
+use Rattle.clause_runs.specs.Lines.{linesOf, codePart, codeRunBytes}
 
 abbrev pub clauseFile : Program → List ℕ
 clauseFile P = joined (linesOf P)
@@ -53,7 +54,7 @@ unfoldable pub writerText : List ℕ → List ℕ
 writerText t = writerOutputOf (readOf t)
 
 pub record Stands (P : Program) (t : Totals) (c : Place) (n : ℕ) : Type 0 where
-  pub placed : c ≡ placeAt P (t .sizes .w) (c .number)
+  pub placed : c ≡ placeAt (codeOf P) (c .number)
   pub within : c .number ≤ suc (t .clauses)
   pub handed : n ≡ length (fileBefore P (c .number))
   -- a part has at most 65,536 bytes and at least one line
@@ -61,8 +62,8 @@ pub record Stands (P : Program) (t : Totals) (c : Place) (n : ℕ) : Type 0 wher
 
 pub record PartPut (P : Program) (t : Totals) (c : Place) (n : ℕ) (b : List ℕ) (q : RunPart) (l : List ℕ) : Type 0 where
   -- the lines from place c on that fit the buffer, at its front
-  pub part-is : q ≡ partIn P (t .sizes .w) (c .number) (length b)
-  pub bytes-are : l ≡ runBytesIn P (c .number) b
+  pub part-is : q ≡ codePart (codeOf P) (c .number) (length b)
+  pub bytes-are : l ≡ codeRunBytes (codeOf P) (c .number) b
   pub counts : Counts (q .bytes) l
   -- there is at least one, and with their bytes the output stands after them
   pub onward : c .number < q .place .number

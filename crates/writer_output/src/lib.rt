@@ -19,6 +19,7 @@ use refusals::text_spot;
 ghost use Prim.Native.Nat.{_≤_};
 ghost use mathlib.Core.Path.{_≡_};
 ghost use lib.ListN.{length};
+ghost use Rattle.encoding.specs.Code.{codeOf};
 ghost use Rattle.program.specs.Arrays.{decoded};
 ghost use Rattle.refusals.specs.Numbers.{textNumber, textSpot};
 ghost use Rattle.clause_tables.specs.Tables.{Stored, pairTable, totalsOf};
@@ -47,7 +48,7 @@ fn say_refused(v: ReadVerdict) -> usize
 
 // The place before the first clause, of a program with its table of pairs and its totals.
 fn first_place(p: Program, k: Pairs, t: Totals) -> Place
-    requires { ⌜ (Stored p) × (k ≡ pairTable (decoded p)) × (t ≡ totalsOf (decoded p)) ⌝ }
+    requires { ⌜ (Stored p) × (k ≡ pairTable (decoded p)) × (t ≡ totalsOf (codeOf (decoded p))) ⌝ }
     ensures { λ r. ⌜ Stands (decoded p) t r 0 ⌝ }
 {
     start(
@@ -63,7 +64,7 @@ fn first_place(p: Program, k: Pairs, t: Totals) -> Place
 
 // Puts the lines from place c on at the front of the buffer, as many as fit. `said` bytes of the clause file stand before them.
 fn next_part(p: Program, k: Pairs, t: Totals, c: Place, said: usize, out: &mut [u8]) -> RunPart
-    requires { ⌜ (Stored p) × (k ≡ pairTable (decoded p)) × (t ≡ totalsOf (decoded p)) ⌝ }
+    requires { ⌜ (Stored p) × (k ≡ pairTable (decoded p)) × (t ≡ totalsOf (codeOf (decoded p))) ⌝ }
     requires { ⌜ (Stands (decoded p) t c said) × (c .number ≤ t .clauses) × (3008 ≤ length (now out)) × (length (now out) ≤ 65536) ⌝ }
     ensures { λ r. ⌜ PartPut (decoded p) t c said (now (out .entry)) r (now (out .exit)) ⌝ }
 {

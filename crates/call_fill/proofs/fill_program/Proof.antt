@@ -1,6 +1,6 @@
 use denote.Ref.{now}
-use Rattle.call_fill_rows.proofs.Steps.{same-program}
-use Rattle.call_laws.proofs.Tabled.{totals-asks, ready-of, program-is}
+use Rattle.call_fill_rows.proofs.Steps.{same-code}
+use Rattle.call_laws.proofs.Tabled.{totals-asks, ready-of, code-is}
 use borrow.Author.Needs.{needs}
 use Rattle.call_fill.proofs.fill_program.Statement.{statement}
 use Rattle.call_fill.proofs.fill_program.Tie as tie
@@ -21,7 +21,7 @@ same-length-2 : tie.Need-same-length-2
 same-length-2 c = search needs
 
 returns : tie.Need-returns
-returns c = same-program (now (c .before .before .before .before .before .before .before .before .before .before .before .before .before .before .before .before .before .before .before .before .before .before .before .before .before .before .args .set)) (now (c .before .before .before .before .before .before .before .before .before .before .before .before .before .before .before .before .before .before .before .before .before .before .before .before .before .before .args .assignment)) (now (c .before .before .before .before .before .before .before .before .before .before .before .before .before .before .before .before .before .before .before .before .before .before .before .before .before .before .args .levels)) (program-is (c .before .before .before .before .before .before .before .before .before .before .before .before .before .before .before .before .before .before .before .before .before .before .before .before .before .before .args .t1) (c .before .before .before .before .before .before .before .before .before .before .before .before .before .before .before .before .before .before .before .before .before .totals-of .ensures)) (c .before .before .before .before .fill-in .ensures)
+returns c = same-code (now (c .before .before .before .before .before .before .before .before .before .before .before .before .before .before .before .before .before .before .before .before .before .before .before .before .before .before .args .set)) (now (c .before .before .before .before .before .before .before .before .before .before .before .before .before .before .before .before .before .before .before .before .before .before .before .before .before .before .args .assignment)) (now (c .before .before .before .before .before .before .before .before .before .before .before .before .before .before .before .before .before .before .before .before .before .before .before .before .before .before .args .levels)) (code-is (c .before .before .before .before .before .before .before .before .before .before .before .before .before .before .before .before .before .before .before .before .before .before .before .before .before .before .args .t1) (c .before .before .before .before .before .before .before .before .before .before .before .before .before .before .before .before .before .before .before .before .before .totals-of .ensures)) (c .before .before .before .before .fill-in .ensures)
 
 pub fill-program-spec : {M : Type 1} → statement M
 fill-program-spec =

@@ -3,14 +3,14 @@ use Rattle.clause_finding.proofs.Falling.{between-low, between-high, fa
 use Rattle.clause_finding.specs.Sizes.{itemSize}
 use Rattle.clause_finding.specs.Falls.{Between}
 use Rattle.clause_walk.specs.Walk.{itemCount}
-use Rattle.clause_tables.specs.Tables.{programIn}
+use Rattle.clause_tables.specs.Tables.{codeIn}
 use native.Mathlib.Omega.{arith}
 use Prim.Native.Nat.{_-_}
 use Rattle.clause_finding.proofs.find_atom.Statement.{statement}
 use Rattle.clause_finding.proofs.find_atom.Tie as tie
 
 abbrev Inv-loop : tie.InvT-loop
-Inv-loop t heads starts bodies before partners owners left low₀ high₀ low high = Between (itemCount (programIn (t .sizes) heads starts bodies) 2) (itemSize (programIn (t .sizes) heads starts bodies) (t .sizes .w) 2) left low high
+Inv-loop t heads starts bodies before partners owners left low₀ high₀ low high = Between (itemCount (codeIn t heads starts bodies) 2) (itemSize (codeIn t heads starts bodies) 2) left low high
 
 abbrev μ-loop : tie.MeasureT-loop
 μ-loop t heads starts bodies before partners owners left low₀ high₀ low high = high - low

@@ -2,7 +2,7 @@ use Rattle.clause_finding.proofs.Coded.{sizes-in, block-here, block-bel
 use Rattle.clause_finding.proofs.Falling.{passed-first, passed-on, falls-here, falls-last}
 use Rattle.clause_finding.specs.Falls.{Passed}
 use Rattle.clause_walk.specs.Walk.{blockCount, size}
-use Rattle.clause_tables.specs.Tables.{programIn}
+use Rattle.clause_tables.specs.Tables.{codeIn}
 use borrow.Author.Needs.{needs}
 use mathlib.Core.Path.{_∙_}
 use Prim.Native.Nat.{_-_}
@@ -10,7 +10,7 @@ use Rattle.clause_finding.proofs.find_block.Statement.{statement}
 use Rattle.clause_finding.proofs.find_block.Tie as tie
 
 abbrev Inv-loop : tie.InvT-loop
-Inv-loop t heads starts bodies before partners owners g a left n i₀ at₀ i at = Passed (blockCount (programIn (t .sizes) heads starts bodies) (t .sizes .w) g) (size (programIn (t .sizes) heads starts bodies) (t .sizes .w) g a) left i at
+Inv-loop t heads starts bodies before partners owners g a left n i₀ at₀ i at = Passed (blockCount (codeIn t heads starts bodies) g) (size (codeIn t heads starts bodies) g a) left i at
 
 abbrev μ-loop : tie.MeasureT-loop
 μ-loop t heads starts bodies before partners owners g a left n i₀ at₀ i at = n - i

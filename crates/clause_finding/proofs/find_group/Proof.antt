@@ -2,7 +2,7 @@ use Rattle.clause_finding.proofs.Coded.{last-in, in-last, before-last}
 use Rattle.clause_finding.proofs.Falling.{passed-first, passed-on, falls-here, falls-last, falls-more}
 use Rattle.clause_finding.specs.Sizes.{groupSize}
 use Rattle.clause_finding.specs.Falls.{Passed}
-use Rattle.clause_tables.specs.Tables.{programIn}
+use Rattle.clause_tables.specs.Tables.{codeIn}
 use borrow.Author.Needs.{needs}
 use native.Mathlib.Omega.{arith}
 use Prim.Native.Nat.{_-_}
@@ -10,7 +10,7 @@ use Rattle.clause_finding.proofs.find_group.Statement.{statement}
 use Rattle.clause_finding.proofs.find_group.Tie as tie
 
 abbrev Inv-loop : tie.InvT-loop
-Inv-loop t heads starts bodies before partners owners left last g₀ at₀ g at = Passed 6 (groupSize (programIn (t .sizes) heads starts bodies) (t .sizes .w)) left g at
+Inv-loop t heads starts bodies before partners owners left last g₀ at₀ g at = Passed 6 (groupSize (codeIn t heads starts bodies)) left g at
 
 abbrev μ-loop : tie.MeasureT-loop
 μ-loop t heads starts bodies before partners owners left last g₀ at₀ g at = 6 - g

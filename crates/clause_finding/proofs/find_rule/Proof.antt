@@ -3,14 +3,14 @@ use Rattle.clause_finding.proofs.Falling.{passed-first, passed-on, fall
 use Rattle.clause_finding.specs.Sizes.{itemSize}
 use Rattle.clause_finding.specs.Falls.{Passed}
 use Rattle.clause_walk.specs.Walk.{itemCount}
-use Rattle.clause_tables.specs.Tables.{programIn}
+use Rattle.clause_tables.specs.Tables.{codeIn}
 use borrow.Author.Needs.{needs}
 use Prim.Native.Nat.{_-_}
 use Rattle.clause_finding.proofs.find_rule.Statement.{statement}
 use Rattle.clause_finding.proofs.find_rule.Tie as tie
 
 abbrev Inv-loop : tie.InvT-loop
-Inv-loop t heads starts bodies before partners owners g left n a₀ at₀ a at = Passed (itemCount (programIn (t .sizes) heads starts bodies) g) (itemSize (programIn (t .sizes) heads starts bodies) (t .sizes .w) g) left a at
+Inv-loop t heads starts bodies before partners owners g left n a₀ at₀ a at = Passed (itemCount (codeIn t heads starts bodies) g) (itemSize (codeIn t heads starts bodies) g) left a at
 
 abbrev μ-loop : tie.MeasureT-loop
 μ-loop t heads starts bodies before partners owners g left n a₀ at₀ a at = n - a

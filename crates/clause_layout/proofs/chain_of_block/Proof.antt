@@ -18,7 +18,7 @@ returns : tie.Need-returns
 returns c = chain-pair (c .before .before .before .before .before .before .before .before .before .before .pre .0) (c .before .before .before .before .before .before .before .before .before .before .pre .1) (c .before .before .before .if1 .taken) (c .before .before .entry .ensures) (c .before .entry2 .ensures) (c .chain-of .ensures)
 
 returns-2 : tie.Need-returns-2
-returns-2 c = chain-none _ _ (c .before .before .before .before .before .before .before .args .g) (c .before .before .before .before .before .before .before .args .a) (c .before .before .before .before .before .before .before .args .i) (c .if1 .left)
+returns-2 c = chain-none _ (c .before .before .before .before .before .before .before .args .g) (c .before .before .before .before .before .before .before .args .a) (c .before .before .before .before .before .before .before .args .i) (c .if1 .left)
 
 pub chain-of-block-spec : {M : Type 1} → statement M
 chain-of-block-spec =

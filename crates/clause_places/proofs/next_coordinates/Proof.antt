@@ -1,6 +1,6 @@
 use Rattle.clause_places.proofs.Steps.{nothing-follows, clause-adds, clause-follows}
 use Rattle.clause_places.specs.Ahead.{ahead, firstOf, In, stepsLeft}
-use Rattle.clause_tables.specs.Tables.{programIn}
+use Rattle.clause_tables.specs.Tables.{codeIn}
 use native.Mathlib.Omega.{arith}
 use borrow.Author.Needs.{needs}
 use mathlib.Core.Path.{_≡_, refl, sym, _∙_, ap}
@@ -8,7 +8,7 @@ use Rattle.clause_places.proofs.next_coordinates.Statement.{statement}
 use Rattle.clause_places.proofs.next_coordinates.Tie as tie
 
 abbrev Inv-loop : tie.InvT-loop
-Inv-loop t heads starts bodies before partners owners at₀ at = In (programIn (t .sizes) heads starts bodies) (t .sizes .w) at × (ahead (programIn (t .sizes) heads starts bodies) (t .sizes .w) at ≡ ahead (programIn (t .sizes) heads starts bodies) (t .sizes .w) at₀)
+Inv-loop t heads starts bodies before partners owners at₀ at = In (codeIn t heads starts bodies) at × (ahead (codeIn t heads starts bodies) at ≡ ahead (codeIn t heads starts bodies) at₀)
 
 abbrev μ-loop : tie.MeasureT-loop
 μ-loop t heads starts bodies before partners owners at₀ at = stepsLeft at

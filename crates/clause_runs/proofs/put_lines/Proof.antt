@@ -2,16 +2,16 @@ use mathlib.Core.Path.{_≡_}
 use Prim.Native.Nat.{suc, _-_, _≤_}
 use native.Mathlib.Omega.{arith}
 use borrow.Author.Needs.{needs}
-use Rattle.clause_tables.specs.Tables.{programIn}
+use Rattle.clause_tables.specs.Tables.{codeIn}
 use Rattle.clause_places.specs.Places.{placeAt}
-use Rattle.clause_runs.specs.Lines.{linesOf}
+use Rattle.clause_runs.specs.Lines.{codeLines}
 use Rattle.clause_runs.proofs.Runs.{Going, begun, part-out, part-full, line-asks, lines-fit, sum-fits, run-goes-on, run-less}
 use borrow.Author.Tests.{not-true, not-false}
 use Rattle.clause_runs.proofs.put_lines.Statement.{statement}
 use Rattle.clause_runs.proofs.put_lines.Tie as tie
 
 abbrev Inv-loop : tie.InvT-loop
-Inv-loop t heads starts bodies before partners owners buf₀ at₀ lines₀ to₀ buf at lines to = (at ≡ placeAt (programIn (t .sizes) heads starts bodies) (t .sizes .w) (at .number)) × (at .number ≤ suc (t .clauses)) × Going (linesOf (programIn (t .sizes) heads starts bodies)) (at₀ .number) buf₀ (at .number) lines to buf
+Inv-loop t heads starts bodies before partners owners buf₀ at₀ lines₀ to₀ buf at lines to = (at ≡ placeAt (codeIn t heads starts bodies) (at .number)) × (at .number ≤ suc (t .clauses)) × Going (codeLines (codeIn t heads starts bodies)) (at₀ .number) buf₀ (at .number) lines to buf
 
 abbrev μ-loop : tie.MeasureT-loop
 μ-loop t heads starts bodies before partners owners buf₀ at₀ lines₀ to₀ buf at lines to = suc (t .clauses) - at .number

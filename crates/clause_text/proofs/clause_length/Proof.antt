@@ -6,13 +6,13 @@ use borrow.Author.Needs.{needs}
 use Rattle.lists.specs.Lists.{each}
 use Rattle.digits.specs.Bytes.{literalsText}
 use Rattle.clause_walk.specs.Walk.{slot}
-use Rattle.clause_tables.specs.Tables.{programIn}
+use Rattle.clause_tables.specs.Tables.{codeIn}
 use Rattle.clause_text.proofs.Clause.{slot-asks, past-asks, past-within, past-less, length-next, length-fits, length-line, line-short}
 use Rattle.clause_text.proofs.clause_length.Statement.{statement}
 use Rattle.clause_text.proofs.clause_length.Tie as tie
 
 abbrev Inv-loop : tie.InvT-loop
-Inv-loop t heads starts bodies before partners owners g a i y k l₀ to₀ l to = (l ≤ k) × (to ≡ length (literalsText (each l (slot (programIn (t .sizes) heads starts bodies) (t .sizes .w) g a i y))))
+Inv-loop t heads starts bodies before partners owners g a i y k l₀ to₀ l to = (l ≤ k) × (to ≡ length (literalsText (each l (slot (codeIn t heads starts bodies) g a i y))))
 
 abbrev μ-loop : tie.MeasureT-loop
 μ-loop t heads starts bodies before partners owners g a i y k l₀ to₀ l to = k - l

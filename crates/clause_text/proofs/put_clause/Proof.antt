@@ -2,7 +2,7 @@ use Rattle.clause_text.proofs.ChainLine.{chain-asks, chain-put}
 use Rattle.clause_text.proofs.Clause.{slot-asks, past-asks, past-within, past-less, part-fits, text-next, end-small, end-fits, line-text, length-fits}
 use Rattle.digits.proofs.Begins.{Begins, begins-none, begins-more, begins-room, begins-tail, begins-whole}
 use Rattle.clause_text.specs.Lines.{literalsIn}
-use Rattle.clause_tables.specs.Tables.{programIn}
+use Rattle.clause_tables.specs.Tables.{codeIn}
 use Rattle.clause_walk.specs.Walk.{slot}
 use Rattle.digits.specs.Bytes.{literalsText}
 use Rattle.lists.specs.Lists.{each}
@@ -16,7 +16,7 @@ use Rattle.clause_text.proofs.put_clause.Statement.{statement}
 use Rattle.clause_text.proofs.put_clause.Tie as tie
 
 abbrev Inv-loop : tie.InvT-loop
-Inv-loop t heads starts bodies before partners owners g a i y buf₀ k l₀ to₀ buf l to = (l ≤ k) × Begins buf₀ buf (literalsText (each l (slot (programIn (t .sizes) heads starts bodies) (t .sizes .w) g a i y))) to
+Inv-loop t heads starts bodies before partners owners g a i y buf₀ k l₀ to₀ buf l to = (l ≤ k) × Begins buf₀ buf (literalsText (each l (slot (codeIn t heads starts bodies) g a i y))) to
 
 abbrev μ-loop : tie.MeasureT-loop
 μ-loop t heads starts bodies before partners owners g a i y buf₀ k l₀ to₀ buf l to = k - l

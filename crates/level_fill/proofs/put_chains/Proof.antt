@@ -4,8 +4,8 @@ use denote.Ref.{now}
 use native.Mathlib.Omega.{arith}
 use Rattle.digits.proofs.Begins.{Begins, begins-none, begins-more, begins-room, begins-tail, begins-sum}
 use Rattle.lists.specs.Lists.{each}
-use Rattle.encoding.specs.Clauses.{pairCount}
-use Rattle.clause_tables.specs.Tables.{programIn}
+use Rattle.encoding.specs.Code.{pairTotal}
+use Rattle.clause_tables.specs.Tables.{codeIn}
 use Rattle.level_stages.specs.Levels.{levelByte}
 use Rattle.level_fill.specs.Values.{pairBytes, pairAtBytes}
 use Rattle.level_fill.proofs.Families.{inside, partner-asks, partner-fits, owner-asks, owner-fits, pair-row, pairs-done}
@@ -14,7 +14,7 @@ use Rattle.level_fill.proofs.put_chains.Statement.{statement}
 use Rattle.level_fill.proofs.put_chains.Tie as tie
 
 abbrev Inv-loop : tie.InvT-loop
-Inv-loop t heads starts bodies before partners owners w levels buf₀ to₀ k₀ buf to k = (k ≤ t .pairs) × Begins buf₀ buf (each k (pairAtBytes (programIn (t .sizes) heads starts bodies) w (levelByte levels))) to
+Inv-loop t heads starts bodies before partners owners w levels buf₀ to₀ k₀ buf to k = (k ≤ t .pairs) × Begins buf₀ buf (each k (pairAtBytes (codeIn t heads starts bodies) w (levelByte levels))) to
 
 abbrev μ-loop : tie.MeasureT-loop
 μ-loop t heads starts bodies before partners owners w levels buf₀ to₀ k₀ buf to k = t .pairs - k
@@ -41,19 +41,19 @@ level-of-requires-2 : tie.Need-level-of-requires-2 Inv-loop μ-loop
 level-of-requires-2 c κs = owner-fits (c .before .before .before .before .before .before .before .before .before .before .before .before .before .before .pre .0) (c .before .before .before .before .before .loop .k) (c .before .before .before .if1 .taken) (now (c .before .before .before .before .before .before .before .before .before .before .before .before .before .before .args .levels)) (c .before .before .before .before .before .before .before .before .before .before .before .before .before .before .pre .1) (c .entry2 .ensures)
 
 sub-put-pair-values : tie.Need-sub-put-pair-values Inv-loop μ-loop
-sub-put-pair-values c = begins-room (c .before .before .before .before .before .before .loop .inv .1) (pairBytes (c .before .before .before .before .before .before .before .before .before .before .before .before .before .before .before .args .w) (c .before .before .level-of .result) (c .level-of2 .result)) (rows-fit (now (c .before .before .before .before .before .before .before .before .before .before .before .before .before .before .before .args .buf)) (pairAtBytes (programIn (c .before .before .before .before .before .before .before .before .before .before .before .before .before .before .before .args .t .sizes) (now (c .before .before .before .before .before .before .before .before .before .before .before .before .before .before .before .args .heads)) (now (c .before .before .before .before .before .before .before .before .before .before .before .before .before .before .before .args .starts)) (now (c .before .before .before .before .before .before .before .before .before .before .before .before .before .before .before .args .bodies))) (c .before .before .before .before .before .before .before .before .before .before .before .before .before .before .before .args .w) (levelByte (now (c .before .before .before .before .before .before .before .before .before .before .before .before .before .before .before .args .levels)))) (pairCount (programIn (c .before .before .before .before .before .before .before .before .before .before .before .before .before .before .before .args .t .sizes) (now (c .before .before .before .before .before .before .before .before .before .before .before .before .before .before .before .args .heads)) (now (c .before .before .before .before .before .before .before .before .before .before .before .before .before .before .before .args .starts)) (now (c .before .before .before .before .before .before .before .before .before .before .before .before .before .before .before .args .bodies)))) (c .before .before .before .before .before .before .loop .k) (pair-row (c .before .before .before .before .before .before .before .before .before .before .before .before .before .before .before .pre .0) (c .before .before .before .before .before .before .loop .k) (c .before .before .before .before .if1 .taken) (c .before .before .before .before .before .before .before .before .before .before .before .before .before .before .before .args .w) (now (c .before .before .before .before .before .before .before .before .before .before .before .before .before .before .before .args .levels)) (c .before .before .before .entry .ensures) (c .before .before .level-of .ensures .0) (c .before .entry2 .ensures) (c .level-of2 .ensures .0)) (inside (c .before .before .before .before .before .before .before .before .before .before .before .before .before .before .before .pre .0) (c .before .before .before .before .before .before .loop .k) (c .before .before .before .before .if1 .taken)) (c .before .before .before .before .before .before .before .before .before .before .before .before .before .before .before .pre .2))
+sub-put-pair-values c = begins-room (c .before .before .before .before .before .before .loop .inv .1) (pairBytes (c .before .before .before .before .before .before .before .before .before .before .before .before .before .before .before .args .w) (c .before .before .level-of .result) (c .level-of2 .result)) (rows-fit (now (c .before .before .before .before .before .before .before .before .before .before .before .before .before .before .before .args .buf)) (pairAtBytes (codeIn (c .before .before .before .before .before .before .before .before .before .before .before .before .before .before .before .args .t) (now (c .before .before .before .before .before .before .before .before .before .before .before .before .before .before .before .args .heads)) (now (c .before .before .before .before .before .before .before .before .before .before .before .before .before .before .before .args .starts)) (now (c .before .before .before .before .before .before .before .before .before .before .before .before .before .before .before .args .bodies))) (c .before .before .before .before .before .before .before .before .before .before .before .before .before .before .before .args .w) (levelByte (now (c .before .before .before .before .before .before .before .before .before .before .before .before .before .before .before .args .levels)))) (pairTotal (codeIn (c .before .before .before .before .before .before .before .before .before .before .before .before .before .before .before .args .t) (now (c .before .before .before .before .before .before .before .before .before .before .before .before .before .before .before .args .heads)) (now (c .before .before .before .before .before .before .before .before .before .before .before .before .before .before .before .args .starts)) (now (c .before .before .before .before .before .before .before .before .before .before .before .before .before .before .before .args .bodies)))) (c .before .before .before .before .before .before .loop .k) (pair-row (c .before .before .before .before .before .before .before .before .before .before .before .before .before .before .before .pre .0) (c .before .before .before .before .before .before .loop .k) (c .before .before .before .before .if1 .taken) (c .before .before .before .before .before .before .before .before .before .before .before .before .before .before .before .args .w) (now (c .before .before .before .before .before .before .before .before .before .before .before .before .before .before .before .args .levels)) (c .before .before .before .entry .ensures) (c .before .before .level-of .ensures .0) (c .before .entry2 .ensures) (c .level-of2 .ensures .0)) (inside (c .before .before .before .before .before .before .before .before .before .before .before .before .before .before .before .pre .0) (c .before .before .before .before .before .before .loop .k) (c .before .before .before .before .if1 .taken)) (c .before .before .before .before .before .before .before .before .before .before .before .before .before .before .before .pre .2))
 
 part-put-pair-values-start : tie.Need-part-put-pair-values-start Inv-loop μ-loop
-part-put-pair-values-start c = begins-room (c .before .before .before .before .before .before .loop .inv .1) (pairBytes (c .before .before .before .before .before .before .before .before .before .before .before .before .before .before .before .args .w) (c .before .before .level-of .result) (c .level-of2 .result)) (rows-fit (now (c .before .before .before .before .before .before .before .before .before .before .before .before .before .before .before .args .buf)) (pairAtBytes (programIn (c .before .before .before .before .before .before .before .before .before .before .before .before .before .before .before .args .t .sizes) (now (c .before .before .before .before .before .before .before .before .before .before .before .before .before .before .before .args .heads)) (now (c .before .before .before .before .before .before .before .before .before .before .before .before .before .before .before .args .starts)) (now (c .before .before .before .before .before .before .before .before .before .before .before .before .before .before .before .args .bodies))) (c .before .before .before .before .before .before .before .before .before .before .before .before .before .before .before .args .w) (levelByte (now (c .before .before .before .before .before .before .before .before .before .before .before .before .before .before .before .args .levels)))) (pairCount (programIn (c .before .before .before .before .before .before .before .before .before .before .before .before .before .before .before .args .t .sizes) (now (c .before .before .before .before .before .before .before .before .before .before .before .before .before .before .before .args .heads)) (now (c .before .before .before .before .before .before .before .before .before .before .before .before .before .before .before .args .starts)) (now (c .before .before .before .before .before .before .before .before .before .before .before .before .before .before .before .args .bodies)))) (c .before .before .before .before .before .before .loop .k) (pair-row (c .before .before .before .before .before .before .before .before .before .before .before .before .before .before .before .pre .0) (c .before .before .before .before .before .before .loop .k) (c .before .before .before .before .if1 .taken) (c .before .before .before .before .before .before .before .before .before .before .before .before .before .before .before .args .w) (now (c .before .before .before .before .before .before .before .before .before .before .before .before .before .before .before .args .levels)) (c .before .before .before .entry .ensures) (c .before .before .level-of .ensures .0) (c .before .entry2 .ensures) (c .level-of2 .ensures .0)) (inside (c .before .before .before .before .before .before .before .before .before .before .before .before .before .before .before .pre .0) (c .before .before .before .before .before .before .loop .k) (c .before .before .before .before .if1 .taken)) (c .before .before .before .before .before .before .before .before .before .before .before .before .before .before .before .pre .2))
+part-put-pair-values-start c = begins-room (c .before .before .before .before .before .before .loop .inv .1) (pairBytes (c .before .before .before .before .before .before .before .before .before .before .before .before .before .before .before .args .w) (c .before .before .level-of .result) (c .level-of2 .result)) (rows-fit (now (c .before .before .before .before .before .before .before .before .before .before .before .before .before .before .before .args .buf)) (pairAtBytes (codeIn (c .before .before .before .before .before .before .before .before .before .before .before .before .before .before .before .args .t) (now (c .before .before .before .before .before .before .before .before .before .before .before .before .before .before .before .args .heads)) (now (c .before .before .before .before .before .before .before .before .before .before .before .before .before .before .before .args .starts)) (now (c .before .before .before .before .before .before .before .before .before .before .before .before .before .before .before .args .bodies))) (c .before .before .before .before .before .before .before .before .before .before .before .before .before .before .before .args .w) (levelByte (now (c .before .before .before .before .before .before .before .before .before .before .before .before .before .before .before .args .levels)))) (pairTotal (codeIn (c .before .before .before .before .before .before .before .before .before .before .before .before .before .before .before .args .t) (now (c .before .before .before .before .before .before .before .before .before .before .before .before .before .before .before .args .heads)) (now (c .before .before .before .before .before .before .before .before .before .before .before .before .before .before .before .args .starts)) (now (c .before .before .before .before .before .before .before .before .before .before .before .before .before .before .before .args .bodies)))) (c .before .before .before .before .before .before .loop .k) (pair-row (c .before .before .before .before .before .before .before .before .before .before .before .before .before .before .before .pre .0) (c .before .before .before .before .before .before .loop .k) (c .before .before .before .before .if1 .taken) (c .before .before .before .before .before .before .before .before .before .before .before .before .before .before .before .args .w) (now (c .before .before .before .before .before .before .before .before .before .before .before .before .before .before .before .args .levels)) (c .before .before .before .entry .ensures) (c .before .before .level-of .ensures .0) (c .before .entry2 .ensures) (c .level-of2 .ensures .0)) (inside (c .before .before .before .before .before .before .before .before .before .before .before .before .before .before .before .pre .0) (c .before .before .before .before .before .before .loop .k) (c .before .before .before .before .if1 .taken)) (c .before .before .before .before .before .before .before .before .before .before .before .before .before .before .before .pre .2))
 
 part-put-pair-values-end : tie.Need-part-put-pair-values-end Inv-loop μ-loop
 part-put-pair-values-end c = search needs
 
 put-pair-values-requires : tie.Need-put-pair-values-requires Inv-loop μ-loop
-put-pair-values-requires c κs = (c .before .before .before .level-of .ensures .1, begins-tail (c .before .before .before .before .before .before .before .loop .inv .1) (pairBytes (c .before .before .before .before .before .before .before .before .before .before .before .before .before .before .before .before .args .w) (c .before .before .before .level-of .result) (c .before .level-of2 .result)) (rows-fit (now (c .before .before .before .before .before .before .before .before .before .before .before .before .before .before .before .before .args .buf)) (pairAtBytes (programIn (c .before .before .before .before .before .before .before .before .before .before .before .before .before .before .before .before .args .t .sizes) (now (c .before .before .before .before .before .before .before .before .before .before .before .before .before .before .before .before .args .heads)) (now (c .before .before .before .before .before .before .before .before .before .before .before .before .before .before .before .before .args .starts)) (now (c .before .before .before .before .before .before .before .before .before .before .before .before .before .before .before .before .args .bodies))) (c .before .before .before .before .before .before .before .before .before .before .before .before .before .before .before .before .args .w) (levelByte (now (c .before .before .before .before .before .before .before .before .before .before .before .before .before .before .before .before .args .levels)))) (pairCount (programIn (c .before .before .before .before .before .before .before .before .before .before .before .before .before .before .before .before .args .t .sizes) (now (c .before .before .before .before .before .before .before .before .before .before .before .before .before .before .before .before .args .heads)) (now (c .before .before .before .before .before .before .before .before .before .before .before .before .before .before .before .before .args .starts)) (now (c .before .before .before .before .before .before .before .before .before .before .before .before .before .before .before .before .args .bodies)))) (c .before .before .before .before .before .before .before .loop .k) (pair-row (c .before .before .before .before .before .before .before .before .before .before .before .before .before .before .before .before .pre .0) (c .before .before .before .before .before .before .before .loop .k) (c .before .before .before .before .before .if1 .taken) (c .before .before .before .before .before .before .before .before .before .before .before .before .before .before .before .before .args .w) (now (c .before .before .before .before .before .before .before .before .before .before .before .before .before .before .before .before .args .levels)) (c .before .before .before .before .entry .ensures) (c .before .before .before .level-of .ensures .0) (c .before .before .entry2 .ensures) (c .before .level-of2 .ensures .0)) (inside (c .before .before .before .before .before .before .before .before .before .before .before .before .before .before .before .before .pre .0) (c .before .before .before .before .before .before .before .loop .k) (c .before .before .before .before .before .if1 .taken)) (c .before .before .before .before .before .before .before .before .before .before .before .before .before .before .before .before .pre .2)))
+put-pair-values-requires c κs = (c .before .before .before .level-of .ensures .1, begins-tail (c .before .before .before .before .before .before .before .loop .inv .1) (pairBytes (c .before .before .before .before .before .before .before .before .before .before .before .before .before .before .before .before .args .w) (c .before .before .before .level-of .result) (c .before .level-of2 .result)) (rows-fit (now (c .before .before .before .before .before .before .before .before .before .before .before .before .before .before .before .before .args .buf)) (pairAtBytes (codeIn (c .before .before .before .before .before .before .before .before .before .before .before .before .before .before .before .before .args .t) (now (c .before .before .before .before .before .before .before .before .before .before .before .before .before .before .before .before .args .heads)) (now (c .before .before .before .before .before .before .before .before .before .before .before .before .before .before .before .before .args .starts)) (now (c .before .before .before .before .before .before .before .before .before .before .before .before .before .before .before .before .args .bodies))) (c .before .before .before .before .before .before .before .before .before .before .before .before .before .before .before .before .args .w) (levelByte (now (c .before .before .before .before .before .before .before .before .before .before .before .before .before .before .before .before .args .levels)))) (pairTotal (codeIn (c .before .before .before .before .before .before .before .before .before .before .before .before .before .before .before .before .args .t) (now (c .before .before .before .before .before .before .before .before .before .before .before .before .before .before .before .before .args .heads)) (now (c .before .before .before .before .before .before .before .before .before .before .before .before .before .before .before .before .args .starts)) (now (c .before .before .before .before .before .before .before .before .before .before .before .before .before .before .before .before .args .bodies)))) (c .before .before .before .before .before .before .before .loop .k) (pair-row (c .before .before .before .before .before .before .before .before .before .before .before .before .before .before .before .before .pre .0) (c .before .before .before .before .before .before .before .loop .k) (c .before .before .before .before .before .if1 .taken) (c .before .before .before .before .before .before .before .before .before .before .before .before .before .before .before .before .args .w) (now (c .before .before .before .before .before .before .before .before .before .before .before .before .before .before .before .before .args .levels)) (c .before .before .before .before .entry .ensures) (c .before .before .before .level-of .ensures .0) (c .before .before .entry2 .ensures) (c .before .level-of2 .ensures .0)) (inside (c .before .before .before .before .before .before .before .before .before .before .before .before .before .before .before .before .pre .0) (c .before .before .before .before .before .before .before .loop .k) (c .before .before .before .before .before .if1 .taken)) (c .before .before .before .before .before .before .before .before .before .before .before .before .before .before .before .before .pre .2)))
 
 add-to : tie.Need-add-to Inv-loop μ-loop
-add-to c = omega (arith, c .before .before .before .before .before .before .before .before .before .before .before .before .before .before .before .before .before .before .before .good .1 .1 .1 .1 .1 .1 .1 .1 .1 .0, begins-sum (c .before .before .before .before .before .before .before .before .before .before .loop .inv .1) (pairBytes (c .before .before .before .before .before .before .before .before .before .before .before .before .before .before .before .before .before .before .before .args .w) (c .before .before .before .before .before .before .level-of .result) (c .before .before .before .before .level-of2 .result)) (c .before .before .put-pair-values .ensures .0) (rows-fit (now (c .before .before .before .before .before .before .before .before .before .before .before .before .before .before .before .before .before .before .before .args .buf)) (pairAtBytes (programIn (c .before .before .before .before .before .before .before .before .before .before .before .before .before .before .before .before .before .before .before .args .t .sizes) (now (c .before .before .before .before .before .before .before .before .before .before .before .before .before .before .before .before .before .before .before .args .heads)) (now (c .before .before .before .before .before .before .before .before .before .before .before .before .before .before .before .before .before .before .before .args .starts)) (now (c .before .before .before .before .before .before .before .before .before .before .before .before .before .before .before .before .before .before .before .args .bodies))) (c .before .before .before .before .before .before .before .before .before .before .before .before .before .before .before .before .before .before .before .args .w) (levelByte (now (c .before .before .before .before .before .before .before .before .before .before .before .before .before .before .before .before .before .before .before .args .levels)))) (pairCount (programIn (c .before .before .before .before .before .before .before .before .before .before .before .before .before .before .before .before .before .before .before .args .t .sizes) (now (c .before .before .before .before .before .before .before .before .before .before .before .before .before .before .before .before .before .before .before .args .heads)) (now (c .before .before .before .before .before .before .before .before .before .before .before .before .before .before .before .before .before .before .before .args .starts)) (now (c .before .before .before .before .before .before .before .before .before .before .before .before .before .before .before .before .before .before .before .args .bodies)))) (c .before .before .before .before .before .before .before .before .before .before .loop .k) (pair-row (c .before .before .before .before .before .before .before .before .before .before .before .before .before .before .before .before .before .before .before .pre .0) (c .before .before .before .before .before .before .before .before .before .before .loop .k) (c .before .before .before .before .before .before .before .before .if1 .taken) (c .before .before .before .before .before .before .before .before .before .before .before .before .before .before .before .before .before .before .before .args .w) (now (c .before .before .before .before .before .before .before .before .before .before .before .before .before .before .before .before .before .before .before .args .levels)) (c .before .before .before .before .before .before .before .entry .ensures) (c .before .before .before .before .before .before .level-of .ensures .0) (c .before .before .before .before .before .entry2 .ensures) (c .before .before .before .before .level-of2 .ensures .0)) (inside (c .before .before .before .before .before .before .before .before .before .before .before .before .before .before .before .before .before .before .before .pre .0) (c .before .before .before .before .before .before .before .before .before .before .loop .k) (c .before .before .before .before .before .before .before .before .if1 .taken)) (c .before .before .before .before .before .before .before .before .before .before .before .before .before .before .before .before .before .before .before .pre .2)))
+add-to c = omega (arith, c .before .before .before .before .before .before .before .before .before .before .before .before .before .before .before .before .before .before .before .good .1 .1 .1 .1 .1 .1 .1 .1 .1 .0, begins-sum (c .before .before .before .before .before .before .before .before .before .before .loop .inv .1) (pairBytes (c .before .before .before .before .before .before .before .before .before .before .before .before .before .before .before .before .before .before .before .args .w) (c .before .before .before .before .before .before .level-of .result) (c .before .before .before .before .level-of2 .result)) (c .before .before .put-pair-values .ensures .0) (rows-fit (now (c .before .before .before .before .before .before .before .before .before .before .before .before .before .before .before .before .before .before .before .args .buf)) (pairAtBytes (codeIn (c .before .before .before .before .before .before .before .before .before .before .before .before .before .before .before .before .before .before .before .args .t) (now (c .before .before .before .before .before .before .before .before .before .before .before .before .before .before .before .before .before .before .before .args .heads)) (now (c .before .before .before .before .before .before .before .before .before .before .before .before .before .before .before .before .before .before .before .args .starts)) (now (c .before .before .before .before .before .before .before .before .before .before .before .before .before .before .before .before .before .before .before .args .bodies))) (c .before .before .before .before .before .before .before .before .before .before .before .before .before .before .before .before .before .before .before .args .w) (levelByte (now (c .before .before .before .before .before .before .before .before .before .before .before .before .before .before .before .before .before .before .before .args .levels)))) (pairTotal (codeIn (c .before .before .before .before .before .before .before .before .before .before .before .before .before .before .before .before .before .before .before .args .t) (now (c .before .before .before .before .before .before .before .before .before .before .before .before .before .before .before .before .before .before .before .args .heads)) (now (c .before .before .before .before .before .before .before .before .before .before .before .before .before .before .before .before .before .before .before .args .starts)) (now (c .before .before .before .before .before .before .before .before .before .before .before .before .before .before .before .before .before .before .before .args .bodies)))) (c .before .before .before .before .before .before .before .before .before .before .loop .k) (pair-row (c .before .before .before .before .before .before .before .before .before .before .before .before .before .before .before .before .before .before .before .pre .0) (c .before .before .before .before .before .before .before .before .before .before .loop .k) (c .before .before .before .before .before .before .before .before .if1 .taken) (c .before .before .before .before .before .before .before .before .before .before .before .before .before .before .before .before .before .before .before .args .w) (now (c .before .before .before .before .before .before .before .before .before .before .before .before .before .before .before .before .before .before .before .args .levels)) (c .before .before .before .before .before .before .before .entry .ensures) (c .before .before .before .before .before .before .level-of .ensures .0) (c .before .before .before .before .before .entry2 .ensures) (c .before .before .before .before .level-of2 .ensures .0)) (inside (c .before .before .before .before .before .before .before .before .before .before .before .before .before .before .before .before .before .before .before .pre .0) (c .before .before .before .before .before .before .before .before .before .before .loop .k) (c .before .before .before .before .before .before .before .before .if1 .taken)) (c .before .before .before .before .before .before .before .before .before .before .before .before .before .before .before .before .before .before .before .pre .2)))
 
 add-k : tie.Need-add-k Inv-loop μ-loop
 add-k c = search needs
@@ -62,13 +62,13 @@ loop-less : tie.Need-loop-less Inv-loop μ-loop
 loop-less c = search needs
 
 loop-again : tie.Need-loop-again Inv-loop μ-loop
-loop-again c = (search needs, rows-next (now (c .before .before .before .before .before .before .before .before .before .before .before .before .before .before .before .before .before .before .before .args .buf)) (pairAtBytes (programIn (c .before .before .before .before .before .before .before .before .before .before .before .before .before .before .before .before .before .before .before .args .t .sizes) (now (c .before .before .before .before .before .before .before .before .before .before .before .before .before .before .before .before .before .before .before .args .heads)) (now (c .before .before .before .before .before .before .before .before .before .before .before .before .before .before .before .before .before .before .before .args .starts)) (now (c .before .before .before .before .before .before .before .before .before .before .before .before .before .before .before .before .before .before .before .args .bodies))) (c .before .before .before .before .before .before .before .before .before .before .before .before .before .before .before .before .before .before .before .args .w) (levelByte (now (c .before .before .before .before .before .before .before .before .before .before .before .before .before .before .before .before .before .before .before .args .levels)))) (c .before .before .before .before .before .before .before .before .before .before .loop .k) (pair-row (c .before .before .before .before .before .before .before .before .before .before .before .before .before .before .before .before .before .before .before .pre .0) (c .before .before .before .before .before .before .before .before .before .before .loop .k) (c .before .before .before .before .before .before .before .before .if1 .taken) (c .before .before .before .before .before .before .before .before .before .before .before .before .before .before .before .before .before .before .before .args .w) (now (c .before .before .before .before .before .before .before .before .before .before .before .before .before .before .before .before .before .before .before .args .levels)) (c .before .before .before .before .before .before .before .entry .ensures) (c .before .before .before .before .before .before .level-of .ensures .0) (c .before .before .before .before .before .entry2 .ensures) (c .before .before .before .before .level-of2 .ensures .0)) (begins-more (c .before .before .before .before .before .before .before .before .before .before .loop .inv .1) (pairBytes (c .before .before .before .before .before .before .before .before .before .before .before .before .before .before .before .before .before .before .before .args .w) (c .before .before .before .before .before .before .level-of .result) (c .before .before .before .before .level-of2 .result)) (c .before .before .put-pair-values .kept .1 .1 .1 .0) (c .before .before .put-pair-values .ensures)))
+loop-again c = (search needs, rows-next (now (c .before .before .before .before .before .before .before .before .before .before .before .before .before .before .before .before .before .before .before .args .buf)) (pairAtBytes (codeIn (c .before .before .before .before .before .before .before .before .before .before .before .before .before .before .before .before .before .before .before .args .t) (now (c .before .before .before .before .before .before .before .before .before .before .before .before .before .before .before .before .before .before .before .args .heads)) (now (c .before .before .before .before .before .before .before .before .before .before .before .before .before .before .before .before .before .before .before .args .starts)) (now (c .before .before .before .before .before .before .before .before .before .before .before .before .before .before .before .before .before .before .before .args .bodies))) (c .before .before .before .before .before .before .before .before .before .before .before .before .before .before .before .before .before .before .before .args .w) (levelByte (now (c .before .before .before .before .before .before .before .before .before .before .before .before .before .before .before .before .before .before .before .args .levels)))) (c .before .before .before .before .before .before .before .before .before .before .loop .k) (pair-row (c .before .before .before .before .before .before .before .before .before .before .before .before .before .before .before .before .before .before .before .pre .0) (c .before .before .before .before .before .before .before .before .before .before .loop .k) (c .before .before .before .before .before .before .before .before .if1 .taken) (c .before .before .before .before .before .before .before .before .before .before .before .before .before .before .before .before .before .before .before .args .w) (now (c .before .before .before .before .before .before .before .before .before .before .before .before .before .before .before .before .before .before .before .args .levels)) (c .before .before .before .before .before .before .before .entry .ensures) (c .before .before .before .before .before .before .level-of .ensures .0) (c .before .before .before .before .before .entry2 .ensures) (c .before .before .before .before .level-of2 .ensures .0)) (begins-more (c .before .before .before .before .before .before .before .before .before .before .loop .inv .1) (pairBytes (c .before .before .before .before .before .before .before .before .before .before .before .before .before .before .before .before .before .before .before .args .w) (c .before .before .before .before .before .before .level-of .result) (c .before .before .before .before .level-of2 .result)) (c .before .before .put-pair-values .kept .1 .1 .1 .0) (c .before .before .put-pair-values .ensures)))
 
 same-length : tie.Need-same-length Inv-loop μ-loop
 same-length c = c .before .before .loop .inv .1 .same
 
 returns : tie.Need-returns Inv-loop μ-loop
-returns c = let q = pairs-done (c .before .before .before .before .before .before .before .before .before .before .before .pre .0) (c .before .before .loop .k) (c .before .before .loop .inv .0) (c .if1 .left) in rows-all (now (c .before .before .before .before .before .before .before .before .before .before .before .args .buf)) (pairAtBytes (programIn (c .before .before .before .before .before .before .before .before .before .before .before .args .t .sizes) (now (c .before .before .before .before .before .before .before .before .before .before .before .args .heads)) (now (c .before .before .before .before .before .before .before .before .before .before .before .args .starts)) (now (c .before .before .before .before .before .before .before .before .before .before .before .args .bodies))) (c .before .before .before .before .before .before .before .before .before .before .before .args .w) (levelByte (now (c .before .before .before .before .before .before .before .before .before .before .before .args .levels)))) (pairCount (programIn (c .before .before .before .before .before .before .before .before .before .before .before .args .t .sizes) (now (c .before .before .before .before .before .before .before .before .before .before .before .args .heads)) (now (c .before .before .before .before .before .before .before .before .before .before .before .args .starts)) (now (c .before .before .before .before .before .before .before .before .before .before .before .args .bodies)))) (c .before .before .loop .k) (q .0) (q .1) (c .before .before .loop .inv .1)
+returns c = let q = pairs-done (c .before .before .before .before .before .before .before .before .before .before .before .pre .0) (c .before .before .loop .k) (c .before .before .loop .inv .0) (c .if1 .left) in rows-all (now (c .before .before .before .before .before .before .before .before .before .before .before .args .buf)) (pairAtBytes (codeIn (c .before .before .before .before .before .before .before .before .before .before .before .args .t) (now (c .before .before .before .before .before .before .before .before .before .before .before .args .heads)) (now (c .before .before .before .before .before .before .before .before .before .before .before .args .starts)) (now (c .before .before .before .before .before .before .before .before .before .before .before .args .bodies))) (c .before .before .before .before .before .before .before .before .before .before .before .args .w) (levelByte (now (c .before .before .before .before .before .before .before .before .before .before .before .args .levels)))) (pairTotal (codeIn (c .before .before .before .before .before .before .before .before .before .before .before .args .t) (now (c .before .before .before .before .before .before .before .before .before .before .before .args .heads)) (now (c .before .before .before .before .before .before .before .before .before .before .before .args .starts)) (now (c .before .before .before .before .before .before .before .before .before .before .before .args .bodies)))) (c .before .before .loop .k) (q .0) (q .1) (c .before .before .loop .inv .1)
 
 pub put-chains-spec : {M : Type 1} → statement M
 put-chains-spec =

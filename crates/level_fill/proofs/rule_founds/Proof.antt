@@ -1,7 +1,5 @@
 use denote.Ref.{now}
 use borrow.Author.Tests.{not-true, not-false}
-use Rattle.clause_tables.specs.Tables.{programIn}
-use Rattle.meaning.specs.Program.{ruleAt}
 use Rattle.level_stages.specs.Levels.{setIn}
 use Rattle.level_stages.proofs.Rules.{head-asks, head-fits, its-head-is}
 use Rattle.level_fill.proofs.Families.{founds-unmet, founds-is}
@@ -13,7 +11,7 @@ body-true-requires : tie.Need-body-true-requires
 body-true-requires c κs = search needs
 
 returns : tie.Need-returns
-returns c = founds-unmet (setIn (c .before .before .before .before .before .before .before .before .before .before .args .t .sizes .n) (now (c .before .before .before .before .before .before .before .before .before .before .args .set))) (now (c .before .before .before .before .before .before .before .before .before .before .args .levels)) (ruleAt ((programIn (c .before .before .before .before .before .before .before .before .before .before .args .t .sizes) (now (c .before .before .before .before .before .before .before .before .before .before .args .heads)) (now (c .before .before .before .before .before .before .before .before .before .before .args .starts)) (now (c .before .before .before .before .before .before .before .before .before .before .args .bodies))) .rules) (c .before .before .before .before .before .before .before .before .before .before .args .r)) (c .before .body-true .ensures) (not-true _ (c .if1 .taken))
+returns c = founds-unmet (c .before .before .before .before .before .before .before .before .before .before .pre .0) (setIn (c .before .before .before .before .before .before .before .before .before .before .args .t .sizes .n) (now (c .before .before .before .before .before .before .before .before .before .before .args .set))) (now (c .before .before .before .before .before .before .before .before .before .before .args .levels)) (c .before .before .before .before .before .before .before .before .before .before .args .r) (c .before .body-true .ensures) (not-true _ (c .if1 .taken))
 
 head-requires : tie.Need-head-requires
 head-requires c κs = head-asks (c .before .before .before .before .before .before .before .before .before .before .pre .0) (c .before .before .before .before .before .before .before .before .before .before .args .r) (c .before .before .before .before .before .before .before .before .before .before .pre .1) (c .before .before .before .before .before .before .before .before .before .before .pre .2)
@@ -25,7 +23,7 @@ positives-below-requires : tie.Need-positives-below-requires
 positives-below-requires c κs = search needs
 
 returns-2 : tie.Need-returns-2
-returns-2 c = founds-is (setIn (c .before .before .before .before .before .before .before .before .before .before .before .before .before .args .t .sizes .n) (now (c .before .before .before .before .before .before .before .before .before .before .before .before .before .args .set))) (now (c .before .before .before .before .before .before .before .before .before .before .before .before .before .args .levels)) (ruleAt ((programIn (c .before .before .before .before .before .before .before .before .before .before .before .before .before .args .t .sizes) (now (c .before .before .before .before .before .before .before .before .before .before .before .before .before .args .heads)) (now (c .before .before .before .before .before .before .before .before .before .before .before .before .before .args .starts)) (now (c .before .before .before .before .before .before .before .before .before .before .before .before .before .args .bodies))) .rules) (c .before .before .before .before .before .before .before .before .before .before .before .before .before .args .r)) (c .before .before .before .before .body-true .ensures) (not-false _ (c .before .before .before .if1 .left)) (its-head-is (c .before .before .before .before .before .before .before .before .before .before .before .before .before .pre .0) (c .before .before .before .before .before .before .before .before .before .before .before .before .before .args .r) (c .before .before .before .before .before .before .before .before .before .before .before .before .before .pre .1) (c .before .before .before .before .before .before .before .before .before .before .before .before .before .pre .2) (c .before .before .head .ensures)) (c .before .byte-of .ensures) (c .positives-below .ensures)
+returns-2 c = founds-is (c .before .before .before .before .before .before .before .before .before .before .before .before .before .pre .0) (setIn (c .before .before .before .before .before .before .before .before .before .before .before .before .before .args .t .sizes .n) (now (c .before .before .before .before .before .before .before .before .before .before .before .before .before .args .set))) (now (c .before .before .before .before .before .before .before .before .before .before .before .before .before .args .levels)) (c .before .before .before .before .before .before .before .before .before .before .before .before .before .args .r) (c .before .before .before .before .body-true .ensures) (not-false _ (c .before .before .before .if1 .left)) (its-head-is (c .before .before .before .before .before .before .before .before .before .before .before .before .before .pre .0) (c .before .before .before .before .before .before .before .before .before .before .before .before .before .args .r) (c .before .before .before .before .before .before .before .before .before .before .before .before .before .pre .1) (c .before .before .before .before .before .before .before .before .before .before .before .before .before .pre .2) (c .before .before .head .ensures)) (c .before .byte-of .ensures) (c .positives-below .ensures)
 
 pub rule-founds-spec : {M : Type 1} → statement M
 rule-founds-spec =

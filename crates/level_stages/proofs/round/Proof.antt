@@ -1,13 +1,13 @@
 use Prim.Native.Nat.{_-_}
 use denote.Ref.{now}
 use borrow.Author.Needs.{needs}
-use Rattle.clause_tables.specs.Tables.{programIn}
+use Rattle.clause_tables.specs.Tables.{codeIn}
 use Rattle.level_stages.proofs.Turns.{Turned, begins, asks, goes, ends}
 use Rattle.level_stages.proofs.round.Statement.{statement}
 use Rattle.level_stages.proofs.round.Tie as tie
 
 abbrev Inv-loop : tie.InvT-loop
-Inv-loop t heads starts bodies before partners owners i set levels₀ given₀ r₀ levels given r = Turned (programIn (t .sizes) heads starts bodies) t set levels₀ i r levels given
+Inv-loop t heads starts bodies before partners owners i set levels₀ given₀ r₀ levels given r = Turned (codeIn t heads starts bodies) t set levels₀ i r levels given
 
 abbrev μ-loop : tie.MeasureT-loop
 μ-loop t heads starts bodies before partners owners i set levels₀ given₀ r₀ levels given r = t .sizes .m - r

@@ -5,13 +5,13 @@ use native.Mathlib.Omega.{arith}
 use borrow.Author.Tests.{not-true}
 use borrow.Author.Needs.{needs}
 use Rattle.clause_table_laws.proofs.Elements.{bounded}
-use Rattle.clause_tables.specs.Tables.{programIn}
+use Rattle.clause_tables.specs.Tables.{codeIn}
 use Rattle.level_stages.proofs.Turns.{Staged, first-round, round-asks, next-round, last-round, rounds-over}
 use Rattle.level_stages.proofs.rounds.Statement.{statement}
 use Rattle.level_stages.proofs.rounds.Tie as tie
 
 abbrev Inv-loop : tie.InvT-loop
-Inv-loop t heads starts bodies before partners owners set levels₀ i₀ levels i = Staged (programIn (t .sizes) heads starts bodies) t set levels₀ i levels
+Inv-loop t heads starts bodies before partners owners set levels₀ i₀ levels i = Staged (codeIn t heads starts bodies) t set levels₀ i levels
 
 abbrev μ-loop : tie.MeasureT-loop
 μ-loop t heads starts bodies before partners owners set levels₀ i₀ levels i = t .sizes .n - i

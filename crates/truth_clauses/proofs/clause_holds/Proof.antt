@@ -1,7 +1,7 @@
 use Rattle.truth_clauses.proofs.Clauses.{none-yet, some-true, variable-fits, all-false}
 use Rattle.truth_clauses.specs.Truth.{valueIn}
 use Rattle.clause_text.proofs.Clause.{slot-asks, past-asks, past-within, past-less}
-use Rattle.clause_tables.specs.Tables.{programIn}
+use Rattle.clause_tables.specs.Tables.{codeIn}
 use Rattle.clause_walk.specs.Walk.{slot}
 use Rattle.encoding.specs.Literal.{literalTrue}
 use Rattle.lists.specs.Lists.{any, each}
@@ -14,7 +14,7 @@ use Rattle.truth_clauses.proofs.clause_holds.Statement.{statement}
 use Rattle.truth_clauses.proofs.clause_holds.Tie as tie
 
 abbrev Inv-loop : tie.InvT-loop
-Inv-loop t heads starts bodies before partners owners g a i y assignment k c l₀ l = (l ≤ k) × (any (literalTrue (valueIn assignment)) (each l (slot (programIn (t .sizes) heads starts bodies) (t .sizes .w) g a i y)) ≡ false)
+Inv-loop t heads starts bodies before partners owners g a i y assignment k c l₀ l = (l ≤ k) × (any (literalTrue (valueIn assignment)) (each l (slot (codeIn t heads starts bodies) g a i y)) ≡ false)
 
 abbrev μ-loop : tie.MeasureT-loop
 μ-loop t heads starts bodies before partners owners g a i y assignment k c l₀ l = k - l

@@ -2,7 +2,7 @@ use denote.Ref.{now}
 use Prim.Native.Nat.{suc, _-_}
 use native.Mathlib.Omega.{arith}
 use borrow.Author.Tests.{not-true, not-false}
-use Rattle.clause_tables.specs.Tables.{programIn}
+use Rattle.clause_tables.specs.Tables.{codeIn}
 use Rattle.clause_places.proofs.Numbers.{number-is}
 use Rattle.truth_clauses.proofs.Clauses.{start-asks, begun, clause-asks, clause-passed, clause-false, block-passed, ended}
 use Rattle.truth_clauses.specs.Standing.{Standing}
@@ -10,7 +10,7 @@ use Rattle.truth_clauses.proofs.first_false.Statement.{statement}
 use Rattle.truth_clauses.proofs.first_false.Tie as tie
 
 abbrev Inv-loop : tie.InvT-loop
-Inv-loop t heads starts bodies before partners owners assignment at₀ at = Standing (programIn (t .sizes) heads starts bodies) t assignment at
+Inv-loop t heads starts bodies before partners owners assignment at₀ at = Standing (codeIn t heads starts bodies) t assignment at
 
 abbrev μ-loop : tie.MeasureT-loop
 μ-loop t heads starts bodies before partners owners assignment at₀ at = suc (t .clauses) - at .number

@@ -3,7 +3,7 @@ use Prim.Native.Nat.{_-_, _≤_}
 use native.Mathlib.Omega.{arith}
 use native.Mathlib.Nat.{le-refl, pos-of-ne-zero}
 use borrow.Author.Tests.{not-false}
-use Rattle.clause_tables.specs.Tables.{programIn}
+use Rattle.clause_tables.specs.Tables.{codeIn}
 use Rattle.clause_places.proofs.Behind.{behind-sum, behind-adds, behind-at}
 use Rattle.truth_clauses.proofs.Clauses.{clause-asks, furthered}
 use Rattle.truth_clauses.specs.Standing.{Standing}
@@ -11,7 +11,7 @@ use Rattle.truth_clauses.proofs.through_blocks.Statement.{statement}
 use Rattle.truth_clauses.proofs.through_blocks.Tie as tie
 
 abbrev Inv-loop : tie.InvT-loop
-Inv-loop t heads starts bodies before partners owners assignment at₀ at = (Standing (programIn (t .sizes) heads starts bodies) t assignment at) × (at₀ .number ≤ at .number) × (at .number ≤ t .clauses)
+Inv-loop t heads starts bodies before partners owners assignment at₀ at = (Standing (codeIn t heads starts bodies) t assignment at) × (at₀ .number ≤ at .number) × (at .number ≤ t .clauses)
 
 abbrev μ-loop : tie.MeasureT-loop
 μ-loop t heads starts bodies before partners owners assignment at₀ at = t .clauses - at .number

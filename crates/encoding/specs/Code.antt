@@ -1,12 +1,16 @@
--- The encoding with open atoms and with pairs inside components alone, in one record that the theorem is proved over. Document 01's
--- encoding has no open atom and every pair inside: `whole P w`, and there each definition below is document 01's (theory/proofs/Whole).
+-- The encoding with open atoms and with pairs inside components alone, in one record that the theorem is proved over and that the code
+-- between the reader and the calls is proved against. Document 01's encoding has no open atom and every pair inside: `codeOf P`, and there
+-- each definition below is document 01's (theory/proofs/Whole).
 --   Code            atoms 1 to n, counters of w bits, rules, open atoms, and which body atoms are inside for a head
+--   whole P w       the rules of P with counters of w bits, no open atom and every pair inside
+--   codeOf P        document 01's code of P: that with document 01's width
+--   programOf G     the atoms and rules of G
 --   inner G r       the positive body atoms of rule r that are inside; the others only have to be true
 --   reductOf G M    the rules of the reduct with their inner bodies, where the outer ones are in M, and a fact for each open atom in M
 --   levelOf G M a   the first stage of these rules that holds a
 --   full G          G with every body atom inside
 --   StableIn G M    M equals the union of the stages of its full reduct
---   clausesOf, variablesOf, fillOf   the clause list, V and the filled-out list
+--   clausesOf, variablesOf, codeFill   the clause list, V and the filled-out list
 -- Assumes nothing.
 use Prim.Native.Nat.{ℕ, pred, _+_}
 use mathlib.Core.Bool.{Bool, true, false, _&&_, _||_, So, cond}
@@ -15,10 +19,11 @@ use lib.ListN.{length}
 use Rattle.lists.specs.Lists.{all, keep, tab, each, joined, sum}
 use Rattle.meaning.specs.Program.{Rule, Program, Atoms, ruleAt, noneIn}
 use Rattle.meaning.specs.Stage.{Definite, InUnion, levelIn}
+use Rattle.encoding.specs.Width.{width}
 use Rattle.encoding.specs.Literal.{Clause}
 use Rattle.encoding.specs.Variables.{Sizes, varCount}
 use Rattle.encoding.specs.Clauses.{bodyClauses, impliedClauses, supportedClause, zeroClauses, nextClauses, pairClauses, foundsClauses, oneClauses, lowestClauses, foundedClause, Pair, pairAt, pairsWith, rulesOf}
 use Rattle.encoding.specs.Fill.{fillWith}
 
 pub record Code : Type 0 where
   pub n : ℕ
@@ -30,6 +35,12 @@ pub record Code : Type 0 where
 abbrev pub whole : Program → ℕ → Code
 whole P w = record { n = P .atoms; w = w; rules = P .rules; opened = λ a. false; inside = λ b h. true }
 
+abbrev pub codeOf : Program → Code
+codeOf P = whole P (width (P .atoms))
+
+abbrev pub programOf : Code → Program
+programOf G = record { atoms = G .n; rules = G .rules }
+
 abbrev pub full : Code → Code
 full G = record { n = G .n; w = G .w; rules = G .rules; opened = G .opened; inside = λ b h. true }
 
@@ -37,8 +48,8 @@ module _ (G : Code) where
   abbrev pub m : ℕ
   m = length (G .rules)
 
-  abbrev pub sizesOf : Sizes
-  sizesOf = record { n = G .n; m = length (G .rules); w = G .w }
+  abbrev pub codeSizes : Sizes
+  codeSizes = record { n = G .n; m = length (G .rules); w = G .w }
 
   abbrev pub rl : ℕ → Rule
   rl r = ruleAt (G .rules) r
@@ -69,11 +80,14 @@ module _ (G : Code) where
   unfoldable pub pairList : List Pair
   pairList = each m (λ r. pairsWith (rl r .head) (inner r))
 
-  abbrev pub bodyOf : ℕ → ℕ
-  bodyOf k = pairAt pairList k .body
+  abbrev pub pairTotal : ℕ
+  pairTotal = length pairList
 
-  abbrev pub headOf : ℕ → ℕ
-  headOf k = pairAt pairList k .head
+  abbrev pub pairBody : ℕ → ℕ
+  pairBody k = pairAt pairList k .body
+
+  abbrev pub pairHead : ℕ → ℕ
+  pairHead k = pairAt pairList k .head
 
   unfoldable pub before : ℕ → ℕ
   before r = sum (pred r) (λ q. length (inner q))
@@ -85,34 +99,37 @@ module _ (G : Code) where
   its a = rulesOf (G .rules) a
 
   abbrev pub part1 : List Clause
-  part1 = each m (λ r. bodyClauses sizesOf r (rl r))
+  part1 = each m (λ r. bodyClauses codeSizes r (rl r))
 
   abbrev pub part2 : List Clause
-  part2 = each (G .n) (λ a. impliedClauses sizesOf a (its a) ++ cond (G .opened a) [] (supportedClause sizesOf a (its a) ∷ []))
+  part2 = each (G .n) (λ a. impliedClauses codeSizes a (its a) ++ cond (G .opened a) [] (supportedClause codeSizes a (its a) ∷ []))
 
   abbrev pub part3 : List Clause
-  part3 = each (G .n) (zeroClauses sizesOf)
+  part3 = each (G .n) (zeroClauses codeSizes)
 
   abbrev pub part4 : List Clause
-  part4 = each (G .n) (nextClauses sizesOf)
+  part4 = each (G .n) (nextClauses codeSizes)
 
   abbrev pub part5 : List Clause
-  part5 = each (length pairList) (λ k. pairClauses sizesOf k (bodyOf k) (headOf k))
+  part5 = each pairTotal (λ k. pairClauses codeSizes k (pairBody k) (pairHead k))
 
   abbrev pub part6 : List Clause
-  part6 = each m (λ r. foundsClauses sizesOf r (pairNumbers r) ++ lowestClauses sizesOf r (rl r .head) (pairNumbers r))
+  part6 = each m (λ r. foundsClauses codeSizes r (pairNumbers r) ++ lowestClauses codeSizes r (rl r .head) (pairNumbers r))
 
   abbrev pub part7 : List Clause
-  part7 = each (G .n) (λ a. cond (G .opened a) (oneClauses sizesOf a a) (foundedClause sizesOf a (its a) ∷ []))
+  part7 = each (G .n) (λ a. cond (G .opened a) (oneClauses codeSizes a a) (foundedClause codeSizes a (its a) ∷ []))
 
   unfoldable pub clausesOf : List Clause
   clausesOf = joined (part1 ∷ part2 ∷ part3 ∷ part4 ∷ part5 ∷ part6 ∷ part7 ∷ [])
 
-  abbrev pub variablesOf : ℕ
-  variablesOf = varCount sizesOf (length pairList)
+  abbrev pub clauseTotalOf : ℕ
+  clauseTotalOf = length clausesOf
 
-  abbrev pub fillOf : Atoms → List Bool
-  fillOf M = fillWith sizesOf rl inner pairList M (levelOf M)
+  abbrev pub variablesOf : ℕ
+  variablesOf = varCount codeSizes pairTotal
+
+  abbrev pub codeFill : Atoms → List Bool
+  codeFill M = fillWith codeSizes rl inner pairList M (levelOf M)
 
 pub record StableIn (G : Code) (M : Atoms) : Type 0 where
   pub founded : (a : ℕ) → So (M a) → InUnion (reductOf (full G) M) a
