@@ -54,4 +54,4 @@ abbrev pub lineOf : Program → ℕ → List ℕ
 lineOf P j = codeLine (codeOf P) j
 
 abbrev pub runIn : Program → ℕ → ℕ → List (List ℕ)
-runIn P j n = codeRun (codeOf P) j n
+runIn P j n = take (fitting n (drop j (linesOf P))) (drop j (linesOf P))
