@@ -15,13 +15,18 @@ pub struct Case {
     pub answer: Vec<u8>,
     /// Its positive literals alone.
     pub positive: Vec<u8>,
-    /// The answer with the literal of the last rule's s flipped.
-    pub refused: Vec<u8>,
+    /// The answer with the literal of the last rule's s flipped, if there is a rule.
+    pub refused: Option<Vec<u8>>,
 }
 
 pub fn cases() -> Vec<Case> {
     vec![
+        case("no atoms", "(atoms 0)\n".into()),
         case("fact", "(atoms 1)\n(rule 1 () ())\n".into()),
+        case(
+            "two rules",
+            "(atoms 2)\n(rule 1 () ())\n(rule 2 (1) ())\n".into(),
+        ),
         case("chain of 126", chain()),
         case("ring of 14", ring()),
         case("full, mixed", full_program()),
@@ -42,8 +47,10 @@ fn case(name: &'static str, text: String) -> Case {
     let whole = literals(&values);
     let positive = whole.iter().filter(|literal| !literal.starts_with('-'));
     let (answer, positive) = (answer(&whole), self::answer(positive));
-    let last = program.atoms + 2 * program.rules().len() - 1;
-    values[last] ^= 1;
+    let refused = program.rules().last().map(|_| {
+        values[program.atoms + 2 * program.rules().len() - 1] ^= 1;
+        self::answer(&literals(&values))
+    });
     Case {
         name,
         text,
@@ -52,8 +59,20 @@ fn case(name: &'static str, text: String) -> Case {
         clauses,
         answer,
         positive,
-        refused: self::answer(&literals(&values)),
+        refused,
     }
+}
+
+/// A text that its first rule's head refuses (row 4), and one that its atoms line refuses (row 3), with all of its other bytes.
+pub fn refused_at_front(text: &[u8]) -> [(u64, Vec<u8>); 2] {
+    let text = std::str::from_utf8(text).expect("ASCII");
+    let (line, rules) = text.split_once('\n').expect("an atoms line");
+    let rules = rules.strip_prefix("(rule ").expect("a rule");
+    let (head, rest) = rules.split_once(' ').expect("a head");
+    [
+        (4, format!("{line}\n(rule 127 {rest}").into_bytes()),
+        (3, format!("(atoms 127)\n(rule {head} {rest}").into_bytes()),
+    ]
 }
 
 /// Literals as a solver prints them, in lines of at most 78 bytes.

@@ -1,4 +1,4 @@
-//! Two ways to do the same, timed in turns.
+//! Several ways to do the same, timed in turns.
 
 use std::time::{Duration, Instant};
 
@@ -12,13 +12,17 @@ pub struct Times {
     pub median: f64,
 }
 
-/// Samples of the one and of the other, in turns.
-pub fn compare(mut one: impl FnMut(), mut other: impl FnMut()) -> [Times; 2] {
-    let calls = [calls(&mut one), calls(&mut other)];
-    let mut samples = [Vec::new(), Vec::new()];
+/// Samples of each, in turns.
+pub fn compare<const N: usize>(mut ways: [impl FnMut(); N]) -> [Times; N] {
+    let mut calls = [0; N];
+    for (calls, way) in calls.iter_mut().zip(&mut ways) {
+        *calls = enough(way);
+    }
+    let mut samples = [const { Vec::new() }; N];
     for _ in 0..ROUNDS {
-        samples[0].push(sample(&mut one, calls[0]));
-        samples[1].push(sample(&mut other, calls[1]));
+        for way in 0..N {
+            samples[way].push(sample(&mut ways[way], calls[way]));
+        }
     }
     samples.map(|mut samples| {
         samples.sort_by(f64::total_cmp);
@@ -30,7 +34,7 @@ pub fn compare(mut one: impl FnMut(), mut other: impl FnMut()) -> [Times; 2] {
 }
 
 /// How many calls fill a sample.
-fn calls(call: &mut impl FnMut()) -> u32 {
+fn enough(call: &mut impl FnMut()) -> u32 {
     let mut calls = 1;
     while sample(call, calls) * (calls as f64) < SAMPLE.as_nanos() as f64 {
         calls *= 2;

@@ -1,13 +1,16 @@
-//! Every call of the proved library compared with the plain implementation: number, spot, each value and each byte of each buffer, on many
-//! inputs from fixed seeds.
+//! Every call of the proved library, and of the benchmark's tuned implementation, compared with the plain one: number, spot, each value and
+//! each byte of each buffer, on many inputs from fixed seeds.
 
 mod answers;
+mod guarded;
 mod models;
 mod random;
 mod raw;
 mod sides;
 mod tally;
 mod texts;
+#[path = "../../benches/compare/tuned/mod.rs"]
+mod tuned;
 
 use models::{bounds, least};
 use plain::{read_program, Program};

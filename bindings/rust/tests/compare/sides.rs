@@ -1,5 +1,6 @@
-//! The same calls on both sides: the proved library through its safe wrappers, and the plain implementation.
+//! The same calls on three sides: the proved library through its safe wrappers, the plain implementation, and the tuned one.
 
+use crate::tuned;
 use quadrensolo::sys::Reply;
 use quadrensolo::{Model, Refusal};
 
@@ -15,24 +16,28 @@ pub struct Side {
 }
 
 pub const PLAIN: Side = Side {
-    read: |text| plain(plain::read(text).map(two)),
-    line: |text, j, place, buf| {
-        plain(plain::line(text, j, place, buf).map(|length| [length, 0, 0]))
-    },
-    run: |text, j, buf| plain(plain::run(text, j, buf).map(two)),
+    read: |text| pair(plain::read(text).map(two)),
+    line: |text, j, place, buf| pair(plain::line(text, j, place, buf).map(one)),
+    run: |text, j, buf| pair(plain::run(text, j, buf).map(two)),
     check: |text, answer, values, levels| {
-        plain(plain::check(text, answer, values, levels).map(<[usize; 3]>::from))
+        pair(plain::check(text, answer, values, levels).map(Numbers::from))
     },
-    fill_out: |text, set, values, levels| {
-        plain(plain::fill_out(text, set, values, levels).map(two))
+    fill_out: |text, set, values, levels| pair(plain::fill_out(text, set, values, levels).map(two)),
+};
+
+pub const TUNED: Side = Side {
+    read: |text| pair(tuned::read(text).map(two)),
+    line: |text, j, place, buf| pair(tuned::line(text, j, place, buf).map(one)),
+    run: |text, j, buf| pair(tuned::run(text, j, buf).map(two)),
+    check: |text, answer, values, levels| {
+        pair(tuned::check(text, answer, values, levels).map(Numbers::from))
     },
+    fill_out: |text, set, values, levels| pair(tuned::fill_out(text, set, values, levels).map(two)),
 };
 
 pub const SAFE: Side = Side {
     read: |text| safe(quadrensolo::read(text).map(|totals| [totals.variables, totals.clauses, 0])),
-    line: |text, j, place, buf| {
-        safe(quadrensolo::line(text, j, place, buf).map(|length| [length, 0, 0]))
-    },
+    line: |text, j, place, buf| safe(quadrensolo::line(text, j, place, buf).map(one)),
     run: |text, j, buf| safe(quadrensolo::run(text, j, buf).map(|run| [run.lines, run.bytes, 0])),
     check: |text, answer, values, levels| {
         safe(quadrensolo::check(text, answer, values, levels).map(model))
@@ -45,6 +50,10 @@ pub const SAFE: Side = Side {
 /// The numbers a, b and c of a reply.
 type Numbers = [usize; 3];
 
+fn one(a: usize) -> Numbers {
+    [a, 0, 0]
+}
+
 fn two((a, b): (usize, usize)) -> Numbers {
     [a, b, 0]
 }
@@ -53,7 +62,7 @@ fn model(model: Model) -> Numbers {
     [model.true_atoms, model.highest_level, model.assumed]
 }
 
-fn plain(said: Result<Numbers, plain::Refusal>) -> Reply {
+fn pair(said: Result<Numbers, (u32, usize)>) -> Reply {
     match said {
         Ok(numbers) => accepted(numbers),
         Err((number, spot)) => refused(number as u64, spot as u64),

@@ -1,5 +1,6 @@
 //! Compares the sides call by call and counts the replies.
 
+use crate::guarded::GUARDED;
 use crate::random::Random;
 use crate::raw::RAW;
 use crate::sides::{Side, PLAIN, SAFE};
@@ -38,7 +39,11 @@ impl Tally {
         let before = lengths.map(|length| random.bytes(length));
         let mut expected = before.clone();
         let plain = reply(&PLAIN, &mut expected);
-        for (name, side) in [("the C interface", RAW), ("the wrapper", SAFE)] {
+        for (name, side) in [
+            ("the C interface", RAW),
+            ("the wrapper", SAFE),
+            ("the tuned implementation", GUARDED),
+        ] {
             let mut buffers = before.clone();
             let said = reply(&side, &mut buffers);
             if (said, &buffers) != (plain, &expected) {
