@@ -1,8 +1,12 @@
 //! Solver answers.
 
 use super::{load, Refusal};
+use std::arch::x86_64::{_mm_cmpeq_epi8, _mm_loadu_si128, _mm_movemask_epi8, _mm_set1_epi8};
 
 const MAX_ANSWER: usize = 65_536;
+
+/// Bytes that are looked at together.
+const BLOCK: usize = 64;
 
 /// In the values, for a variable that the answer has not named so far. Its lowest bit is that of false.
 pub const MISSING: u8 = 2;
@@ -120,9 +124,60 @@ impl Reader<'_> {
         }
     }
 
-    /// Literals with a space before each, as long as they are short, of the program, and new.
+    /// Literals with a space before each, as long as they are short, of the program, and new. Line ends that a v line follows at once are
+    /// passed too.
     #[inline(always)]
     fn quick(&mut self) {
+        // SAFETY: there are so many bytes from the first one of a block on.
+        while self.at + BLOCK <= self.answer.len() && unsafe { self.block() } {}
+        self.short_literals();
+    }
+
+    /// The literals that end in a block of bytes, which starts with the byte before the first one; whether all of them were taken.
+    #[inline(always)]
+    unsafe fn block(&mut self) -> bool {
+        let block = self.answer.as_ptr().add(self.at);
+        let [spaces, ends, vs] = masks(block);
+        // A line end with "v " behind it; of the last two it is not known.
+        let breaks = ends & vs >> 1 & spaces >> 2;
+        if (spaces | breaks) & 1 == 0 {
+            return false;
+        }
+        let known = (1 << (BLOCK - 3)) - 1;
+        let last = ends & !breaks & !1 & known;
+        // Each literal starts behind a space and ends before a space or a line end.
+        let mut starts = spaces << 1;
+        let mut stops = (spaces & !(breaks << 2) | ends) & !1 & known & (last ^ last.wrapping_sub(1));
+        let whole = last == 0 && stops != 0;
+        let mut at = 0;
+        while stops != 0 {
+            let (start, stop) = (starts.trailing_zeros(), stops.trailing_zeros());
+            starts &= starts - 1;
+            stops &= stops - 1;
+            let Some((variable, minus)) = short_literal(block, start, stop) else {
+                self.at += start as usize - 1;
+                return false;
+            };
+            if variable - 1 >= self.values.len() {
+                self.at += start as usize - 1;
+                return false;
+            }
+            let value = self.values.get_unchecked_mut(variable - 1);
+            if *value != MISSING {
+                self.at += start as usize - 1;
+                return false;
+            }
+            *value = 1 - minus;
+            self.given += 1;
+            at = stop as usize;
+        }
+        self.at += at;
+        whole
+    }
+
+    /// The same where few bytes are left.
+    #[inline(always)]
+    fn short_literals(&mut self) {
         let (answer, count) = (self.answer.as_ptr(), self.values.len());
         let mut at = self.at;
         // SAFETY: eight bytes are read where there are so many, and the variable is one of the values.
@@ -169,6 +224,41 @@ impl Reader<'_> {
         }
         Some(())
     }
+}
+
+/// Which bytes of a block are spaces, line ends and v: a bit for each, lowest first.
+#[inline(always)]
+unsafe fn masks(block: *const u8) -> [u64; 3] {
+    [b' ', b'\n', b'v'].map(|byte| {
+        let byte = _mm_set1_epi8(byte as i8);
+        let part = |i: usize| {
+            let bytes = _mm_loadu_si128(block.add(16 * i).cast());
+            _mm_movemask_epi8(_mm_cmpeq_epi8(bytes, byte)) as u64
+        };
+        part(0) | part(1) << 16 | part(2) << 32 | part(3) << 48
+    })
+}
+
+/// The variable of the literal in these bytes of a block, and 1 if it is negative. None if it is 0, has more than four digits or is no
+/// literal. SAFETY: eight bytes can be read before the stop.
+#[inline(always)]
+unsafe fn short_literal(block: *const u8, start: u32, stop: u32) -> Option<(usize, u8)> {
+    let minus = (*block.add(start as usize) == b'-') as u32;
+    let count = stop.wrapping_sub(start).wrapping_sub(minus);
+    if count.wrapping_sub(1) > 3 {
+        return None;
+    }
+    // The four bytes before the stop, as digits; those before the first are zeros.
+    let from = 32 - 8 * count;
+    let bytes = (load(block.add(stop as usize).sub(8)) >> 32) as u32;
+    let digits = (bytes ^ 0x3030_3030) >> from << from;
+    let other = (digits.wrapping_add(0x7676_7676) | digits) & 0x8080_8080;
+    if other != 0 || (digits >> from) as u8 == 0 {
+        return None;
+    }
+    let pairs = (digits & 0x00ff_00ff) * 10 + (digits >> 8 & 0x00ff_00ff);
+    let variable = pairs.wrapping_mul(100 << 16 | 1) >> 16;
+    Some((variable as usize, minus as u8))
 }
 
 /// A number of up to four digits, lowest byte first, and how many; 0 if it is no such number.
