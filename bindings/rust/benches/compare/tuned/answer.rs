@@ -1,5 +1,6 @@
 //! Solver answers.
 
+use super::numerals::numeral;
 use super::{load, Refusal};
 use std::arch::x86_64::{_mm_cmpeq_epi8, _mm_loadu_si128, _mm_movemask_epi8, _mm_set1_epi8};
 
@@ -7,6 +8,12 @@ const MAX_ANSWER: usize = 65_536;
 
 /// Bytes that are looked at together.
 const BLOCK: usize = 64;
+
+/// The largest number whose numeral has so many bytes.
+const LARGEST: [usize; 6] = [0, 0, 9, 99, 999, 9_999];
+
+/// A line end and the start of a v line.
+const BREAK: u32 = u32::from_le_bytes(*b"\nv \0");
 
 /// In the values, for a variable that the answer has not named so far. Its lowest bit is that of false.
 pub const MISSING: u8 = 2;
@@ -20,6 +27,8 @@ struct Reader<'a> {
     values: &'a mut [u8],
     given: usize,
     met: Option<Refusal>,
+    /// Whether those are the first variables, in order.
+    in_order: bool,
 }
 
 /// Enters an answer's literals into the values, which are all missing before: how many, and the first of rows 13 and 14. Rows 10 to 12
@@ -35,6 +44,7 @@ pub fn read_answer(answer: &[u8], values: &mut [u8]) -> Result<(usize, Option<Re
         values,
         given: 0,
         met: None,
+        in_order: true,
     };
     match reader.form() {
         Some(true) => Ok((reader.given, reader.met)),
@@ -128,16 +138,68 @@ impl Reader<'_> {
     /// passed too.
     #[inline(always)]
     fn quick(&mut self) {
+        if self.in_order {
+            // SAFETY: each variable up to V has a numeral.
+            unsafe { self.next_in_order() };
+        }
         // SAFETY: there are so many bytes from the first one of a block on.
         while self.at + BLOCK <= self.answer.len() && unsafe { self.block() } {}
         self.short_literals();
+    }
+
+    /// Literals of the variables that come next, each compared with its text.
+    #[inline(always)]
+    unsafe fn next_in_order(&mut self) {
+        let answer = self.answer.as_ptr();
+        let (mut at, mut given) = (self.at, self.given);
+        // At a space, sixteen bytes hold a literal, a line end and the start of a line.
+        let end = self.answer.len().saturating_sub(15);
+        if at >= end || *answer.add(at) != b' ' {
+            return;
+        }
+        while given < self.values.len() {
+            let size = numeral(given + 1).size();
+            let digits = (1 << (8 * size - 8)) - 1;
+            let space = 0xff << (8 * size - 8);
+            let most = self.values.len().min(LARGEST[size]);
+            let mut differs = 0;
+            while given < most && at < end {
+                let word = load(answer.add(at + 1));
+                let minus = (word as u8 == b'-') as usize;
+                differs = ((word >> (8 * minus)) ^ numeral(given + 1).yes()) & (digits | space);
+                if differs & digits != 0 {
+                    break;
+                }
+                let stop = at + minus + size;
+                if differs != 0 {
+                    // another byte than a space
+                    let after = load(answer.add(stop)) as u32 & 0xff_ffff;
+                    if after as u8 != b'\n' {
+                        break;
+                    }
+                    differs = (after != BREAK) as u64;
+                    at = stop + if after == BREAK { 2 } else { 0 };
+                } else {
+                    at = stop;
+                }
+                *self.values.get_unchecked_mut(given) = 1 - minus as u8;
+                given += 1;
+                if differs != 0 {
+                    break;
+                }
+            }
+            if differs != 0 || at >= end {
+                break;
+            }
+        }
+        (self.at, self.given) = (at, given);
     }
 
     /// The literals that end in a block of bytes, which starts with the byte before the first one; whether all of them were taken.
     #[inline(always)]
     unsafe fn block(&mut self) -> bool {
         let block = self.answer.as_ptr().add(self.at);
-        let [spaces, ends, vs] = masks(block);
+        let (spaces, ends, vs) = (mask(block, b' '), mask(block, b'\n'), mask(block, b'v'));
         // A line end with "v " behind it; of the last two it is not known.
         let breaks = ends & vs >> 1 & spaces >> 2;
         if (spaces | breaks) & 1 == 0 {
@@ -147,7 +209,8 @@ impl Reader<'_> {
         let last = ends & !breaks & !1 & known;
         // Each literal starts behind a space and ends before a space or a line end.
         let mut starts = spaces << 1;
-        let mut stops = (spaces & !(breaks << 2) | ends) & !1 & known & (last ^ last.wrapping_sub(1));
+        let mut stops =
+            (spaces & !(breaks << 2) | ends) & !1 & known & (last ^ last.wrapping_sub(1));
         let whole = last == 0 && stops != 0;
         let mut at = 0;
         while stops != 0 {
@@ -169,6 +232,7 @@ impl Reader<'_> {
             }
             *value = 1 - minus;
             self.given += 1;
+            self.in_order = false;
             at = stop as usize;
         }
         self.at += at;
@@ -195,6 +259,7 @@ impl Reader<'_> {
                 }
                 *value = 1 - minus as u8;
                 self.given += 1;
+                self.in_order = false;
                 at += 1 + minus + length;
             }
         }
@@ -218,6 +283,7 @@ impl Reader<'_> {
             Some(value) if *value == MISSING => {
                 *value = positive as u8;
                 self.given += 1;
+                self.in_order = false;
             }
             Some(_) => _ = self.met.get_or_insert((14, spot)),
             None => _ = self.met.get_or_insert((13, spot)),
@@ -226,17 +292,15 @@ impl Reader<'_> {
     }
 }
 
-/// Which bytes of a block are spaces, line ends and v: a bit for each, lowest first.
+/// Which bytes of a block are this one: a bit for each, lowest first.
 #[inline(always)]
-unsafe fn masks(block: *const u8) -> [u64; 3] {
-    [b' ', b'\n', b'v'].map(|byte| {
-        let byte = _mm_set1_epi8(byte as i8);
-        let part = |i: usize| {
-            let bytes = _mm_loadu_si128(block.add(16 * i).cast());
-            _mm_movemask_epi8(_mm_cmpeq_epi8(bytes, byte)) as u64
-        };
-        part(0) | part(1) << 16 | part(2) << 32 | part(3) << 48
-    })
+unsafe fn mask(block: *const u8, byte: u8) -> u64 {
+    let byte = _mm_set1_epi8(byte as i8);
+    let part = |i: usize| {
+        let bytes = _mm_loadu_si128(block.add(16 * i).cast());
+        _mm_movemask_epi8(_mm_cmpeq_epi8(bytes, byte)) as u64
+    };
+    part(0) | part(1) << 16 | part(2) << 32 | part(3) << 48
 }
 
 /// The variable of the literal in these bytes of a block, and 1 if it is negative. None if it is 0, has more than four digits or is no
