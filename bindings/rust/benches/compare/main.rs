@@ -93,14 +93,17 @@ fn rows(case: &Case, words: &[String]) {
         file.len(),
         &|side, buffers| (side.run)(text, 0, &mut buffers.lines),
     );
-    for (call, j) in [("line C / 2", case.clauses / 2), ("line C", case.clauses)] {
+    let middle = (case.clauses > 0).then_some(case.clauses / 2);
+    for (call, j) in [("line C / 2", middle), ("line C", Some(case.clauses))] {
+        let Some(j) = j else { continue };
         row(call, 0, &|side, buffers| {
             (side.line)(text, j, 0, &mut buffers.lines)
         });
     }
+    let positive = (case.positive != case.answer).then_some(&case.positive);
     for (call, answer) in [
         ("check, accepted", Some(&case.answer)),
-        ("check, negative ones left out", Some(&case.positive)),
+        ("check, negative ones left out", positive),
         ("check, refused late", case.refused.as_ref()),
     ] {
         let Some(answer) = answer else { continue };

@@ -6,33 +6,40 @@ use super::text::Program;
 use super::{store, Sizes, MAX_ATOMS, MAX_RULES};
 use std::mem::MaybeUninit;
 
-/// A program with the rules of each head linked in text order. Rules count from 1 in the links, and 0 ends them.
-pub struct Items<'a> {
-    program: &'a Program,
-    sizes: Sizes,
+/// The rules of each head in text order. They count from 1 here, and 0 ends them.
+pub struct Links {
     first: [u16; MAX_ATOMS + 1],
     next: [MaybeUninit<u16>; MAX_RULES + 1],
 }
 
-impl<'a> Items<'a> {
-    /// SAFETY: the program was read with these sizes.
+impl Links {
     #[inline(always)]
-    pub unsafe fn new(program: &'a Program, sizes: Sizes) -> Self {
-        let mut first = [0; MAX_ATOMS + 1];
-        let mut next = [MaybeUninit::uninit(); MAX_RULES + 1];
-        for rule in (0..sizes.m).rev() {
-            let place: &mut u16 = first.get_unchecked_mut(program.head(rule));
-            next.get_unchecked_mut(rule + 1).write(*place);
-            *place = rule as u16 + 1;
-        }
-        Items {
-            program,
-            sizes,
-            first,
-            next,
+    pub fn none() -> Self {
+        Links {
+            first: [0; MAX_ATOMS + 1],
+            next: [MaybeUninit::uninit(); MAX_RULES + 1],
         }
     }
 
+    /// SAFETY: the program was read with these sizes.
+    #[inline(always)]
+    pub unsafe fn set(&mut self, program: &Program, sizes: &Sizes) {
+        for rule in (0..sizes.m).rev() {
+            let first = self.first.get_unchecked_mut(program.head(rule));
+            self.next.get_unchecked_mut(rule + 1).write(*first);
+            *first = rule as u16 + 1;
+        }
+    }
+}
+
+/// A program with its links.
+pub struct Items<'a> {
+    pub program: &'a Program,
+    pub sizes: Sizes,
+    pub links: &'a Links,
+}
+
+impl Items<'_> {
     /// No item of the group has more bytes.
     #[inline(always)]
     pub fn bound(&self, group: usize) -> usize {
@@ -111,10 +118,10 @@ impl<'a> Items<'a> {
 
     #[inline(always)]
     unsafe fn rules(&self, atom: usize, mut each: impl FnMut(usize)) {
-        let mut link = *self.first.get_unchecked(atom) as usize;
+        let mut link = *self.links.first.get_unchecked(atom) as usize;
         while link > 0 {
             each(link - 1);
-            link = self.next.get_unchecked(link).assume_init() as usize;
+            link = self.links.next.get_unchecked(link).assume_init() as usize;
         }
     }
 

@@ -1,7 +1,7 @@
 //! Lines of the clause file: one, or as many as fit.
 
 use super::clauses::{before, clauses_of, items, literals, place_of, Place};
-use super::items::Items;
+use super::items::{Items, Links};
 use super::numerals::{numeral, Pen};
 use super::text::{read_program, Program};
 use super::{Refusal, Sizes};
@@ -51,11 +51,17 @@ pub fn run(text: &[u8], j: usize, buf: &mut [u8]) -> Result<(usize, usize), Refu
         return Err((9, clauses));
     }
     let mut scratch: Scratch<MAX_ITEM> = [MaybeUninit::uninit(); MAX_ITEM];
+    let mut links = Links::none();
     let buf = buf.as_mut_ptr_range();
     // SAFETY: the program was read with these sizes, and j is at most C.
     unsafe {
+        links.set(&program, &sizes);
         let mut run = Run {
-            items: &Items::new(&program, sizes),
+            items: Items {
+                program: &program,
+                sizes,
+                links: &links,
+            },
             program: &program,
             sizes,
             start: buf.start,
@@ -69,7 +75,7 @@ pub fn run(text: &[u8], j: usize, buf: &mut [u8]) -> Result<(usize, usize), Refu
 
 /// The lines that are written, up to `pen`.
 struct Run<'a> {
-    items: &'a Items<'a>,
+    items: Items<'a>,
     program: &'a Program,
     sizes: Sizes,
     start: *mut u8,
