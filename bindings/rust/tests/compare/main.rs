@@ -3,6 +3,7 @@
 
 mod answers;
 mod guarded;
+mod levels;
 mod models;
 mod random;
 mod raw;
@@ -82,7 +83,10 @@ fn line() {
 fn run() {
     let mut tally = Tally::new("run");
     cases(&mut tally, 6_000, |random, tally| {
-        let sound = texts::sound(random);
+        let sound = match random.below(20) {
+            0 => texts::wide(random),
+            _ => texts::sound(random),
+        };
         let text = maybe_damaged(random, &sound);
         let clauses = plain::read(&text).map_or(0, |(_, clauses)| clauses);
         let file = plain::write_all(&text).unwrap_or_default();
@@ -120,14 +124,25 @@ fn check() {
     cases(&mut tally, 6_000, |random, tally| {
         let sound = texts::sound(random);
         let (variables, atoms, set) = proposed(random, &sound);
-        let mut values = vec![0; variables];
-        if plain::fill_out(&sound, &set, &mut values, &mut vec![0; atoms]).is_err() {
+        let (mut values, mut levels) = (vec![0; variables], vec![0; atoms]);
+        if plain::fill_out(&sound, &set, &mut values, &mut levels).is_err() {
             // no stable model found
             values = random
                 .bytes(variables)
                 .iter()
                 .map(|byte| byte & 1)
                 .collect();
+        } else if atoms > 0 && random.one_in(4) {
+            // another level, and all that goes with it
+            let level = &mut levels[random.below(atoms)];
+            *level = match random.below(2) {
+                0 => *level + 1,
+                _ => random.below(atoms + 1) as u8,
+            };
+            let mut program = Program::EMPTY;
+            read_program(&sound, &mut program).expect("a sound text");
+            values = levels::values(&program, &set, &levels);
+            assert_eq!(values.len(), variables);
         }
         for _ in 0..6 {
             let answer = answers::answer(random, &values);

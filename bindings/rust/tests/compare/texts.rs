@@ -86,6 +86,15 @@ pub fn large(random: &mut Random) -> Vec<u8> {
     text(random, atoms, rules, bodies, positive)
 }
 
+/// An accepted text of a few rules with long bodies.
+pub fn wide(random: &mut Random) -> Vec<u8> {
+    let (atoms, rules) = (1 + random.below(126), 1 + random.below(4));
+    let positive = random.one_in(2);
+    let places = if positive { atoms } else { 2 * atoms } * rules;
+    let bodies = random.below(places.min(500) * 3 / 4 + 1);
+    text(random, atoms, rules, bodies, positive)
+}
+
 /// A text at a limit or just past it.
 pub fn limit(random: &mut Random) -> Vec<u8> {
     let positive = random.one_in(2);

@@ -72,7 +72,9 @@ impl Items<'_> {
         macro_rules! all {
             ($put:expr) => {
                 while place.item < count && pen.0 <= limit {
+                    let start = pen.0;
                     *pen = $put(self, place.item, *pen);
+                    debug_assert!(pen.0 <= start.add(self.bound(place.group)));
                     place.item += 1;
                 }
             };

@@ -138,6 +138,7 @@ impl Run<'_> {
         let count = clauses_of(self.program, &self.sizes, place.group, place.item);
         while place.number < count {
             let length = clause(self.program, &self.sizes, *place, self.scratch);
+            debug_assert!(length <= self.items.longest());
             if !self.copy(length) {
                 return Some(length);
             }
