@@ -10,6 +10,7 @@ mod clauses;
 mod fill;
 mod items;
 mod lines;
+mod literals;
 mod numerals;
 mod refused;
 mod text;

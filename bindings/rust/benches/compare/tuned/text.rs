@@ -10,6 +10,8 @@ const MAX_BYTES: usize = 65_536;
 const RULE: u64 = u64::from_le_bytes(*b"(rule \0\0");
 /// "(atoms " in a word.
 const ATOMS: u64 = u64::from_le_bytes(*b"(atoms \0");
+/// The end of a rule line without negated atoms.
+const NONE_NEGATED: u64 = u64::from_le_bytes(*b" ())\n\0\0\0");
 /// The shortest rule line.
 const SHORTEST: usize = b"(rule 1 () ())\n".len();
 
@@ -184,20 +186,27 @@ unsafe fn rule_line<const KEEP: bool>(
     let Some((count, from)) = pairs else {
         return 0;
     };
-    if *from != b' ' || *from.add(1) != b'(' {
-        return 0;
-    }
-    let rest = list(from.add(2), n, left - count, |i, atom| {
-        if KEEP {
-            program.negated.get_unchecked_mut(negated + i).write(atom);
-        }
-    });
-    let Some((negated_count, from)) = rest else {
-        return 0;
-    };
-    if *from != b')' || *from.add(1) != b'\n' {
-        return 0;
-    }
+    let end = text.as_ptr().add(text.len());
+    let (negated_count, from) =
+        if end.offset_from(from) >= 8 && super::load(from) & 0xff_ffff_ffff == NONE_NEGATED {
+            (0, from.add(5))
+        } else {
+            if *from != b' ' || *from.add(1) != b'(' {
+                return 0;
+            }
+            let rest = list(from.add(2), n, left - count, |i, atom| {
+                if KEEP {
+                    program.negated.get_unchecked_mut(negated + i).write(atom);
+                }
+            });
+            let Some((count, from)) = rest else {
+                return 0;
+            };
+            if *from != b')' || *from.add(1) != b'\n' {
+                return 0;
+            }
+            (count, from.add(2))
+        };
     if KEEP {
         program.heads.get_unchecked_mut(m).write(head as u8);
         program.pair_starts.get_unchecked_mut(m).write(k as u16);
@@ -208,7 +217,7 @@ unsafe fn rule_line<const KEEP: bool>(
     sizes.k = k + count;
     sizes.negated = negated + negated_count;
     sizes.empty += (count == 0) as usize;
-    from.add(2).offset_from(text.as_ptr()) as usize
+    from.offset_from(text.as_ptr()) as usize
 }
 
 /// How many ascending atoms up to n a list has after its opening bracket, and where its closing one ends. None if it is no such list or
