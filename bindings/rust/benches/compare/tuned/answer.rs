@@ -77,11 +77,9 @@ impl Reader<'_> {
     #[inline(always)]
     fn comments(&mut self) -> Option<()> {
         while self.next() == Some(b'c') {
-            let length = self.answer[self.at..]
-                .iter()
-                .position(|&byte| byte == b'\n');
-            self.at = length.map_or(self.answer.len(), |length| self.at + length + 1);
-            length?;
+            let end = self.line_end();
+            self.at = end.map_or(self.answer.len(), |end| end + 1);
+            end?;
         }
         Some(())
     }

@@ -8,9 +8,9 @@ use super::{Refusal, Sizes};
 use std::mem::MaybeUninit;
 use std::ptr::copy_nonoverlapping;
 
-/// No line is longer, and no item but those of rules and atoms.
+/// No line is longer.
 const MAX_LINE: usize = 3_008;
-/// No item is longer: an atom that heads 500 rules.
+/// No item's bound is larger, with eight bytes more.
 const MAX_ITEM: usize = 14_000;
 
 type Scratch<const N: usize> = [MaybeUninit<u8>; N];
@@ -62,8 +62,6 @@ pub fn run(text: &[u8], j: usize, buf: &mut [u8]) -> Result<(usize, usize), Refu
                 sizes,
                 links: &links,
             },
-            program: &program,
-            sizes,
             start: buf.start,
             pen: Pen(buf.start),
             end: buf.end,
@@ -76,8 +74,6 @@ pub fn run(text: &[u8], j: usize, buf: &mut [u8]) -> Result<(usize, usize), Refu
 /// The lines that are written, up to `pen`.
 struct Run<'a> {
     items: Items<'a>,
-    program: &'a Program,
-    sizes: Sizes,
     start: *mut u8,
     pen: Pen,
     end: *mut u8,
@@ -93,12 +89,12 @@ impl Run<'_> {
             number: 0,
         };
         if j == 0 {
-            let length = header(&self.sizes, self.scratch);
+            let length = header(&self.items.sizes, self.scratch);
             if !self.copy(length) {
                 return Err((8, length));
             }
         } else {
-            place = place_of(self.program, &self.sizes, j);
+            place = place_of(self.items.program, &self.items.sizes, j);
             if place.number > 0 {
                 // the rest of an item
                 if let Some(length) = self.line_by_line(&mut place) {
@@ -107,7 +103,7 @@ impl Run<'_> {
             }
         }
         while place.group < 7 {
-            let count = items(&self.sizes, place.group);
+            let count = items(&self.items.sizes, place.group);
             // The last line of all is written exactly.
             let quick = count - (place.group == 6 && count > 0) as usize;
             let needed = self.items.bound(place.group) + self.items.longest() + 8;
@@ -135,9 +131,14 @@ impl Run<'_> {
     /// The rest of an item, line by line; the length of the first one that does not fit.
     #[cold]
     unsafe fn line_by_line(&mut self, place: &mut Place) -> Option<usize> {
-        let count = clauses_of(self.program, &self.sizes, place.group, place.item);
+        let count = clauses_of(
+            self.items.program,
+            &self.items.sizes,
+            place.group,
+            place.item,
+        );
         while place.number < count {
-            let length = clause(self.program, &self.sizes, *place, self.scratch);
+            let length = clause(self.items.program, &self.items.sizes, *place, self.scratch);
             debug_assert!(length <= self.items.longest());
             if !self.copy(length) {
                 return Some(length);
@@ -157,7 +158,13 @@ impl Run<'_> {
         place: Place,
         length: usize,
     ) -> Result<(usize, usize), Refusal> {
-        let next = before(self.program, &self.sizes, place.group, place.item) + place.number + 1;
+        let next = before(
+            self.items.program,
+            &self.items.sizes,
+            place.group,
+            place.item,
+        ) + place.number
+            + 1;
         match next - j {
             0 => Err((8, length)),
             count => Ok((count, self.written())),

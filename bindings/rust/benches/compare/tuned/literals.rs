@@ -1,4 +1,5 @@
-//! Literals of answers, quickly: compared with the texts of the variables that come next, found in blocks of 64 bytes, or one by one.
+//! Literals of answers, quickly: compared with the texts of the variables that come next, found in blocks of 64 bytes, or one by one; and
+//! the ends of comments.
 
 use super::answer::{Reader, MISSING};
 use super::load;
@@ -142,6 +143,22 @@ impl Reader<'_> {
             }
         }
         self.at = at;
+    }
+
+    /// Where the next byte 10 is.
+    #[inline(always)]
+    pub fn line_end(&self) -> Option<usize> {
+        let mut at = self.at;
+        while at + BLOCK <= self.answer.len() {
+            // SAFETY: there are so many bytes.
+            let ends = unsafe { mask(self.answer.as_ptr().add(at), b'\n') };
+            if ends != 0 {
+                return Some(at + ends.trailing_zeros() as usize);
+            }
+            at += BLOCK;
+        }
+        let length = self.answer[at..].iter().position(|&byte| byte == b'\n');
+        length.map(|length| at + length)
     }
 }
 

@@ -145,7 +145,7 @@ fn atoms_line(text: &[u8]) -> Option<(usize, usize)> {
     while let Some(next) = digit(*text.get(at)?) {
         n = 10 * n + next;
         at += 1;
-        if n > MAX_ATOMS || n < 10 {
+        if !(10..=MAX_ATOMS).contains(&n) {
             return None;
         }
     }
