@@ -1,7 +1,7 @@
 //! Single clauses by their numbers.
 
 use super::text::Program;
-use super::Sizes;
+use super::{mask, Sizes, BLOCK};
 
 /// A clause: its group from 0, its item in the group from 0 (a rule, an atom or a pair), its number in the item from 0.
 #[derive(Clone, Copy)]
@@ -29,7 +29,11 @@ pub unsafe fn clauses_of(program: &Program, sizes: &Sizes, group: usize, item: u
     let negated = |rule| program.negated_start(rule + 1) - program.negated_start(rule);
     match group {
         0 => pairs(item) + negated(item) + 1,
-        1 => next_rules(program, sizes, item + 1).count() + 1,
+        1 => {
+            let mut count = 1;
+            rules_of(program, sizes, item + 1, |_| count += 1);
+            count
+        }
         2 => w,
         3 => w * (w + 1),
         4 => 12 * w - 6,
@@ -116,14 +120,23 @@ pub unsafe fn before(program: &Program, sizes: &Sizes, group: usize, item: usize
     groups + within
 }
 
-/// The rules with this head, in text order.
+/// Hands out the rules with this head, in text order.
 #[inline(always)]
-unsafe fn next_rules<'a>(
-    program: &'a Program,
-    sizes: &Sizes,
-    head: usize,
-) -> impl Iterator<Item = usize> + 'a {
-    (0..sizes.m).filter(move |&rule| program.head(rule) == head)
+unsafe fn rules_of(program: &Program, sizes: &Sizes, head: usize, mut take: impl FnMut(usize)) {
+    let mut rule = 0;
+    while rule + BLOCK <= sizes.m {
+        let mut found = mask(program.heads(rule), head as u8);
+        while found != 0 {
+            take(rule + found.trailing_zeros() as usize);
+            found &= found - 1;
+        }
+        rule += BLOCK;
+    }
+    for rule in rule..sizes.m {
+        if program.head(rule) == head {
+            take(rule);
+        }
+    }
 }
 
 /// Hands out the literals of a clause.
@@ -142,13 +155,17 @@ pub unsafe fn literals(
     match group {
         0 => body(program, sizes, item, number, take),
         1 => {
-            let (atom, t) = (item + 1, |rule| sizes.t(rule));
-            let mut rules = next_rules(program, sizes, atom);
-            let short = rules.nth(number);
+            let (atom, mut short, mut count) = (item + 1, None, 0);
+            rules_of(program, sizes, atom, |rule| {
+                if count == number {
+                    short = Some(rule);
+                }
+                count += 1;
+            });
             take(atom, short.is_some());
             match short {
-                Some(rule) => take(t(rule), false),
-                None => next_rules(program, sizes, atom).for_each(|rule| take(t(rule), true)),
+                Some(rule) => take(sizes.t(rule), false),
+                None => rules_of(program, sizes, atom, |rule| take(sizes.t(rule), true)),
             }
         }
         2 => {
@@ -167,8 +184,7 @@ pub unsafe fn literals(
         5 => founding(program, sizes, item, number, take),
         _ => {
             take(item + 1, false);
-            let rules = next_rules(program, sizes, item + 1);
-            rules.for_each(|rule| take(sizes.s(rule), true));
+            rules_of(program, sizes, item + 1, |rule| take(sizes.s(rule), true));
         }
     }
 }

@@ -2,12 +2,8 @@
 //! the ends of comments.
 
 use super::answer::{Reader, MISSING};
-use super::load;
 use super::numerals::numeral;
-use std::arch::x86_64::{_mm_cmpeq_epi8, _mm_loadu_si128, _mm_movemask_epi8, _mm_set1_epi8};
-
-/// Bytes that are looked at together.
-const BLOCK: usize = 64;
+use super::{load, mask, BLOCK};
 
 /// The largest number whose numeral has so many bytes.
 const LARGEST: [usize; 6] = [0, 0, 9, 99, 999, 9_999];
@@ -160,17 +156,6 @@ impl Reader<'_> {
         let length = self.answer[at..].iter().position(|&byte| byte == b'\n');
         length.map(|length| at + length)
     }
-}
-
-/// Which bytes of a block are this one: a bit for each, lowest first.
-#[inline(always)]
-unsafe fn mask(block: *const u8, byte: u8) -> u64 {
-    let byte = _mm_set1_epi8(byte as i8);
-    let part = |i: usize| {
-        let bytes = _mm_loadu_si128(block.add(16 * i).cast());
-        _mm_movemask_epi8(_mm_cmpeq_epi8(bytes, byte)) as u64
-    };
-    part(0) | part(1) << 16 | part(2) << 32 | part(3) << 48
 }
 
 /// The variable of the literal in these bytes of a block, and 1 if it is negative. None if it is 0, has more than four digits or is no

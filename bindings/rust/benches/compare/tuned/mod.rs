@@ -16,6 +16,8 @@ mod refused;
 mod text;
 mod truth;
 
+use std::arch::x86_64::{_mm_cmpeq_epi8, _mm_loadu_si128, _mm_movemask_epi8, _mm_set1_epi8};
+
 pub use check::check;
 pub use fill::fill_out;
 pub use lines::{line, run};
@@ -134,4 +136,19 @@ unsafe fn load(from: *const u8) -> u64 {
 #[inline(always)]
 unsafe fn store(to: *mut u8, word: u64) {
     to.cast::<u64>().write_unaligned(word.to_le());
+}
+
+/// Bytes that are looked at together.
+const BLOCK: usize = 64;
+
+/// Which bytes of a block are this one: a bit for each, lowest first.
+/// SAFETY: so many bytes can be read from there.
+#[inline(always)]
+unsafe fn mask(block: *const u8, byte: u8) -> u64 {
+    let byte = _mm_set1_epi8(byte as i8);
+    let part = |i: usize| {
+        let bytes = _mm_loadu_si128(block.add(16 * i).cast());
+        _mm_movemask_epi8(_mm_cmpeq_epi8(bytes, byte)) as u64
+    };
+    part(0) | part(1) << 16 | part(2) << 32 | part(3) << 48
 }

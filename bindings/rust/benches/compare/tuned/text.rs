@@ -43,6 +43,12 @@ impl Program {
         self.heads.get_unchecked(rule).assume_init() as usize
     }
 
+    /// The heads from a rule on.
+    #[inline(always)]
+    pub unsafe fn heads(&self, rule: usize) -> *const u8 {
+        self.heads.as_ptr().add(rule).cast()
+    }
+
     /// First pair of a rule; of rule m, K.
     #[inline(always)]
     pub unsafe fn pair_start(&self, rule: usize) -> usize {
