@@ -19,8 +19,8 @@ ghost use Rattle.program.specs.Arrays.{decoded};
 ghost use Rattle.reader.specs.declared.ReadVerdict.the-variants.{Accepted};
 ghost use Rattle.clause_tables.specs.Tables.{Stored, codeIn, Ready};
 ghost use Rattle.call_check_rows.specs.declared.CheckVerdict.the-variants.{Refused};
-ghost use Rattle.call_results.specs.Results.{programRead};
-ghost use Rattle.call_check_rows.specs.Check.{CheckGives, checkResult, callResult, checkAnswer, checkAssignment, checkLevels};
+ghost use Rattle.call_results.specs.Results.{programRead, called};
+ghost use Rattle.call_check_rows.specs.Check.{CheckGives, checkResult, callResult, checkCall};
 
 // Rows 8 and 10 to 16. The answer has `total` bytes; of one that is not overlong, `answer` is all. Its values are read into an
 // array of the call's own, of the largest V, since refusal 11 writes nothing.
@@ -130,9 +130,8 @@ pub fn check_read(
 // Whether the answer shows a stable model of the program: how many atoms are true, the highest level, and how many variables were left out and read as
 // false; the assignment and the levels are written. Refusals 13, 14 and 16 zero the assignment; the others write nothing. Bytes past V and n stay.
 pub fn check(text: &[u8], answer: &[u8], assignment: &mut [u8], levels: &mut [u8]) -> CheckVerdict
-    ensures { λ r. ⌜ (r ≡ checkAnswer (now (text .entry)) (now (answer .entry)) (length (now (assignment .entry))) (length (now (levels .entry))))
-        × (now (assignment .exit) ≡ checkAssignment (now (text .entry)) (now (answer .entry)) (now (assignment .entry)) (length (now (levels .entry))))
-        × (now (levels .exit) ≡ checkLevels (now (text .entry)) (now (answer .entry)) (length (now (assignment .entry))) (now (levels .entry))) ⌝ }
+    ensures { λ r. ⌜ called r (now (assignment .exit)) (now (levels .exit))
+        ≡ checkCall (now (text .entry)) (now (answer .entry)) (now (assignment .entry)) (now (levels .entry)) ⌝ }
 {
     let x = read(text);
     check_read(x, answer, answer.len(), &mut *assignment, &mut *levels)

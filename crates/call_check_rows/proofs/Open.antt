@@ -10,11 +10,11 @@ use Rattle.reader.specs.declared.ReadVerdict.{ReadVerdict}
 use Rattle.reader.specs.declared.ReadVerdict.the-variants.{Accepted, Refused as TextRefused}
 use Rattle.refusals.specs.declared.TextRefusal.{TextRefusal}
 use Rattle.reader.specs.Verdict.{readOf}
-use Rattle.call_results.specs.Results.{programRead}
+use Rattle.call_results.specs.Results.{called, programRead}
 use Rattle.refusals.specs.declared.CheckRefusal.the-variants.{Text}
 use Rattle.call_check_rows.specs.declared.CheckVerdict.{CheckVerdict}
 use Rattle.call_check_rows.specs.declared.CheckVerdict.the-variants.{Refused}
-use Rattle.call_check_rows.specs.Check.{checkResult, checkAfterReading, callResult, checkOf, checkAnswer, checkAssignment, checkLevels, CheckGives}
+use Rattle.call_check_rows.specs.Check.{checkResult, checkAfterReading, callResult, checkOf, checkAnswer, checkAssignment, checkLevels, checkCall, CheckGives}
 use Rattle.call_check_rows.proofs.Rows.{gives-refused}
 
 module _ (t : List ℕ) (k : ℕ) (b l : List ℕ) {r : CheckVerdict} {c m : List ℕ} where
@@ -34,7 +34,8 @@ read-refused t k b l x e =
 
 -- the call
 pub check-whole : (t u b l : List ℕ) {x : ReadResult} → x ≡ readOf t → {r : CheckVerdict} {c m : List ℕ}
-    → CheckGives (codeOf (programRead x)) (callResult x u (length u) (length b) (length l)) r b c l m
-    → (r ≡ checkAnswer t u (length b) (length l)) × (c ≡ checkAssignment t u b (length l)) × (m ≡ checkLevels t u (length b) l)
+    → CheckGives (codeOf (programRead x)) (callResult x u (length u) (length b) (length l)) r b c l m → called r c m ≡ checkCall t u b l
 unfolding checkOf checkAnswer checkAssignment checkLevels
-check-whole t u b l e {r} {c} {m} w = subst (λ (x : ReadResult). CheckGives (codeOf (programRead x)) (callResult x u (length u) (length b) (length l)) r b c l m) e w
+check-whole t u b l e {r} {c} {m} w =
+    let v = subst (λ (x : ReadResult). CheckGives (codeOf (programRead x)) (callResult x u (length u) (length b) (length l)) r b c l m) e w in
+    λ i. called (v .0 i) (v .1 i) (v .2 i)

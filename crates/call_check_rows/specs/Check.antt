@@ -11,6 +11,7 @@
 --   checkResult G t k a l    row 8, for buffers of a and l bytes, then these
 --   checkOf t u a l          the rows of the program text t, then these, for the answer u
 --   checkAnswer, checkAssignment, checkLevels   the call's answer and the two buffers afterwards
+--   checkCall t u b l        the three together, for the buffers b and l
 -- Assumes nothing.
 use Prim.Native.Nat.{ℕ}
 use mathlib.Core.Path.{_≡_}
@@ -32,7 +33,7 @@ use Rattle.answer_values.specs.declared.Assigned.{Assigned}
 use Rattle.answer_values.specs.declared.Assigned.the-variants.{Done, Stray, Repeated}
 use Rattle.answer_values.specs.Assign.{Outcome, literalsFrom, assignedOf, assignedBytes, unsetCount, completed}
 use Rattle.truth_clauses.specs.Truth.{codeFirstFalse}
-use Rattle.call_results.specs.Results.{Result, trueCount, levelByte, counters, assignmentAfter, levelsAfter, varTotal, programRead}
+use Rattle.call_results.specs.Results.{Called, called, Result, trueCount, levelByte, counters, assignmentAfter, levelsAfter, varTotal, programRead}
 use Rattle.refusals.specs.declared.CheckRefusal.{CheckRefusal}
 use Rattle.refusals.specs.declared.CheckRefusal.the-variants.{Text, ShortBuffer, OverlongAnswer, MalformedAnswer, NoModelOffered, StrayVariable, RepeatedVariable, FalseClause}
 use Rattle.call_check_rows.specs.declared.CheckVerdict.{CheckVerdict}
@@ -121,3 +122,6 @@ checkAssignment t u b l = assignmentAfter zeroes (varTotal (programRead (readOf 
 
 unfoldable pub checkLevels : List ℕ → List ℕ → ℕ → List ℕ → List ℕ
 checkLevels t u a b = levelsAfter (programRead (readOf t) .atoms) (checkOf t u a (length b)) b
+
+abbrev pub checkCall : List ℕ → List ℕ → List ℕ → List ℕ → Called CheckVerdict
+checkCall t u b l = called (checkAnswer t u (length b) (length l)) (checkAssignment t u b (length l)) (checkLevels t u (length b) l)

@@ -14,7 +14,8 @@ ghost use lib.ListN.{length};
 ghost use Rattle.encoding.specs.Code.{codeOf};
 ghost use Rattle.program.specs.Arrays.{decoded};
 ghost use Rattle.clause_tables.specs.Tables.{Stored, codeIn, Ready};
-ghost use Rattle.call_fill_rows.specs.FillOut.{FillGives, fillResult, fillAnswer, fillAssignment, fillLevels};
+ghost use Rattle.call_results.specs.Results.{called};
+ghost use Rattle.call_fill_rows.specs.FillOut.{FillGives, fillResult, fillCall};
 
 // Rows 8, 17 and 18, for the tables of a program; if none is met, the assignment and the levels are written.
 fn fill_in<'a>(
@@ -89,9 +90,8 @@ fn fill_program(p: Program, set: &[u8], assignment: &mut [u8], levels: &mut [u8]
 // Whether the set, one byte for each atom, is a stable model: how many atoms are true, and the highest level; its assignment and its levels are written.
 // A refusal writes nothing. Bytes past V and n stay.
 pub fn fill_out(text: &[u8], set: &[u8], assignment: &mut [u8], levels: &mut [u8]) -> FillVerdict
-    ensures { λ r. ⌜ (r ≡ fillAnswer (now (text .entry)) (now (set .entry)) (length (now (assignment .entry))) (length (now (levels .entry))))
-        × (now (assignment .exit) ≡ fillAssignment (now (text .entry)) (now (set .entry)) (now (assignment .entry)) (length (now (levels .entry))))
-        × (now (levels .exit) ≡ fillLevels (now (text .entry)) (now (set .entry)) (length (now (assignment .entry))) (now (levels .entry))) ⌝ }
+    ensures { λ r. ⌜ called r (now (assignment .exit)) (now (levels .exit))
+        ≡ fillCall (now (text .entry)) (now (set .entry)) (now (assignment .entry)) (now (levels .entry)) ⌝ }
 {
     let x = read(text);
     let v = x.verdict;

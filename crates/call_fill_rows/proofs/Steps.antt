@@ -2,7 +2,7 @@
 --   NoneTo, none-more, first-here, first-nowhere   the first byte above 1, one byte after the other
 --   founded-refused, founded-accepted              row 18, and acceptance
 --   short-assignment, short-levels, wrong-size, bad-at, set-founded   rows 8 and 17, then these
---   same-program, read-accepted, read-refused      on a program that was read, and on a text
+--   same-code, read-accepted, read-refused      on a program that was read, and on a text
 -- Assumes nothing.
 use Prim.Native.Nat.{ℕ, zero, suc, pred, _+_, _-_, _≤_, _<_}
 use native.Mathlib.Nat.{le-antisymm}
@@ -36,13 +36,13 @@ use Rattle.clause_table_laws.proofs.Elements.{atoms-are, vars-are}
 use Rattle.level_stages.specs.Levels.{setIn, firstDifference}
 use Rattle.level_stages.proofs.Levels.{unlike-differ}
 use Rattle.level_stages.proofs.Turns.{code-level}
-use Rattle.call_results.specs.Results.{Result, trueCount, levelByte, programRead}
+use Rattle.call_results.specs.Results.{called, Result, trueCount, levelByte, programRead}
 use Rattle.call_results.proofs.ValueBytes.{atoms-within, value-here}
 use Rattle.refusals.specs.declared.FillRefusal.{FillRefusal}
 use Rattle.refusals.specs.declared.FillRefusal.the-variants.{Text, ShortBuffer, BadSet, Unfounded}
 use Rattle.call_fill_rows.specs.declared.FillVerdict.{FillVerdict}
 use Rattle.call_fill_rows.specs.declared.FillVerdict.the-variants.{Filled, Refused}
-use Rattle.call_fill_rows.specs.FillOut.{fillRefused, firstBad, foundedResult, fillResult, fillAfterReading, FillGives, fillOf, fillAnswer, fillAssignment, fillLevels}
+use Rattle.call_fill_rows.specs.FillOut.{fillRefused, firstBad, foundedResult, fillResult, fillAfterReading, FillGives, fillOf, fillAnswer, fillAssignment, fillLevels, fillCall}
 
 -- ---- the first byte above 1
 
@@ -244,19 +244,18 @@ module _ (s b l : List ℕ) {r : FillVerdict} {c m : List ℕ} where
   pub same-code : {G H : Code} → G ≡ H → FillGives G (fillResult G s (length b) (length l)) r b c l m → FillGives H (fillResult H s (length b) (length l)) r b c l m
   same-code e u = subst (λ (X : Code). FillGives X (fillResult X s (length b) (length l)) r b c l m) e u
 
--- the answer and the buffers are those of the call
-abbrev pub Called : List ℕ → List ℕ → List ℕ → List ℕ → FillVerdict → List ℕ → List ℕ → Type 0
-Called t s b l r c m = (r ≡ fillAnswer t s (length b) (length l)) × (c ≡ fillAssignment t s b (length l)) × (m ≡ fillLevels t s (length b) l)
-
 module _ (t s b l : List ℕ) {x : ReadResult} (e : x ≡ readOf t) {r : FillVerdict} {c m : List ℕ} where
-  called : {q : ReadVerdict} → x .verdict ≡ q → FillGives (codeOf (programRead x)) (fillAfterReading q (fillResult (codeOf (programRead x)) s (length b) (length l))) r b c l m → Called t s b l r c m
+  -- the answer and the buffers are those of the call
+  as-called : {q : ReadVerdict} → x .verdict ≡ q → FillGives (codeOf (programRead x)) (fillAfterReading q (fillResult (codeOf (programRead x)) s (length b) (length l))) r b c l m
+      → called r c m ≡ fillCall t s b l
   unfolding fillOf fillAnswer fillAssignment fillLevels
-  called v u =
-      subst (λ (y : ReadResult). FillGives (codeOf (programRead y)) (fillAfterReading (y .verdict) (fillResult (codeOf (programRead y)) s (length b) (length l))) r b c l m) e
-      (subst (λ (q : ReadVerdict). FillGives (codeOf (programRead x)) (fillAfterReading q (fillResult (codeOf (programRead x)) s (length b) (length l))) r b c l m) (sym v) u)
+  as-called v u =
+      let w = subst (λ (y : ReadResult). FillGives (codeOf (programRead y)) (fillAfterReading (y .verdict) (fillResult (codeOf (programRead y)) s (length b) (length l))) r b c l m) e
+      (subst (λ (q : ReadVerdict). FillGives (codeOf (programRead x)) (fillAfterReading q (fillResult (codeOf (programRead x)) s (length b) (length l))) r b c l m) (sym v) u) in
+      λ i. called (w .0 i) (w .1 i) (w .2 i)
 
-  pub read-accepted : x .verdict ≡ Accepted → FillGives (codeOf (programRead x)) (fillResult (codeOf (programRead x)) s (length b) (length l)) r b c l m → Called t s b l r c m
-  read-accepted v u = called v u
+  pub read-accepted : x .verdict ≡ Accepted → FillGives (codeOf (programRead x)) (fillResult (codeOf (programRead x)) s (length b) (length l)) r b c l m → called r c m ≡ fillCall t s b l
+  read-accepted v u = as-called v u
 
-pub read-refused : (t s b l : List ℕ) {x : ReadResult} → x ≡ readOf t → {q : TextRefusal} → x .verdict ≡ TextRefused q → Called t s b l (Refused (Text q)) b l
-read-refused t s b l {x} e {q} v = called t s b l e v (gives-refused (codeOf (programRead x)) refl b l)
+pub read-refused : (t s b l : List ℕ) {x : ReadResult} → x ≡ readOf t → {q : TextRefusal} → x .verdict ≡ TextRefused q → called (Refused (Text q)) b l ≡ fillCall t s b l
+read-refused t s b l {x} e {q} v = as-called t s b l e v (gives-refused (codeOf (programRead x)) refl b l)

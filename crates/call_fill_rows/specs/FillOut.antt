@@ -6,6 +6,7 @@
 --   fillResult G s a l      row 8, for buffers of a and l bytes, then these
 --   fillOf t s a l          the rows of the program text t, then these
 --   fillAnswer, fillAssignment, fillLevels   the call's answer and the two buffers afterwards
+--   fillCall t s b l        the three together, for the buffers b and l
 -- Assumes nothing.
 use Prim.Native.Nat.{ℕ, pred, _-_}
 use mathlib.Core.Path.{_≡_}
@@ -22,7 +23,7 @@ use Rattle.reader.specs.declared.ReadVerdict.the-variants.{Accepted, Refused as
 use Rattle.reader.specs.Verdict.{readOf}
 use Rattle.answer_offers.specs.Offered.{valueBytes}
 use Rattle.level_stages.specs.Levels.{setIn}
-use Rattle.call_results.specs.Results.{Result, trueCount, levelByte, assignmentAfter, levelsAfter, varTotal, programRead}
+use Rattle.call_results.specs.Results.{Called, called, Result, trueCount, levelByte, assignmentAfter, levelsAfter, varTotal, programRead}
 use Rattle.refusals.specs.declared.FillRefusal.{FillRefusal}
 use Rattle.refusals.specs.declared.FillRefusal.the-variants.{Text, ShortBuffer, BadSet, Unfounded}
 use Rattle.call_fill_rows.specs.declared.FillVerdict.{FillVerdict}
@@ -80,3 +81,6 @@ fillAssignment t s b l = assignmentAfter fillZeroes (varTotal (programRead (read
 
 unfoldable pub fillLevels : List ℕ → List ℕ → ℕ → List ℕ → List ℕ
 fillLevels t s a b = levelsAfter (programRead (readOf t) .atoms) (fillOf t s a (length b)) b
+
+abbrev pub fillCall : List ℕ → List ℕ → List ℕ → List ℕ → Called FillVerdict
+fillCall t s b l = called (fillAnswer t s (length b) (length l)) (fillAssignment t s b (length l)) (fillLevels t s (length b) l)

@@ -19,7 +19,7 @@ ghost use Rattle.encoding.specs.Code.{codeOf};
 ghost use Rattle.program.specs.Arrays.{decoded};
 ghost use Rattle.clause_tables.specs.Tables.{Stored, codeIn, Ready};
 ghost use Rattle.clause_runs.specs.Lines.{codeRunBytes};
-ghost use Rattle.call_lines_rows.specs.Lines.{answerIn, lineBytesIn, lineAnswer, lineBytes, runAnswerIn, runAnswer, runBytes};
+ghost use Rattle.call_lines_rows.specs.Lines.{answerIn, lineBytesIn, runAnswerIn, answered, lineCall, runCall};
 
 // Line j into the buffer from place `from` on.
 fn line_in<'a>(
@@ -106,7 +106,8 @@ fn run_in<'a>(
 // Line j of a program that was read.
 fn line_of(p: Program, j: usize, from: usize, buf: &mut [u8]) -> LineVerdict
     requires { ⌜ Stored p ⌝ }
-    ensures { λ r. ⌜ (r ≡ answerIn (codeOf (decoded p)) j (length (now (buf .entry)) - from)) × (now (buf .exit) ≡ lineBytesIn (codeOf (decoded p)) j from (now (buf .entry))) ⌝ }
+    ensures { λ r. ⌜ (r ≡ answerIn (codeOf (decoded p)) j (length (now (buf .entry)) - from))
+        × (now (buf .exit) ≡ lineBytesIn (codeOf (decoded p)) j from (now (buf .entry))) ⌝ }
 {
     let k = pairs_of(p);
     let t = totals_of(p, k.count, k.empty);
@@ -127,7 +128,8 @@ fn line_of(p: Program, j: usize, from: usize, buf: &mut [u8]) -> LineVerdict
 // A run of lines of a program that was read, from line j on.
 fn run_of(p: Program, j: usize, buf: &mut [u8]) -> RunVerdict
     requires { ⌜ Stored p ⌝ }
-    ensures { λ r. ⌜ (r ≡ runAnswerIn (codeOf (decoded p)) j (length (now (buf .entry)))) × (now (buf .exit) ≡ codeRunBytes (codeOf (decoded p)) j (now (buf .entry))) ⌝ }
+    ensures { λ r. ⌜ (r ≡ runAnswerIn (codeOf (decoded p)) j (length (now (buf .entry))))
+        × (now (buf .exit) ≡ codeRunBytes (codeOf (decoded p)) j (now (buf .entry))) ⌝ }
 {
     let k = pairs_of(p);
     let t = totals_of(p, k.count, k.empty);
@@ -147,8 +149,7 @@ fn run_of(p: Program, j: usize, buf: &mut [u8]) -> RunVerdict
 // Line j of the text's clause file, written into the buffer from place `from` on: its length, or a refusal, which writes nothing.
 // The buffer's other bytes stay.
 pub fn line(text: &[u8], j: usize, from: usize, buf: &mut [u8]) -> LineVerdict
-    ensures { λ r. ⌜ (r ≡ lineAnswer (now (text .entry)) j from (length (now (buf .entry))))
-        × (now (buf .exit) ≡ lineBytes (now (text .entry)) j from (now (buf .entry))) ⌝ }
+    ensures { λ r. ⌜ answered r (now (buf .exit)) ≡ lineCall (now (text .entry)) j from (now (buf .entry)) ⌝ }
 {
     let r = read(text);
     let v = r.verdict;
@@ -161,8 +162,7 @@ pub fn line(text: &[u8], j: usize, from: usize, buf: &mut [u8]) -> LineVerdict
 // As many whole lines as fit the buffer, from line j on: how many and how many bytes, or a refusal, which writes nothing.
 // The buffer's other bytes stay.
 pub fn run(text: &[u8], j: usize, buf: &mut [u8]) -> RunVerdict
-    ensures { λ r. ⌜ (r ≡ runAnswer (now (text .entry)) j (length (now (buf .entry))))
-        × (now (buf .exit) ≡ runBytes (now (text .entry)) j (now (buf .entry))) ⌝ }
+    ensures { λ r. ⌜ answered r (now (buf .exit)) ≡ runCall (now (text .entry)) j (now (buf .entry)) ⌝ }
 {
     let r = read(text);
     let v = r.verdict;

@@ -1,7 +1,7 @@
 -- The calls for lines, by the tests that they make on what the reader answers.
 -- Assumes nothing.
 use Prim.Native.Nat.{ℕ, _-_}
-use mathlib.Core.Path.{_≡_, sym, _∙_, ap, subst}
+use mathlib.Core.Path.{_≡_, sym, _∙_, ap, ap₂, subst}
 use mathlib.Core.List.{List}
 use lib.ListN.{length}
 use Rattle.encoding.specs.Code.{Code, codeOf}
@@ -17,7 +17,7 @@ use Rattle.call_lines_rows.specs.declared.LineVerdict.the-variants.{Refu
 use Rattle.call_lines_rows.specs.declared.RunVerdict.{RunVerdict}
 use Rattle.call_lines_rows.specs.declared.RunVerdict.the-variants.{RefusedRun}
 use Rattle.clause_runs.specs.Lines.{codeRunBytes}
-use Rattle.call_lines_rows.specs.Lines.{answerIn, lineBytesIn, afterText, keptBytes, lineAnswer, lineBytes, runAnswerIn, afterTextRun, runAnswer, runBytes}
+use Rattle.call_lines_rows.specs.Lines.{answerIn, lineBytesIn, afterText, keptBytes, lineAnswer, lineBytes, runAnswerIn, afterTextRun, runAnswer, runBytes, answered, lineCall, runCall}
 
 module _ {G H : Code} (e : G ≡ H) (j k : ℕ) (b : List ℕ) where
   pub same-line : {x : LineVerdict} {c : List ℕ} → (x ≡ answerIn G j (length b - k)) × (c ≡ lineBytesIn G j k b) → (x ≡ answerIn H j (length b - k)) × (c ≡ lineBytesIn H j k b)
@@ -37,27 +37,31 @@ module _ (t : List ℕ) {r : ReadResult} (e : r ≡ readOf t) where
   module _ (j k : ℕ) (b : List ℕ) where
     pub line-accepted : r .verdict ≡ Accepted → {x : LineVerdict} {c : List ℕ}
         → (x ≡ answerIn (codeOf (decoded (r .program))) j (length b - k)) × (c ≡ lineBytesIn (codeOf (decoded (r .program))) j k b)
-        → (x ≡ lineAnswer t j k (length b)) × (c ≡ lineBytes t j k b)
+        → answered x c ≡ lineCall t j k b
     unfolding lineAnswer lineBytes
     line-accepted v {x} {c} u =
         let w = same-line program-same j k b u in
-        (w .0 ∙ sym (ap (λ (y : ReadVerdict). afterText y (answerIn (codeOf (decoded (readOf t .program))) j (length b - k))) (verdict-is ∙ v)), w .1 ∙ sym (ap (λ (y : ReadVerdict). keptBytes y (lineBytesIn (codeOf (decoded (readOf t .program))) j k b) b) (verdict-is ∙ v)))
+        ap₂ answered (w .0 ∙ sym (ap (λ (y : ReadVerdict). afterText y (answerIn (codeOf (decoded (readOf t .program))) j (length b - k))) (verdict-is ∙ v)))
+        (w .1 ∙ sym (ap (λ (y : ReadVerdict). keptBytes y (lineBytesIn (codeOf (decoded (readOf t .program))) j k b) b) (verdict-is ∙ v)))
 
-    pub line-refused : {q : TextRefusal} → r .verdict ≡ TextRefused q → (Refused (Text q) ≡ lineAnswer t j k (length b)) × (b ≡ lineBytes t j k b)
+    pub line-refused : {q : TextRefusal} → r .verdict ≡ TextRefused q → answered (Refused (Text q)) b ≡ lineCall t j k b
     unfolding lineAnswer lineBytes
     line-refused {q} v =
-        (sym (ap (λ (y : ReadVerdict). afterText y (answerIn (codeOf (decoded (readOf t .program))) j (length b - k))) (verdict-is ∙ v)), sym (ap (λ (y : ReadVerdict). keptBytes y (lineBytesIn (codeOf (decoded (readOf t .program))) j k b) b) (verdict-is ∙ v)))
+        ap₂ answered (sym (ap (λ (y : ReadVerdict). afterText y (answerIn (codeOf (decoded (readOf t .program))) j (length b - k))) (verdict-is ∙ v)))
+        (sym (ap (λ (y : ReadVerdict). keptBytes y (lineBytesIn (codeOf (decoded (readOf t .program))) j k b) b) (verdict-is ∙ v)))
 
   module _ (j : ℕ) (b : List ℕ) where
     pub run-accepted : r .verdict ≡ Accepted → {x : RunVerdict} {c : List ℕ}
         → (x ≡ runAnswerIn (codeOf (decoded (r .program))) j (length b)) × (c ≡ codeRunBytes (codeOf (decoded (r .program))) j b)
-        → (x ≡ runAnswer t j (length b)) × (c ≡ runBytes t j b)
+        → answered x c ≡ runCall t j b
     unfolding runAnswer runBytes
     run-accepted v {x} {c} u =
         let w = same-run program-same j b u in
-        (w .0 ∙ sym (ap (λ (y : ReadVerdict). afterTextRun y (runAnswerIn (codeOf (decoded (readOf t .program))) j (length b))) (verdict-is ∙ v)), w .1 ∙ sym (ap (λ (y : ReadVerdict). keptBytes y (codeRunBytes (codeOf (decoded (readOf t .program))) j b) b) (verdict-is ∙ v)))
+        ap₂ answered (w .0 ∙ sym (ap (λ (y : ReadVerdict). afterTextRun y (runAnswerIn (codeOf (decoded (readOf t .program))) j (length b))) (verdict-is ∙ v)))
+        (w .1 ∙ sym (ap (λ (y : ReadVerdict). keptBytes y (codeRunBytes (codeOf (decoded (readOf t .program))) j b) b) (verdict-is ∙ v)))
 
-    pub run-refused : {q : TextRefusal} → r .verdict ≡ TextRefused q → (RefusedRun (Text q) ≡ runAnswer t j (length b)) × (b ≡ runBytes t j b)
+    pub run-refused : {q : TextRefusal} → r .verdict ≡ TextRefused q → answered (RefusedRun (Text q)) b ≡ runCall t j b
     unfolding runAnswer runBytes
     run-refused {q} v =
-        (sym (ap (λ (y : ReadVerdict). afterTextRun y (runAnswerIn (codeOf (decoded (readOf t .program))) j (length b))) (verdict-is ∙ v)), sym (ap (λ (y : ReadVerdict). keptBytes y (codeRunBytes (codeOf (decoded (readOf t .program))) j b) b) (verdict-is ∙ v)))
+        ap₂ answered (sym (ap (λ (y : ReadVerdict). afterTextRun y (runAnswerIn (codeOf (decoded (readOf t .program))) j (length b))) (verdict-is ∙ v)))
+        (sym (ap (λ (y : ReadVerdict). keptBytes y (codeRunBytes (codeOf (decoded (readOf t .program))) j b) b) (verdict-is ∙ v)))

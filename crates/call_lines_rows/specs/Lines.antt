@@ -3,6 +3,8 @@
 --   lineBytes t j k b    the buffer b afterwards
 --   runAnswer t j n      the answer for the lines of text t from line j on, into n bytes: how many lines, and their bytes
 --   runBytes t j b       the buffer b afterwards
+--   Answered A           what such a call answers, an A, and what it leaves in its lent buffer
+--   lineCall t j k b, runCall t j b   the two together, for the buffer b
 -- Assumes nothing.
 use Prim.Native.Nat.{ℕ, _+_, _-_}
 use mathlib.Core.Bool.{cond}
@@ -21,6 +23,13 @@ use Rattle.call_lines_rows.specs.declared.LineVerdict.{LineVerdict}
 use Rattle.call_lines_rows.specs.declared.LineVerdict.the-variants.{Written, Refused}
 use Rattle.call_lines_rows.specs.declared.RunVerdict.{RunVerdict}
 use Rattle.call_lines_rows.specs.declared.RunVerdict.the-variants.{WrittenRun, RefusedRun}
+
+pub record Answered (A : Type 0) : Type 0 where
+  pub verdict : A
+  pub buffer : List ℕ
+
+abbrev pub answered : {A : Type 0} → A → List ℕ → Answered A
+answered v b = record { verdict = v; buffer = b }
 
 -- ---- one line
 
@@ -50,6 +59,9 @@ lineAnswer t j k n = afterText (readOf t .verdict) (answerIn (codeOf (decoded (r
 unfoldable pub lineBytes : List ℕ → ℕ → ℕ → List ℕ → List ℕ
 lineBytes t j k b = keptBytes (readOf t .verdict) (lineBytesIn (codeOf (decoded (readOf t .program))) j k b) b
 
+abbrev pub lineCall : List ℕ → ℕ → ℕ → List ℕ → Answered LineVerdict
+lineCall t j k b = answered (lineAnswer t j k (length b)) (lineBytes t j k b)
+
 -- ---- a run of lines
 
 abbrev pub runAnswerIn : Code → ℕ → ℕ → RunVerdict
@@ -66,3 +78,6 @@ runAnswer t j n = afterTextRun (readOf t .verdict) (runAnswerIn (codeOf (decoded
 
 unfoldable pub runBytes : List ℕ → ℕ → List ℕ → List ℕ
 runBytes t j b = keptBytes (readOf t .verdict) (codeRunBytes (codeOf (decoded (readOf t .program))) j b) b
+
+abbrev pub runCall : List ℕ → ℕ → List ℕ → Answered RunVerdict
+runCall t j b = answered (runAnswer t j (length b)) (runBytes t j b)

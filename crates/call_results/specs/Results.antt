@@ -6,6 +6,7 @@
 --   trueCount n bs         how many of the atoms 1 to n are true under the values bs
 --   levelByte ls a         the level of atom a in the bytes ls
 --   counters S bs          the counter of each atom under the values bs
+--   Called A               what a call answers, an A, and what it leaves in its two lent buffers, the assignment and the levels
 --   assignmentAfter z v x b   the buffer b of the assignment of v variables, once the result x is given: a refusal that z names leaves zeros
 --   levelsAfter n x b      the buffer b of the levels of n atoms
 -- Assumes nothing.
@@ -34,6 +35,15 @@ programRead r = decoded (r .program)
 pub data Result (R : Type 0) : Type 0 where
   accepted : (assumed : ℕ) (values levels : List ℕ) → Result R
   refused : R → Result R
+
+-- what a call answers, and what it leaves in its two lent buffers
+pub record Called (A : Type 0) : Type 0 where
+  pub verdict : A
+  pub assignment : List ℕ
+  pub levels : List ℕ
+
+abbrev pub called : {A : Type 0} → A → List ℕ → List ℕ → Called A
+called v b l = record { verdict = v; assignment = b; levels = l }
 
 -- ---- what is returned
 

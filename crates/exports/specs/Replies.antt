@@ -9,9 +9,11 @@
 --   runReply t j n            for the lines from line j on, into n bytes
 --   checkReply t u a l        for the check of the answer u, with buffers of a and l bytes
 --   fillReply t s a l         for filling out the set s, likewise
+--   lineReplied, runReplied, checkReplied, fillReplied   the reply with what the call leaves in its lent buffers
 -- Assumes nothing.
 use Prim.Native.Nat.{ℕ}
 use mathlib.Core.List.{List}
+use lib.ListN.{length}
 use Rattle.meaning.specs.Program.{Program}
 use Rattle.reader.specs.declared.ReadVerdict.{ReadVerdict}
 use Rattle.reader.specs.declared.ReadVerdict.the-variants.{Accepted, Refused as TextRefused}
@@ -24,16 +26,16 @@ use Rattle.call_lines_rows.specs.declared.RunVerdict.{RunVerdict}
 use Rattle.call_lines_rows.specs.declared.RunVerdict.the-variants.{WrittenRun, RefusedRun}
 use Rattle.clause_runs.specs.Lines.{clauseTotal}
 use Rattle.refusals.specs.Numbers.{lineNumber, lineSpot}
-use Rattle.call_lines_rows.specs.Lines.{lineAnswer, runAnswer}
-use Rattle.call_results.specs.Results.{varTotal}
+use Rattle.call_lines_rows.specs.Lines.{lineAnswer, lineBytes, runAnswer, runBytes, Answered, answered}
+use Rattle.call_results.specs.Results.{varTotal, Called, called}
 use Rattle.call_check_rows.specs.declared.CheckVerdict.{CheckVerdict}
 use Rattle.call_check_rows.specs.declared.CheckVerdict.the-variants.{Model, Refused as CheckRefused}
 use Rattle.refusals.specs.Numbers.{checkNumber, checkSpot}
-use Rattle.call_check_rows.specs.Check.{checkAnswer}
+use Rattle.call_check_rows.specs.Check.{checkAnswer, checkAssignment, checkLevels}
 use Rattle.call_fill_rows.specs.declared.FillVerdict.{FillVerdict}
 use Rattle.call_fill_rows.specs.declared.FillVerdict.the-variants.{Filled, Refused as FillRefused}
 use Rattle.refusals.specs.Numbers.{fillNumber, fillSpot}
-use Rattle.call_fill_rows.specs.FillOut.{fillAnswer}
+use Rattle.call_fill_rows.specs.FillOut.{fillAnswer, fillAssignment, fillLevels}
 use Rattle.exports.specs.declared.Reply.{Reply}
 
 abbrev pub acceptedReply : ℕ → ℕ → ℕ → Reply
@@ -83,3 +85,15 @@ checkReply t u a l = ofCheck (checkAnswer t u a l)
 
 unfoldable pub fillReply : List ℕ → List ℕ → ℕ → ℕ → Reply
 fillReply t s a l = ofFill (fillAnswer t s a l)
+
+abbrev pub lineReplied : List ℕ → ℕ → ℕ → List ℕ → Answered Reply
+lineReplied t j k b = answered (lineReply t j k (length b)) (lineBytes t j k b)
+
+abbrev pub runReplied : List ℕ → ℕ → List ℕ → Answered Reply
+runReplied t j b = answered (runReply t j (length b)) (runBytes t j b)
+
+abbrev pub checkReplied : List ℕ → List ℕ → List ℕ → List ℕ → Called Reply
+checkReplied t u b l = called (checkReply t u (length b) (length l)) (checkAssignment t u b (length l)) (checkLevels t u (length b) l)
+
+abbrev pub fillReplied : List ℕ → List ℕ → List ℕ → List ℕ → Called Reply
+fillReplied t s b l = called (fillReply t s (length b) (length l)) (fillAssignment t s b (length l)) (fillLevels t s (length b) l)

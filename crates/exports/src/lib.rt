@@ -21,14 +21,12 @@ use refusals::line_spot;
 use refusals::text_number;
 use refusals::text_spot;
 ghost use mathlib.Core.Path.{_≡_};
-ghost use lib.ListN.{length};
 ghost use Rattle.program.specs.Arrays.{decoded};
 ghost use Rattle.clause_tables.specs.Tables.{Stored};
-ghost use Rattle.call_lines_rows.specs.Lines.{lineBytes, runBytes};
-ghost use Rattle.call_check_rows.specs.Check.{checkAssignment, checkLevels};
-ghost use Rattle.call_fill_rows.specs.FillOut.{fillAssignment, fillLevels};
+ghost use Rattle.call_lines_rows.specs.Lines.{answered};
+ghost use Rattle.call_results.specs.Results.{called};
 ghost use Rattle.exports.specs.Replies.{acceptedReply, refusedReply, totalsReply, ofLine, ofRun, ofCheck};
-ghost use Rattle.exports.specs.Replies.{ofFill, readReply, lineReply, runReply, checkReply, fillReply};
+ghost use Rattle.exports.specs.Replies.{ofFill, readReply, lineReplied, runReplied, checkReplied, fillReplied};
 
 // The row's number and the spot of a refusal, both 0 for acceptance; and the numbers that an accepted call gives, 0 where it gives none.
 #[repr(C)]
@@ -129,8 +127,7 @@ pub extern "C" fn qs_read(text: &[u8]) -> Reply
 // Line j of the text's clause file, written into the buffer from `place` on: its length.
 #[no_mangle]
 pub extern "C" fn qs_line(text: &[u8], j: usize, place: usize, buf: &mut [u8]) -> Reply
-    ensures { λ r. ⌜ (r ≡ lineReply (now (text .entry)) j place (length (now (buf .entry))))
-        × (now (buf .exit) ≡ lineBytes (now (text .entry)) j place (now (buf .entry))) ⌝ }
+    ensures { λ r. ⌜ answered r (now (buf .exit)) ≡ lineReplied (now (text .entry)) j place (now (buf .entry)) ⌝ }
 {
     let v = line(text, j, place, &mut *buf);
     of_line(v)
@@ -139,8 +136,7 @@ pub extern "C" fn qs_line(text: &[u8], j: usize, place: usize, buf: &mut [u8]) -
 // As many whole lines as fit the buffer, from line j on: how many lines, and how many bytes.
 #[no_mangle]
 pub extern "C" fn qs_run(text: &[u8], j: usize, buf: &mut [u8]) -> Reply
-    ensures { λ r. ⌜ (r ≡ runReply (now (text .entry)) j (length (now (buf .entry))))
-        × (now (buf .exit) ≡ runBytes (now (text .entry)) j (now (buf .entry))) ⌝ }
+    ensures { λ r. ⌜ answered r (now (buf .exit)) ≡ runReplied (now (text .entry)) j (now (buf .entry)) ⌝ }
 {
     let v = run(text, j, &mut *buf);
     of_run(v)
@@ -154,9 +150,8 @@ pub extern "C" fn qs_check(
     assignment: &mut [u8],
     levels: &mut [u8],
 ) -> Reply
-    ensures { λ r. ⌜ (r ≡ checkReply (now (text .entry)) (now (answer .entry)) (length (now (assignment .entry))) (length (now (levels .entry))))
-        × (now (assignment .exit) ≡ checkAssignment (now (text .entry)) (now (answer .entry)) (now (assignment .entry)) (length (now (levels .entry))))
-        × (now (levels .exit) ≡ checkLevels (now (text .entry)) (now (answer .entry)) (length (now (assignment .entry))) (now (levels .entry))) ⌝ }
+    ensures { λ r. ⌜ called r (now (assignment .exit)) (now (levels .exit))
+        ≡ checkReplied (now (text .entry)) (now (answer .entry)) (now (assignment .entry)) (now (levels .entry)) ⌝ }
 {
     let v = check(text, answer, &mut *assignment, &mut *levels);
     of_check(v)
@@ -170,9 +165,8 @@ pub extern "C" fn qs_fill(
     assignment: &mut [u8],
     levels: &mut [u8],
 ) -> Reply
-    ensures { λ r. ⌜ (r ≡ fillReply (now (text .entry)) (now (set .entry)) (length (now (assignment .entry))) (length (now (levels .entry))))
-        × (now (assignment .exit) ≡ fillAssignment (now (text .entry)) (now (set .entry)) (now (assignment .entry)) (length (now (levels .entry))))
-        × (now (levels .exit) ≡ fillLevels (now (text .entry)) (now (set .entry)) (length (now (assignment .entry))) (now (levels .entry))) ⌝ }
+    ensures { λ r. ⌜ called r (now (assignment .exit)) (now (levels .exit))
+        ≡ fillReplied (now (text .entry)) (now (set .entry)) (now (assignment .entry)) (now (levels .entry)) ⌝ }
 {
     let v = fill_out(text, set, &mut *assignment, &mut *levels);
     of_fill(v)

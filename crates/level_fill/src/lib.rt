@@ -20,7 +20,8 @@ ghost use Rattle.encoding.specs.Code.{rl, levelOf, codeFill};
 ghost use Rattle.clause_tables.specs.Tables.{codeIn, Ready};
 ghost use Rattle.level_stages.specs.Levels.{setIn, levelByte};
 ghost use Rattle.answer_offers.specs.Offered.{valueBytes};
-ghost use Rattle.level_fill.specs.Values.{byteOf, atomBytes, bodyBytes, foundsAt, foundsBytes, bitBytes, levelBytes, lessBytes, pairBytes, chainBytes, filledWith};
+ghost use Rattle.level_fill.specs.Values.{byteOf, atomBytes, bodyBytes, foundsAt, foundsBytes, bitBytes};
+ghost use Rattle.level_fill.specs.Values.{levelBytes, lessBytes, pairBytes, chainBytes, filledWith};
 
 fn as_byte(x: bool) -> u8
     ensures { λ r. ⌜ r ≡ byteOf x ⌝ }

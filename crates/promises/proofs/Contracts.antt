@@ -54,13 +54,13 @@ pub record Contracts (M : Type 1) : Type 2 where
   pub read : reader.read.Statement.statement M
   -- the same from the front of a text and its length: `countedOf`
   pub read-counted : reader.read_counted.Statement.statement M
-  -- line j of any text's clause file: the answer is `lineAnswer`, the buffer is `lineBytes`
+  -- line j of any text's clause file: answer and buffer are `lineCall`, that is `lineAnswer` and `lineBytes`
   pub line : call-lines.line.Statement.statement M
-  -- a run of lines: `runAnswer` and `runBytes`
+  -- a run of lines: `runCall`, that is `runAnswer` and `runBytes`
   pub run : call-lines.run.Statement.statement M
-  -- the check of any answer against any text: `checkAnswer`, `checkAssignment` and `checkLevels`
+  -- the check of any answer against any text: `checkCall`, that is `checkAnswer`, `checkAssignment` and `checkLevels`
   pub check : call-check.check.Statement.statement M
-  -- filling out any set for any text: `fillAnswer`, `fillAssignment` and `fillLevels`
+  -- filling out any set for any text: `fillCall`, that is `fillAnswer`, `fillAssignment` and `fillLevels`
   pub fill-out : call-fill.fill_out.Statement.statement M
   -- the number and the spot of a refusal of a text, `textNumber` and `textSpot`
   pub text-number : refusals.text_number.Statement.statement M

@@ -1,5 +1,5 @@
 use Rattle.exports.specs.Replies.{ofCheck, checkReply}
-use mathlib.Core.Path.{_∙_, ap}
+use Rattle.exports.proofs.Told.{replied}
 use borrow.Author.Needs.{needs}
 use Rattle.exports.proofs.qs_check.Statement.{statement}
 use Rattle.exports.proofs.qs_check.Tie as tie
@@ -18,7 +18,7 @@ same-length-2 c = search needs
 
 returns : tie.Need-returns
 unfolding checkReply
-returns c = (c .of-check .ensures ∙ ap ofCheck (c .before .before .before .before .before .check .ensures .0), c .before .before .before .before .before .check .ensures .1, c .before .before .before .before .before .check .ensures .2)
+returns c = replied ofCheck (c .of-check .ensures) (c .before .before .before .before .before .check .ensures)
 
 pub qs-check-spec : {M : Type 1} → statement M
 qs-check-spec =

@@ -1,5 +1,5 @@
 use Rattle.exports.specs.Replies.{ofFill, fillReply}
-use mathlib.Core.Path.{_∙_, ap}
+use Rattle.exports.proofs.Told.{replied}
 use borrow.Author.Needs.{needs}
 use Rattle.exports.proofs.qs_fill.Statement.{statement}
 use Rattle.exports.proofs.qs_fill.Tie as tie
@@ -18,7 +18,7 @@ same-length-2 c = search needs
 
 returns : tie.Need-returns
 unfolding fillReply
-returns c = (c .of-fill .ensures ∙ ap ofFill (c .before .before .before .before .before .fill-out .ensures .0), c .before .before .before .before .before .fill-out .ensures .1, c .before .before .before .before .before .fill-out .ensures .2)
+returns c = replied ofFill (c .of-fill .ensures) (c .before .before .before .before .before .fill-out .ensures)
 
 pub qs-fill-spec : {M : Type 1} → statement M
 qs-fill-spec =

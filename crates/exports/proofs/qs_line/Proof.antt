@@ -1,5 +1,5 @@
 use Rattle.exports.specs.Replies.{ofLine, lineReply}
-use mathlib.Core.Path.{_∙_, ap}
+use Rattle.exports.proofs.Told.{replied-lines}
 use borrow.Author.Needs.{needs}
 use Rattle.exports.proofs.qs_line.Statement.{statement}
 use Rattle.exports.proofs.qs_line.Tie as tie
@@ -15,7 +15,7 @@ same-length c = search needs
 
 returns : tie.Need-returns
 unfolding lineReply
-returns c = (c .of-line .ensures ∙ ap ofLine (c .before .before .before .line .ensures .0), c .before .before .before .line .ensures .1)
+returns c = replied-lines ofLine (c .of-line .ensures) (c .before .before .before .line .ensures)
 
 pub qs-line-spec : {M : Type 1} → statement M
 qs-line-spec = tie.close (tie.spec line-requires of-line-requires same-length returns)

@@ -1,5 +1,5 @@
 use Rattle.exports.specs.Replies.{ofRun, runReply}
-use mathlib.Core.Path.{_∙_, ap}
+use Rattle.exports.proofs.Told.{replied-lines}
 use borrow.Author.Needs.{needs}
 use Rattle.exports.proofs.qs_run.Statement.{statement}
 use Rattle.exports.proofs.qs_run.Tie as tie
@@ -15,7 +15,7 @@ same-length c = search needs
 
 returns : tie.Need-returns
 unfolding runReply
-returns c = (c .of-run .ensures ∙ ap ofRun (c .before .before .before .run .ensures .0), c .before .before .before .run .ensures .1)
+returns c = replied-lines ofRun (c .of-run .ensures) (c .before .before .before .run .ensures)
 
 pub qs-run-spec : {M : Type 1} → statement M
 qs-run-spec = tie.close (tie.spec run-requires of-run-requires same-length returns)
