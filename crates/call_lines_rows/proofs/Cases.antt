@@ -38,14 +38,14 @@ module _ (G : Code) (j : ℕ) where
   need = length (codeLine G j)
 
   module _ (room : ℕ) where
+    pub answer-fits : j ≤ clauseTotalOf G → need ≤ room → answerIn G j room ≡ Written need
+    answer-fits = fits (Refused (NoSuchClause (clauseTotalOf G))) (Refused (ShortBuffer need)) (Written need) G j room
+
     pub answer-none : clauseTotalOf G < j → answerIn G j room ≡ Refused (NoSuchClause (clauseTotalOf G))
     answer-none = none (Refused (NoSuchClause (clauseTotalOf G))) (Refused (ShortBuffer need)) (Written need) G j room
 
     pub answer-short : j ≤ clauseTotalOf G → room < need → answerIn G j room ≡ Refused (ShortBuffer need)
     answer-short = short (Refused (NoSuchClause (clauseTotalOf G))) (Refused (ShortBuffer need)) (Written need) G j room
-
-    pub answer-fits : j ≤ clauseTotalOf G → need ≤ room → answerIn G j room ≡ Written need
-    answer-fits = fits (Refused (NoSuchClause (clauseTotalOf G))) (Refused (ShortBuffer need)) (Written need) G j room
 
     abbrev run : RunVerdict
     run = WrittenRun (fitting room (drop j (codeLines G))) (length (joined (codeRun G j room)))

@@ -1,4 +1,4 @@
--- The calls for lines, by the tests that they make on what the reader answers.
+-- The calls for lines, by the tests that they make on what the reader answers; and that one equation about a call fixes its answer and its buffer.
 -- Assumes nothing.
 use Prim.Native.Nat.{ℕ, _-_}
 use mathlib.Core.Path.{_≡_, sym, _∙_, ap, ap₂, subst}
@@ -17,7 +17,10 @@ use Rattle.call_lines_rows.specs.declared.LineVerdict.the-variants.{Refu
 use Rattle.call_lines_rows.specs.declared.RunVerdict.{RunVerdict}
 use Rattle.call_lines_rows.specs.declared.RunVerdict.the-variants.{RefusedRun}
 use Rattle.clause_runs.specs.Lines.{codeRunBytes}
-use Rattle.call_lines_rows.specs.Lines.{answerIn, lineBytesIn, afterText, keptBytes, lineAnswer, lineBytes, runAnswerIn, afterTextRun, runAnswer, runBytes, answered, lineCall, runCall}
+use Rattle.call_lines_rows.specs.Lines.{answerIn, lineBytesIn, afterText, keptBytes, lineAnswer, lineBytes, runAnswerIn, afterTextRun, runAnswer, runBytes, Answered, answered, lineCall, runCall}
+
+pub answered-fixes : {A : Type 0} {v w : A} {b c : List ℕ} → answered v b ≡ answered w c → (v ≡ w) × (b ≡ c)
+answered-fixes {A} e = (ap (λ (x : Answered A). x .verdict) e, ap (λ (x : Answered A). x .buffer) e)
 
 module _ {G H : Code} (e : G ≡ H) (j k : ℕ) (b : List ℕ) where
   pub same-line : {x : LineVerdict} {c : List ℕ} → (x ≡ answerIn G j (length b - k)) × (c ≡ lineBytesIn G j k b) → (x ≡ answerIn H j (length b - k)) × (c ≡ lineBytesIn H j k b)

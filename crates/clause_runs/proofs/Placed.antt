@@ -38,7 +38,7 @@ module _ {G : Code} {t : Totals} {hs ss bs ks xs ys : List ℕ} (T : Tabled G t 
 
   pub lines-count : length (codeLines G) ≡ suc (t .clauses)
   unfolding codeLines
-  lines-count = ap suc (length-map (clausesOf G) lineText ∙ clauses-many T)
+  lines-count = ap suc (length-map (clausesOf G) _ ∙ clauses-many T)
 
   pub header-is : headerText (t .vars) (t .clauses) ≡ codeLine G 0
   unfolding codeLines

@@ -39,6 +39,10 @@ use Rattle.answer_values.specs.Rows.{AllFit, StrayAt, RepeatedAt}
 use Rattle.answer_values.proofs.Rows as Assigned
 use Rattle.answer_offers.specs.Offered.{valueBytes, valuesOf, Completes}
 use Rattle.answer_offers.proofs.Values.{values-complete, values-alone, values-unique}
+use Rattle.call_lines_rows.specs.Lines.{answered}
+use Rattle.call_lines_rows.proofs.Open.{answered-fixes}
+use Rattle.call_results.specs.Results.{called}
+use Rattle.call_results.proofs.Fixed.{called-fixes}
 use Rattle.call_check_rows.specs.Check.{callResult}
 use Rattle.call_check.proofs as call-check
 use Rattle.call_fill.proofs as call-fill
@@ -163,7 +167,7 @@ pub record Completing (t : List ℕ) (p n : ℕ) : Type 0 where
   -- these are the bytes that the reader leaves, each 2 read as 0
   pub bytes : completed (assignedBytes n (literalsFrom t p) (replicate n 2)) ≡ valueBytes (valuesOf n (literalsFrom t p))
 
-pub record Working : Type 0 where
+pub record Working : Type 1 where
   -- the walk by which code yields the clauses, by group, item, block, clause and slot, gives the clause list
   pub walk : (P : Program) → walked (codeOf P) ≡ clauses P (width (P .atoms))
   -- code finds clause j at place j of the walk
@@ -175,6 +179,9 @@ pub record Working : Type 0 where
   pub answer-form : (t : List ℕ) → AnswerForm t
   pub assigning : (t : List ℕ) (p n : ℕ) (b : List ℕ) → Assigning t p n b
   pub completing : (t : List ℕ) (p n : ℕ) → AllFit n (literalsFrom t p) → Completing t p n
+  -- the one equation of a call that lends buffers fixes its answer and every byte of each of them
+  pub called-fixes : {A : Type 0} {v w : A} {b c l m : List ℕ} → called v b l ≡ called w c m → (v ≡ w) × (b ≡ c) × (l ≡ m)
+  pub answered-fixes : {A : Type 0} {v w : A} {b c : List ℕ} → answered v b ≡ answered w c → (v ≡ w) × (b ≡ c)
   -- the first 65,537 bytes of an answer and its length give the result of the whole answer
   pub counted-answer : (x : ReadResult) (u : List ℕ) (a l : ℕ) → callResult x (take 65537 u) (length u) a l ≡ callResult x u (length u) a l
 
@@ -220,5 +227,7 @@ working =
       answer-form = answer-form;
       assigning = assigning;
       completing = completing;
+      called-fixes = called-fixes;
+      answered-fixes = answered-fixes;
       counted-answer = checker-output.Shown.answer-whole;
     }
