@@ -3,9 +3,8 @@ use answer_reader::Formed;
 use answer_values::read_form;
 use call_check_judge::assigned;
 use call_check_rows::CheckVerdict;
-use clause_tables::Totals;
-use clause_tabling::pairs_of;
-use clause_tabling::totals_of;
+use clause_cells::totals;
+use clause_tabling::prepare;
 use program::Program;
 use reader::MAX_TEXT;
 use reader::ReadResult;
@@ -17,7 +16,7 @@ ghost use lib.ListN.{length};
 ghost use Rattle.encoding.specs.Code.{codeOf};
 ghost use Rattle.program.specs.Arrays.{decoded};
 ghost use Rattle.reader.specs.declared.ReadVerdict.the-variants.{Accepted};
-ghost use Rattle.clause_tables.specs.Tables.{Stored, codeIn, Ready};
+ghost use Rattle.clause_tables.specs.Tables.{Stored, Ready, codeIn};
 ghost use Rattle.call_check_rows.specs.declared.CheckVerdict.the-variants.{Refused};
 ghost use Rattle.call_results.specs.Results.{programRead, called};
 ghost use Rattle.call_check_rows.specs.Check.{CheckGives, checkResult, callResult, checkCall};
@@ -25,24 +24,18 @@ ghost use Rattle.call_check_rows.specs.Check.{CheckGives, checkResult, callResu
 // Rows 8 and 10 to 16. The answer has `total` bytes; of one that is not overlong, `answer` is all. Its values are read into an
 // array of the call's own, of the largest V, since refusal 11 writes nothing.
 fn check_in<'a>(
-    t: Totals,
-    heads: &'a [u16],
-    starts: &'a [u16],
-    bodies: &'a [u16],
-    before: &'a [u16],
-    partners: &'a [u16],
-    owners: &'a [u16],
+    table: &'a [u16],
     answer: &'a [u8],
     total: usize,
     assignment: &mut [u8],
     levels: &mut [u8],
 ) -> CheckVerdict
-    requires { ⌜ Ready t (now heads) (now starts) (now bodies) (now before) (now partners) (now owners) ⌝ }
-    ensures { λ r. ⌜ CheckGives (codeIn t (now (heads .entry)) (now (starts .entry)) (now (bodies .entry)))
-        (checkResult (codeIn t (now (heads .entry)) (now (starts .entry)) (now (bodies .entry))) (now (answer .entry)) total
-        (length (now (assignment .entry))) (length (now (levels .entry)))) r (now (assignment .entry)) (now (assignment .exit))
-        (now (levels .entry)) (now (levels .exit)) ⌝ }
+    requires { ⌜ Ready (now table) ⌝ }
+    ensures { λ r. ⌜ CheckGives (codeIn (now (table .entry)))
+        (checkResult (codeIn (now (table .entry))) (now (answer .entry)) total (length (now (assignment .entry))) (length (now (levels .entry)))) r
+        (now (assignment .entry)) (now (assignment .exit)) (now (levels .entry)) (now (levels .exit)) ⌝ }
 {
+    let t = totals(table);
     if assignment.len() < t.vars {
         return CheckVerdict::Refused(CheckRefusal::ShortBuffer(t.vars));
     }
@@ -59,19 +52,7 @@ fn check_in<'a>(
     match f {
         Formed::Malformed(s) => CheckVerdict::Refused(CheckRefusal::MalformedAnswer(s)),
         Formed::NoModel => CheckVerdict::Refused(CheckRefusal::NoModelOffered),
-        Formed::Model(e) => assigned(
-            t,
-            heads,
-            starts,
-            bodies,
-            before,
-            partners,
-            owners,
-            x,
-            &values,
-            &mut *assignment,
-            &mut *levels,
-        ),
+        Formed::Model(e) => assigned(table, x, &values, &mut *assignment, &mut *levels),
     }
 }
 
@@ -88,21 +69,9 @@ fn check_program(
         (checkResult (codeOf (decoded p)) (now (answer .entry)) total (length (now (assignment .entry))) (length (now (levels .entry)))) r
         (now (assignment .entry)) (now (assignment .exit)) (now (levels .entry)) (now (levels .exit)) ⌝ }
 {
-    let k = pairs_of(p);
-    let t = totals_of(p, k.count, k.empty);
-    check_in(
-        t,
-        &p.heads,
-        &p.starts,
-        &p.bodies,
-        &k.before,
-        &k.bodies,
-        &k.heads,
-        answer,
-        total,
-        &mut *assignment,
-        &mut *levels,
-    )
+    let mut table = [0u16; 3518];
+    prepare(p, &mut table);
+    check_in(&table, answer, total, &mut *assignment, &mut *levels)
 }
 
 // The check against what the reader gave.

@@ -7,13 +7,14 @@ use call_check_rows::CheckVerdict;
 use call_results::highest_of;
 use call_results::put_counters;
 use call_results::true_count;
-use clause_tables::Totals;
+use clause_cells::totals;
 use refusals::CheckRefusal;
 use truth_clauses::first_false;
 ghost use Prim.Native.Nat.{_≤_};
 ghost use mathlib.Core.Path.{_≡_};
 ghost use lib.ListN.{length, take};
-ghost use Rattle.clause_tables.specs.Tables.{codeIn, Ready};
+ghost use Rattle.encoding.specs.Code.{variablesOf};
+ghost use Rattle.clause_tables.specs.Tables.{Ready, codeIn, atomsIn, varsIn};
 ghost use Rattle.answer_values.specs.Assign.{completed, overwritten};
 ghost use Rattle.call_check_rows.specs.declared.CheckVerdict.the-variants.{Refused};
 ghost use Rattle.call_check_rows.specs.Check.{CheckGives, valuesJudged, outcomeOf, afterAssigning};
@@ -28,34 +29,14 @@ fn refuse_zeroed(r: CheckRefusal, v: usize, assignment: &mut [u8]) -> CheckVerdi
 }
 
 // Row 16, for the values that stand in the assignment, `assumed` of which are assumed.
-fn judge<'a>(
-    t: Totals,
-    heads: &'a [u16],
-    starts: &'a [u16],
-    bodies: &'a [u16],
-    before: &'a [u16],
-    partners: &'a [u16],
-    owners: &'a [u16],
-    assumed: usize,
-    assignment: &mut [u8],
-    levels: &mut [u8],
-) -> CheckVerdict
-    requires { ⌜ (Ready t (now heads) (now starts) (now bodies) (now before) (now partners) (now owners)) × (t .vars ≤ length (now assignment))
-        × (t .sizes .n ≤ length (now levels)) ⌝ }
-    ensures { λ r. ⌜ CheckGives (codeIn t (now (heads .entry)) (now (starts .entry)) (now (bodies .entry)))
-        (valuesJudged (codeIn t (now (heads .entry)) (now (starts .entry)) (now (bodies .entry))) assumed
-        (take (t .vars) (now (assignment .entry)))) r (now (assignment .entry)) (now (assignment .exit)) (now (levels .entry)) (now (levels .exit)) ⌝ }
+fn judge(table: &[u16], assumed: usize, assignment: &mut [u8], levels: &mut [u8]) -> CheckVerdict
+    requires { ⌜ (Ready (now table)) × (varsIn (now table) ≤ length (now assignment)) × (atomsIn (now table) ≤ length (now levels)) ⌝ }
+    ensures { λ r. ⌜ CheckGives (codeIn (now (table .entry)))
+        (valuesJudged (codeIn (now (table .entry))) assumed (take (variablesOf (codeIn (now (table .entry)))) (now (assignment .entry)))) r
+        (now (assignment .entry)) (now (assignment .exit)) (now (levels .entry)) (now (levels .exit)) ⌝ }
 {
-    let j = first_false(
-        t,
-        heads,
-        starts,
-        bodies,
-        before,
-        partners,
-        owners,
-        &*assignment,
-    );
+    let t = totals(table);
+    let j = first_false(table, &*assignment);
     if 0 < j {
         return refuse_zeroed(CheckRefusal::FalseClause(j), t.vars, &mut *assignment);
     }
@@ -70,42 +51,26 @@ fn judge<'a>(
 
 // Rows 13 and 14, by how the literals of the answer were assigned, then row 16, for the values that they gave, completed.
 pub fn assigned<'a>(
-    t: Totals,
-    heads: &'a [u16],
-    starts: &'a [u16],
-    bodies: &'a [u16],
-    before: &'a [u16],
-    partners: &'a [u16],
-    owners: &'a [u16],
+    table: &'a [u16],
     x: AnswerRead,
     values: &'a [u8],
     assignment: &mut [u8],
     levels: &mut [u8],
 ) -> CheckVerdict
-    requires { ⌜ (Ready t (now heads) (now starts) (now bodies) (now before) (now partners) (now owners)) × (t .vars ≤ length (now values))
-        × (t .vars ≤ length (now assignment)) × (t .sizes .n ≤ length (now levels)) ⌝ }
-    ensures { λ r. ⌜ CheckGives (codeIn t (now (heads .entry)) (now (starts .entry)) (now (bodies .entry)))
+    requires { ⌜ (Ready (now table)) × (varsIn (now table) ≤ length (now values)) × (varsIn (now table) ≤ length (now assignment))
+        × (atomsIn (now table) ≤ length (now levels)) ⌝ }
+    ensures { λ r. ⌜ CheckGives (codeIn (now (table .entry)))
         (afterAssigning (outcomeOf (x .outcome))
-        (valuesJudged (codeIn t (now (heads .entry)) (now (starts .entry)) (now (bodies .entry))) (x .assumed)
-        (completed (take (t .vars) (now (values .entry)))))) r (now (assignment .entry)) (now (assignment .exit)) (now (levels .entry))
-        (now (levels .exit)) ⌝ }
+        (valuesJudged (codeIn (now (table .entry))) (x .assumed)
+        (completed (take (variablesOf (codeIn (now (table .entry)))) (now (values .entry)))))) r (now (assignment .entry)) (now (assignment .exit))
+        (now (levels .entry)) (now (levels .exit)) ⌝ }
 {
+    let t = totals(table);
     let o = x.outcome;
     match o {
         Assigned::Done => {
             copy_completed(values, t.vars, &mut *assignment);
-            judge(
-                t,
-                heads,
-                starts,
-                bodies,
-                before,
-                partners,
-                owners,
-                x.assumed,
-                &mut *assignment,
-                &mut *levels,
-            )
+            judge(table, x.assumed, &mut *assignment, &mut *levels)
         }
         Assigned::Stray(s) => {
             refuse_zeroed(CheckRefusal::StrayVariable(s), t.vars, &mut *assignment)

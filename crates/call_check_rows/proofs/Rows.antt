@@ -117,10 +117,6 @@ module _ {G : Code} {t : Totals} {hs ss bs ks xs ys : List ℕ} (T : Tabled G t 
   pub vars-few : t .vars ≤ 9890
   vars-few = vars-short T
 
-  -- what holds of V holds of the number of variables that the totals have
-  at-vars : (Q : ℕ → Type 0) → Q (variablesOf G) → Q (t .vars)
-  at-vars Q q = subst Q (sym vars-is) q
-
   pub counters-asks : {b l : ℕ} → t .vars ≤ b → t .sizes .n ≤ l → (Bounded (t .sizes)) × (t .sizes .n + 2 * t .sizes .m + t .sizes .n * t .sizes .w ≤ b) × (t .sizes .n ≤ l)
   counters-asks {b} {l} h g =
       (bounded G t hs ss bs ks xs ys T, subst (λ (s : Sizes). s .n + 2 * s .m + s .n * s .w ≤ b) (sym sizes-are) (levels-room G (subst (λ (k : ℕ). k ≤ b) vars-is h)), g)
@@ -135,23 +131,21 @@ module _ {G : Code} {t : Totals} {hs ss bs ks xs ys : List ℕ} (T : Tabled G t 
     false-is = false-front G (T .limits) b ∙ sym f
 
     pub judged-false : 0 < j → {r : CheckVerdict} {c : List ℕ} → (r ≡ Refused (FalseClause j)) × (c ≡ overwritten (t .vars) 0 b)
-        → CheckGives G (valuesJudged G u (take (t .vars) b)) r b c l l
+        → CheckGives G (valuesJudged G u (take (variablesOf G) b)) r b c l l
     judged-false h {r} {c} w =
-        at-vars (λ k. CheckGives G (valuesJudged G u (take k b)) r b c l l)
-        (gives-zeroed G (judged-16 G u (take (variablesOf G) b) (subst (λ (k : ℕ). 0 < k) (sym false-is) h) ∙ ap (λ (k : ℕ). checkRefused (FalseClause k)) false-is) b l refl
-        (w .0, w .1 ∙ ap (λ (k : ℕ). overwritten k 0 b) vars-is))
+        gives-zeroed G (judged-16 G u (take (variablesOf G) b) (subst (λ (k : ℕ). 0 < k) (sym false-is) h) ∙ ap (λ (k : ℕ). checkRefused (FalseClause k)) false-is) b l refl
+        (w .0, w .1 ∙ ap (λ (k : ℕ). overwritten k 0 b) vars-is)
 
     pub judged-accepted : j ≤ 0 → {m : List ℕ} {k h : ℕ} → m ≡ tab (t .sizes .n) (counter (sizesOf (t .sizes)) (valueIn b)) ++ drop (t .sizes .n) l
-        → k ≡ trueCount (t .sizes .n) b → h ≡ highest (t .sizes .n) (levelByte m) → CheckGives G (valuesJudged G u (take (t .vars) b)) (Model k h u) b b l m
+        → k ≡ trueCount (t .sizes .n) b → h ≡ highest (t .sizes .n) (levelByte m) → CheckGives G (valuesJudged G u (take (variablesOf G) b)) (Model k h u) b b l m
     judged-accepted g {m} {k} {h} x y w =
-        at-vars (λ k′. CheckGives G (valuesJudged G u (take k′ b)) (Model k h u) b b l m)
-        (subst (λ (q : Result CheckRefusal). CheckGives G q (Model k h u) b b l m)
+        subst (λ (q : Result CheckRefusal). CheckGives G q (Model k h u) b b l m)
         (sym (judged-none G u (take (variablesOf G) b) (subst (λ (k : ℕ). k ≤ 0) (sym false-is) g))) (
           ap₂ (λ (x y : ℕ). Model x y u) (y ∙ ap (λ (i : ℕ). trueCount i b) atoms-is ∙ sym (true-front G (T .limits) b))
               (w ∙ ap (λ (i : ℕ). highest i (levelByte m)) atoms-is ∙ highest-same (G .n) (levelByte m) (levelByte cs) same-level),
           sym (take-append-drop (variablesOf G) b),
           levels-are,
-        ))
+        )
       where
         cs : List ℕ
         cs = counters (codeSizes G) (take (variablesOf G) b)
@@ -170,25 +164,29 @@ module _ {G : Code} {t : Totals} {hs ss bs ks xs ys : List ℕ} (T : Tabled G t 
 
   module _ (u : ℕ) (vs b l : List ℕ) where
     abbrev values : List ℕ
-    values = completed (take (t .vars) vs)
+    values = completed (take (variablesOf G) vs)
 
     abbrev next : Assigned → Result CheckRefusal
     next o = afterAssigning (outcomeOf o) (valuesJudged G u values)
 
     -- o says that each literal is assigned; b₂ is the buffer with the values vs, completed
-    pub assigned-judged : {o : Assigned} → o ≡ Done → t .vars ≤ length vs → {b₂ : List ℕ} → b₂ ≡ values ++ drop (t .vars) b → {r : CheckVerdict} {c m : List ℕ}
-        → CheckGives G (valuesJudged G u (take (t .vars) b₂)) r b₂ c l m → CheckGives G (next o) r b c l m
+    pub assigned-judged : {o : Assigned} → o ≡ Done → t .vars ≤ length vs → {b₂ : List ℕ} → b₂ ≡ completed (take (t .vars) vs) ++ drop (t .vars) b
+        → {r : CheckVerdict} {c m : List ℕ} → CheckGives G (valuesJudged G u (take (variablesOf G) b₂)) r b₂ c l m → CheckGives G (next o) r b c l m
     assigned-judged d h {b₂} e {r} {c} {m} w =
         subst (λ (a : Assigned). CheckGives G (next a) r b c l m) (sym d) (then (subst (λ (y : List ℕ). CheckGives G (valuesJudged G u y) r b₂ c l m) front-is w))
       where
-        front-length : length values ≡ t .vars
-        front-length = length-map (take (t .vars) vs) completedByte ∙ length-take-le (t .vars) vs h
+        -- with V
+        whole : b₂ ≡ values ++ drop (variablesOf G) b
+        whole = e ∙ ap (λ (k : ℕ). completed (take k vs) ++ drop k b) vars-is
 
-        front-is : take (t .vars) b₂ ≡ values
-        front-is = ap (take (t .vars)) e ∙ take-at values (drop (t .vars) b) (t .vars) front-length
+        front-length : length values ≡ variablesOf G
+        front-length = length-map (take (variablesOf G) vs) completedByte ∙ length-take-le (variablesOf G) vs (subst (λ (k : ℕ). k ≤ length vs) vars-is h)
+
+        front-is : take (variablesOf G) b₂ ≡ values
+        front-is = ap (take (variablesOf G)) whole ∙ take-at values (drop (variablesOf G) b) (variablesOf G) front-length
 
         rest-is : drop (variablesOf G) b₂ ≡ drop (variablesOf G) b
-        rest-is = subst (λ (k : ℕ). drop k b₂ ≡ drop k b) vars-is (ap (drop (t .vars)) e ∙ drop-at values (drop (t .vars) b) (t .vars) front-length)
+        rest-is = ap (drop (variablesOf G)) whole ∙ drop-at values (drop (variablesOf G) b) (variablesOf G) front-length
 
         then : CheckGives G (valuesJudged G u values) r b₂ c l m → CheckGives G (valuesJudged G u values) r b c l m
         then w = (w .0, w .1 ∙ judged-rest G u values b₂ b rest-is, w .2)
@@ -232,9 +230,10 @@ module _ {G : Code} {t : Totals} {hs ss bs ks xs ys : List ℕ} (T : Tabled G t 
     any-assumed (Stray s) k bs = refl
     any-assumed (Repeated s) k bs = refl
 
-    assigned-is : afterAssigning (outcomeOf o) (valuesJudged G u (completed (take (t .vars) vs))) ≡ assignedResult G answer i
+    assigned-is : afterAssigning (outcomeOf o) (valuesJudged G u (completed (take (variablesOf G) vs))) ≡ assignedResult G answer i
     assigned-is =
-        ap (λ (k : ℕ). afterAssigning (outcomeOf o) (valuesJudged G k (completed (take (t .vars) vs)))) z
+        ap (λ (k : ℕ). afterAssigning (outcomeOf o) (valuesJudged G u (completed (take k vs)))) (sym vars-is)
+        ∙ ap (λ (k : ℕ). afterAssigning (outcomeOf o) (valuesJudged G k (completed (take (t .vars) vs)))) z
         ∙ any-assumed o (unsetCount (t .vars) vs) (completed (take (t .vars) vs))
         ∙ ap (λ (k : ℕ). afterAssigning (outcomeOf o) (valuesJudged G k (completed (take (t .vars) vs)))) (sym (unset-front vs (t .vars)))
         ∙ ap₂ (λ (a : Outcome) (y : List ℕ). afterAssigning a (valuesJudged G (unsetCount (t .vars) y) (completed y))) outcome-is values-are
@@ -284,7 +283,7 @@ module _ {G : Code} {t : Totals} {hs ss bs ks xs ys : List ℕ} (T : Tabled G t 
           pub form-model : {i : ℕ} → f ≡ FormModel i → (z : ℕ) → t .vars ≤ z → {o : Assigned} {vs : List ℕ} {u : ℕ}
               → o ≡ assignedFor (readOutcome (t .vars) answer (replicate z 2)) → vs ≡ readBytes (t .vars) answer (replicate z 2)
               → u ≡ assumedBy f o (unsetCount (t .vars) vs) → {r : CheckVerdict} {c m : List ℕ}
-              → CheckGives G (afterAssigning (outcomeOf o) (valuesJudged G u (completed (take (t .vars) vs)))) r b c l m → CheckGives G x r b c l m
+              → CheckGives G (afterAssigning (outcomeOf o) (valuesJudged G u (completed (take (variablesOf G) vs)))) r b c l m → CheckGives G x r b c l m
           form-model q z h {o} {vs} p v n {r} {c} {m} w =
               subst (λ (y : Result CheckRefusal). CheckGives G y r b c l m)
               (assigned-is answer (sym e ∙ q) z h p v (n ∙ ap (λ (g : Formed). assumedBy g o (unsetCount (t .vars) vs)) q) ∙ sym (by-form q)) w

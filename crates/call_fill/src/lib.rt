@@ -2,9 +2,8 @@
 use call_fill_found::fill_founded;
 use call_fill_found::first_bad;
 use call_fill_rows::FillVerdict;
-use clause_tables::Totals;
-use clause_tabling::pairs_of;
-use clause_tabling::totals_of;
+use clause_cells::totals;
+use clause_tabling::prepare;
 use program::Program;
 use reader::ReadVerdict;
 use reader::read;
@@ -13,29 +12,23 @@ ghost use mathlib.Core.Path.{_≡_};
 ghost use lib.ListN.{length};
 ghost use Rattle.encoding.specs.Code.{codeOf};
 ghost use Rattle.program.specs.Arrays.{decoded};
-ghost use Rattle.clause_tables.specs.Tables.{Stored, codeIn, Ready};
+ghost use Rattle.clause_tables.specs.Tables.{Stored, Ready, codeIn};
 ghost use Rattle.call_results.specs.Results.{called};
 ghost use Rattle.call_fill_rows.specs.FillOut.{FillGives, fillResult, fillCall};
 
 // Rows 8, 17 and 18, for the tables of a program; if none is met, the assignment and the levels are written.
 fn fill_in<'a>(
-    t: Totals,
-    heads: &'a [u16],
-    starts: &'a [u16],
-    bodies: &'a [u16],
-    before: &'a [u16],
-    partners: &'a [u16],
-    owners: &'a [u16],
+    table: &'a [u16],
     set: &'a [u8],
     assignment: &mut [u8],
     levels: &mut [u8],
 ) -> FillVerdict
-    requires { ⌜ Ready t (now heads) (now starts) (now bodies) (now before) (now partners) (now owners) ⌝ }
-    ensures { λ r. ⌜ FillGives (codeIn t (now (heads .entry)) (now (starts .entry)) (now (bodies .entry)))
-        (fillResult (codeIn t (now (heads .entry)) (now (starts .entry)) (now (bodies .entry))) (now (set .entry))
-        (length (now (assignment .entry))) (length (now (levels .entry)))) r (now (assignment .entry)) (now (assignment .exit))
-        (now (levels .entry)) (now (levels .exit)) ⌝ }
+    requires { ⌜ Ready (now table) ⌝ }
+    ensures { λ r. ⌜ FillGives (codeIn (now (table .entry)))
+        (fillResult (codeIn (now (table .entry))) (now (set .entry)) (length (now (assignment .entry))) (length (now (levels .entry)))) r
+        (now (assignment .entry)) (now (assignment .exit)) (now (levels .entry)) (now (levels .exit)) ⌝ }
 {
+    let t = totals(table);
     if assignment.len() < t.vars {
         return FillVerdict::Refused(FillRefusal::ShortBuffer(t.vars));
     }
@@ -50,41 +43,19 @@ fn fill_in<'a>(
     if 0 < i {
         return FillVerdict::Refused(FillRefusal::BadSet(i - 1));
     }
-    fill_founded(
-        t,
-        heads,
-        starts,
-        bodies,
-        before,
-        partners,
-        owners,
-        set,
-        &mut *assignment,
-        &mut *levels,
-    )
+    fill_founded(table, set, &mut *assignment, &mut *levels)
 }
 
 // Filling out for a program that was read.
 fn fill_program(p: Program, set: &[u8], assignment: &mut [u8], levels: &mut [u8]) -> FillVerdict
     requires { ⌜ Stored p ⌝ }
     ensures { λ r. ⌜ FillGives (codeOf (decoded p))
-        (fillResult (codeOf (decoded p)) (now (set .entry)) (length (now (assignment .entry))) (length (now (levels .entry)))) r (now (assignment .entry))
-        (now (assignment .exit)) (now (levels .entry)) (now (levels .exit)) ⌝ }
+        (fillResult (codeOf (decoded p)) (now (set .entry)) (length (now (assignment .entry))) (length (now (levels .entry)))) r
+        (now (assignment .entry)) (now (assignment .exit)) (now (levels .entry)) (now (levels .exit)) ⌝ }
 {
-    let k = pairs_of(p);
-    let t = totals_of(p, k.count, k.empty);
-    fill_in(
-        t,
-        &p.heads,
-        &p.starts,
-        &p.bodies,
-        &k.before,
-        &k.bodies,
-        &k.heads,
-        set,
-        &mut *assignment,
-        &mut *levels,
-    )
+    let mut table = [0u16; 3518];
+    prepare(p, &mut table);
+    fill_in(&table, set, &mut *assignment, &mut *levels)
 }
 
 // Whether the set, one byte for each atom, is a stable model: how many atoms are true, and the highest level; its assignment and its levels are written.

@@ -2,7 +2,7 @@
 use call_fill_rows::FillVerdict;
 use call_results::highest_of;
 use call_results::true_count;
-use clause_tables::Totals;
+use clause_cells::totals;
 use clause_text::put_word;
 use level_fill::put_filled;
 use level_stages::first_difference;
@@ -14,7 +14,7 @@ ghost use mathlib.Core.List.{_++_};
 ghost use lib.ListN.{length, drop};
 ghost use Rattle.lists.specs.Lists.{tab};
 ghost use Rattle.encoding.specs.Code.{levelOf};
-ghost use Rattle.clause_tables.specs.Tables.{codeIn, Ready};
+ghost use Rattle.clause_tables.specs.Tables.{Ready, codeIn, atomsIn, varsIn};
 ghost use Rattle.level_stages.specs.Levels.{setIn};
 ghost use Rattle.call_fill_rows.specs.FillOut.{firstBad, FillGives, foundedResult};
 
@@ -34,89 +34,44 @@ pub fn first_bad(set: &[u8]) -> usize
 
 // Row 18, for the atoms whose byte is not 0, by their levels; if it is not met, the assignment and the levels are written.
 fn fill_found<'a>(
-    t: Totals,
-    heads: &'a [u16],
-    starts: &'a [u16],
-    bodies: &'a [u16],
-    before: &'a [u16],
-    partners: &'a [u16],
-    owners: &'a [u16],
+    table: &'a [u16],
     set: &'a [u8],
     found: &'a [u8],
     assignment: &mut [u8],
     levels: &mut [u8],
 ) -> FillVerdict
-    requires { ⌜ (Ready t (now heads) (now starts) (now bodies) (now before) (now partners) (now owners)) × (t .sizes .n ≤ length (now set))
-        × (now found
-        ≡ tab (t .sizes .n) (levelOf (codeIn t (now heads) (now starts) (now bodies)) (setIn (t .sizes .n) (now set)))
-        ++ drop (t .sizes .n) (now found)) × (t .vars ≤ length (now assignment)) × (t .sizes .n ≤ length (now levels)) ⌝ }
-    ensures { λ r. ⌜ FillGives (codeIn t (now (heads .entry)) (now (starts .entry)) (now (bodies .entry)))
-        (foundedResult (codeIn t (now (heads .entry)) (now (starts .entry)) (now (bodies .entry)))
-        (setIn (t .sizes .n) (now (set .entry)))) r (now (assignment .entry)) (now (assignment .exit)) (now (levels .entry)) (now (levels .exit)) ⌝ }
+    requires { ⌜ (Ready (now table)) × (atomsIn (now table) ≤ length (now set))
+        × (now found ≡ tab (atomsIn (now table)) (levelOf (codeIn (now table)) (setIn (atomsIn (now table)) (now set)))
+        ++ drop (atomsIn (now table)) (now found)) × (varsIn (now table) ≤ length (now assignment)) × (atomsIn (now table) ≤ length (now levels)) ⌝ }
+    ensures { λ r. ⌜ FillGives (codeIn (now (table .entry)))
+        (foundedResult (codeIn (now (table .entry))) (setIn (atomsIn (now (table .entry))) (now (set .entry)))) r (now (assignment .entry))
+        (now (assignment .exit)) (now (levels .entry)) (now (levels .exit)) ⌝ }
 {
+    let t = totals(table);
     let n = t.sizes.n;
     let a = first_difference(n, set, found);
     if 0 < a {
         return FillVerdict::Refused(FillRefusal::Unfounded(a));
     }
-    put_filled(
-        t,
-        heads,
-        starts,
-        bodies,
-        before,
-        partners,
-        owners,
-        set,
-        found,
-        &mut *assignment,
-    );
+    put_filled(table, set, found, &mut *assignment);
     put_word(&found[..n as usize], &mut *levels);
     FillVerdict::Filled(true_count(n, &*assignment), highest_of(n, &*levels))
 }
 
 // Row 18, where the levels are found; if it is not met, the assignment and the levels are written.
 pub fn fill_founded<'a>(
-    t: Totals,
-    heads: &'a [u16],
-    starts: &'a [u16],
-    bodies: &'a [u16],
-    before: &'a [u16],
-    partners: &'a [u16],
-    owners: &'a [u16],
+    table: &'a [u16],
     set: &'a [u8],
     assignment: &mut [u8],
     levels: &mut [u8],
 ) -> FillVerdict
-    requires { ⌜ (Ready t (now heads) (now starts) (now bodies) (now before) (now partners) (now owners)) × (t .sizes .n ≤ length (now set))
-        × (t .vars ≤ length (now assignment)) × (t .sizes .n ≤ length (now levels)) ⌝ }
-    ensures { λ r. ⌜ FillGives (codeIn t (now (heads .entry)) (now (starts .entry)) (now (bodies .entry)))
-        (foundedResult (codeIn t (now (heads .entry)) (now (starts .entry)) (now (bodies .entry)))
-        (setIn (t .sizes .n) (now (set .entry)))) r (now (assignment .entry)) (now (assignment .exit)) (now (levels .entry)) (now (levels .exit)) ⌝ }
+    requires { ⌜ (Ready (now table)) × (atomsIn (now table) ≤ length (now set)) × (varsIn (now table) ≤ length (now assignment))
+        × (atomsIn (now table) ≤ length (now levels)) ⌝ }
+    ensures { λ r. ⌜ FillGives (codeIn (now (table .entry)))
+        (foundedResult (codeIn (now (table .entry))) (setIn (atomsIn (now (table .entry))) (now (set .entry)))) r (now (assignment .entry))
+        (now (assignment .exit)) (now (levels .entry)) (now (levels .exit)) ⌝ }
 {
     let mut found = [0u8; 126];
-    stage_levels(
-        t,
-        heads,
-        starts,
-        bodies,
-        before,
-        partners,
-        owners,
-        set,
-        &mut found,
-    );
-    fill_found(
-        t,
-        heads,
-        starts,
-        bodies,
-        before,
-        partners,
-        owners,
-        set,
-        &found,
-        &mut *assignment,
-        &mut *levels,
-    )
+    stage_levels(table, set, &mut found);
+    fill_found(table, set, &found, &mut *assignment, &mut *levels)
 }

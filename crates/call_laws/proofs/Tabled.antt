@@ -5,8 +5,7 @@ use mathlib.Core.Path.{_≡_, sym, _∙_, ap, subst}
 use mathlib.Core.Logic.{⊎-elim}
 use mathlib.Core.List.{List}
 use Rattle.lists.proofs.Tests.{le-or-lt}
-use Rattle.encoding.specs.Clauses.{pairCount, emptyBodies}
-use Rattle.encoding.specs.Code.{Code, codeOf}
+use Rattle.encoding.specs.Code.{codeOf}
 use Rattle.program.specs.declared.Program.{Program as Arrays}
 use Rattle.program.specs.Arrays.{decoded}
 use Rattle.reader.specs.declared.ReadResult.{ReadResult}
@@ -16,31 +15,21 @@ use Rattle.reader.specs.Counted.{countedOf}
 use Rattle.reader.proofs.Counted.{counted-short, counted-long}
 use Rattle.reader_laws.proofs.Rows.{not-both}
 use Rattle.reader_laws.proofs.Contents.{accepted-admitted, admitted-answer}
-use Rattle.clause_tables.specs.declared.Pairs.{Pairs}
-use Rattle.clause_tables.specs.declared.Totals.{Totals}
-use Rattle.clause_tables.specs.Tables.{Stored, Tabled, pairTable, totalsOf, codeIn, Ready}
-use Rattle.clause_table_laws.proofs.Elements.{codeIn-is, ready, kept-stored}
+use Rattle.clause_tables.specs.Tables.{Stored, TableOf, Ready, tableOf, codeIn}
+use Rattle.clause_table_laws.proofs.Elements.{program-limited, kept-stored}
+use Rattle.clause_table_laws.proofs.Cells.{code-held, ready}
 
 -- ---- from the arrays of a program
 
-module _ {A : Arrays} (S : Stored A) where
-  module _ {k : Pairs} (e : k ≡ pairTable (decoded A)) where
-    pub totals-asks : Stored A × (k .count ≡ pairCount (decoded A)) × (k .empty ≡ emptyBodies (decoded A))
-    unfolding pairTable
-    totals-asks = (S, ap (λ (x : Pairs). x .count) e, ap (λ (x : Pairs). x .empty) e)
+module _ {A : Arrays} (S : Stored A) {tb : List ℕ} (e : tb ≡ tableOf (codeOf (decoded A))) where
+  pub made : TableOf (codeOf (decoded A)) tb
+  made = record { limits = program-limited (decoded A) (S .limits); table-is = e }
 
-    pub ready-of : {t : Totals} → t ≡ totalsOf (codeOf (decoded A)) → Ready t (A .heads) (A .starts) (A .bodies) (k .before) (k .bodies) (k .heads)
-    ready-of {t} f =
-        subst (λ (x : Pairs). Ready t (A .heads) (A .starts) (A .bodies) (x .before) (x .bodies) (x .heads)) (sym e)
-        (subst (λ (x : Totals). Ready x (A .heads) (A .starts) (A .bodies) (pairTable (decoded A) .before) (pairTable (decoded A) .bodies) (pairTable (decoded A) .heads)) (sym f) (ready A S))
+  pub made-code : codeIn tb ≡ codeOf (decoded A)
+  made-code = ap codeIn e ∙ code-held (codeOf (decoded A)) (made .limits)
 
-pub code-is : (A : Arrays) {t : Totals} → t ≡ totalsOf (codeOf (decoded A)) → codeIn t (A .heads) (A .starts) (A .bodies) ≡ codeOf (decoded A)
-code-is A {t} f = codeIn-is A t f
-
-pub tabled : {A : Arrays} → Stored A → {k : Pairs} → k ≡ pairTable (decoded A) → {t : Totals} → t ≡ totalsOf (codeOf (decoded A))
-    → Tabled (codeOf (decoded A)) t (A .heads) (A .starts) (A .bodies) (k .before) (k .bodies) (k .heads)
-tabled {A} S {k} e {t} f =
-    subst (λ (G : Code). Tabled G t (A .heads) (A .starts) (A .bodies) (k .before) (k .bodies) (k .heads)) (code-is A f) (ready-of S e f)
+  pub made-ready : Ready tb
+  made-ready = subst (λ (x : List ℕ). Ready x) (sym e) (ready (codeOf (decoded A)) (made .limits))
 
 -- ---- from the text
 

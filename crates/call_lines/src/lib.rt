@@ -1,13 +1,12 @@
 // One line of the clause file, and a run of lines (document 01, "Clauses, in order").
 use call_lines_rows::LineVerdict;
 use call_lines_rows::RunVerdict;
+use clause_cells::totals;
 use clause_finding::place_of;
 use clause_runs::line_length;
 use clause_runs::put_line;
 use clause_runs::put_lines;
-use clause_tables::Totals;
-use clause_tabling::pairs_of;
-use clause_tabling::totals_of;
+use clause_tabling::prepare;
 use program::Program;
 use reader::ReadVerdict;
 use reader::read;
@@ -17,87 +16,45 @@ ghost use mathlib.Core.Path.{_≡_};
 ghost use lib.ListN.{length};
 ghost use Rattle.encoding.specs.Code.{codeOf};
 ghost use Rattle.program.specs.Arrays.{decoded};
-ghost use Rattle.clause_tables.specs.Tables.{Stored, codeIn, Ready};
+ghost use Rattle.clause_tables.specs.Tables.{Stored, Ready, codeIn};
 ghost use Rattle.clause_runs.specs.Lines.{codeRunBytes};
 ghost use Rattle.call_lines_rows.specs.Lines.{answerIn, lineBytesIn, runAnswerIn, answered, lineCall, runCall};
 
 // Line j into the buffer from place `from` on.
-fn line_in<'a>(
-    t: Totals,
-    heads: &'a [u16],
-    starts: &'a [u16],
-    bodies: &'a [u16],
-    before: &'a [u16],
-    partners: &'a [u16],
-    owners: &'a [u16],
-    j: usize,
-    from: usize,
-    buf: &mut [u8],
-) -> LineVerdict
-    requires { ⌜ Ready t (now heads) (now starts) (now bodies) (now before) (now partners) (now owners) ⌝ }
-    ensures { λ r. ⌜ (r
-        ≡ answerIn (codeIn t (now (heads .entry)) (now (starts .entry)) (now (bodies .entry))) j (length (now (buf .entry)) - from))
-        × (now (buf .exit)
-        ≡ lineBytesIn (codeIn t (now (heads .entry)) (now (starts .entry)) (now (bodies .entry))) j from (now (buf .entry))) ⌝ }
+fn line_in(table: &[u16], j: usize, from: usize, buf: &mut [u8]) -> LineVerdict
+    requires { ⌜ Ready (now table) ⌝ }
+    ensures { λ r. ⌜ (r ≡ answerIn (codeIn (now (table .entry))) j (length (now (buf .entry)) - from))
+        × (now (buf .exit) ≡ lineBytesIn (codeIn (now (table .entry))) j from (now (buf .entry))) ⌝ }
 {
+    let t = totals(table);
     if t.clauses < j {
         return LineVerdict::Refused(LineRefusal::NoSuchClause(t.clauses));
     }
-    let c = place_of(t, heads, starts, bodies, before, partners, owners, j);
-    let need = line_length(t, heads, starts, bodies, before, partners, owners, c);
+    let c = place_of(table, j);
+    let need = line_length(table, c);
     if buf.len() < from {
         return LineVerdict::Refused(LineRefusal::ShortBuffer(need));
     }
     if buf.len() - from < need {
         return LineVerdict::Refused(LineRefusal::ShortBuffer(need));
     }
-    LineVerdict::Written(put_line(
-        t,
-        heads,
-        starts,
-        bodies,
-        before,
-        partners,
-        owners,
-        c,
-        &mut buf[from..],
-    ))
+    LineVerdict::Written(put_line(table, c, &mut buf[from..]))
 }
 
 // The lines from line j on, as many as fit the buffer.
-fn run_in<'a>(
-    t: Totals,
-    heads: &'a [u16],
-    starts: &'a [u16],
-    bodies: &'a [u16],
-    before: &'a [u16],
-    partners: &'a [u16],
-    owners: &'a [u16],
-    j: usize,
-    buf: &mut [u8],
-) -> RunVerdict
-    requires { ⌜ Ready t (now heads) (now starts) (now bodies) (now before) (now partners) (now owners) ⌝ }
-    ensures { λ r. ⌜ (r
-        ≡ runAnswerIn (codeIn t (now (heads .entry)) (now (starts .entry)) (now (bodies .entry))) j (length (now (buf .entry))))
-        × (now (buf .exit) ≡ codeRunBytes (codeIn t (now (heads .entry)) (now (starts .entry)) (now (bodies .entry))) j (now (buf .entry))) ⌝ }
+fn run_in(table: &[u16], j: usize, buf: &mut [u8]) -> RunVerdict
+    requires { ⌜ Ready (now table) ⌝ }
+    ensures { λ r. ⌜ (r ≡ runAnswerIn (codeIn (now (table .entry))) j (length (now (buf .entry))))
+        × (now (buf .exit) ≡ codeRunBytes (codeIn (now (table .entry))) j (now (buf .entry))) ⌝ }
 {
+    let t = totals(table);
     if t.clauses < j {
         return RunVerdict::RefusedRun(LineRefusal::NoSuchClause(t.clauses));
     }
-    let c = place_of(t, heads, starts, bodies, before, partners, owners, j);
-    let part = put_lines(
-        t,
-        heads,
-        starts,
-        bodies,
-        before,
-        partners,
-        owners,
-        c,
-        &mut *buf,
-    );
+    let c = place_of(table, j);
+    let part = put_lines(table, c, &mut *buf);
     if part.lines == 0 {
-        let need = line_length(t, heads, starts, bodies, before, partners, owners, c);
+        let need = line_length(table, c);
         return RunVerdict::RefusedRun(LineRefusal::ShortBuffer(need));
     }
     RunVerdict::WrittenRun(part.lines, part.bytes)
@@ -109,20 +66,9 @@ fn line_of(p: Program, j: usize, from: usize, buf: &mut [u8]) -> LineVerdict
     ensures { λ r. ⌜ (r ≡ answerIn (codeOf (decoded p)) j (length (now (buf .entry)) - from))
         × (now (buf .exit) ≡ lineBytesIn (codeOf (decoded p)) j from (now (buf .entry))) ⌝ }
 {
-    let k = pairs_of(p);
-    let t = totals_of(p, k.count, k.empty);
-    line_in(
-        t,
-        &p.heads,
-        &p.starts,
-        &p.bodies,
-        &k.before,
-        &k.bodies,
-        &k.heads,
-        j,
-        from,
-        &mut *buf,
-    )
+    let mut table = [0u16; 3518];
+    prepare(p, &mut table);
+    line_in(&table, j, from, &mut *buf)
 }
 
 // A run of lines of a program that was read, from line j on.
@@ -131,19 +77,9 @@ fn run_of(p: Program, j: usize, buf: &mut [u8]) -> RunVerdict
     ensures { λ r. ⌜ (r ≡ runAnswerIn (codeOf (decoded p)) j (length (now (buf .entry))))
         × (now (buf .exit) ≡ codeRunBytes (codeOf (decoded p)) j (now (buf .entry))) ⌝ }
 {
-    let k = pairs_of(p);
-    let t = totals_of(p, k.count, k.empty);
-    run_in(
-        t,
-        &p.heads,
-        &p.starts,
-        &p.bodies,
-        &k.before,
-        &k.bodies,
-        &k.heads,
-        j,
-        &mut *buf,
-    )
+    let mut table = [0u16; 3518];
+    prepare(p, &mut table);
+    run_in(&table, j, &mut *buf)
 }
 
 // Line j of the text's clause file, written into the buffer from place `from` on: its length, or a refusal, which writes nothing.

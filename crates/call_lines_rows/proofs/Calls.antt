@@ -28,7 +28,8 @@ use Rattle.program.specs.Arrays.{decoded}
 use Rattle.text.specs.Limits.{Admitted}
 use Rattle.program.proofs.Decode.{decoded-kept}
 use Rattle.reader_laws.proofs.Contents.{admitted-answer}
-use Rattle.clause_tables.specs.Tables.{Tabled, pairTable, totalsOf}
+use Rattle.clause_table_laws.proofs.Elements.{program-limited}
+use Rattle.clause_table_laws.proofs.Cells.{Own, own}
 use Rattle.call_laws.proofs.Tabled.{stored}
 use Rattle.refusals.specs.declared.LineRefusal.{LineRefusal}
 use Rattle.call_lines_rows.specs.declared.LineVerdict.{LineVerdict}
@@ -40,7 +41,6 @@ use Rattle.call_lines_rows.specs.Lines.{afterText, keptBytes, answerIn, 
 use Rattle.call_lines_rows.specs.Rows.{RunWritten}
 use Rattle.clause_runs.proofs.Placed.{total-is, lines-count}
 use Rattle.clause_runs.proofs.Runs.{fitting-few, fitting-room}
-use Rattle.call_laws.proofs.Tabled.{tabled}
 
 -- ---- the verdicts
 
@@ -193,8 +193,8 @@ module _ (t : List ℕ) (v : readOf t .verdict ≡ Accepted) where
   abbrev P : Program
   P = decoded (readOf t .program)
 
-  T : Tabled (codeOf P) (totalsOf (codeOf P)) (readOf t .program .heads) (readOf t .program .starts) (readOf t .program .bodies) (pairTable P .before) (pairTable P .bodies) (pairTable P .heads)
-  T = tabled (stored t v) refl refl
+  T : Own (codeOf P)
+  T = own (codeOf P) (program-limited P (stored t v .limits))
 
   lines-many : length (linesOf P) ≡ suc (clauseTotal P)
   lines-many = lines-count T ∙ ap suc (total-is T)

@@ -17,17 +17,15 @@ use Rattle.encoding.specs.Clauses.{clauses, variables}
 use Rattle.encoding.specs.Code.{codeOf, clausesOf}
 use Rattle.theory.proofs.Whole.{variables-whole, clauses-whole}
 use Rattle.digits.specs.Bytes.{lineText}
-use Rattle.program.specs.Arrays.{kept}
 use Rattle.text.specs.Limits.{Limits}
-use Rattle.program.proofs.Decode.{decoded-kept}
-use Rattle.clause_tables.specs.Tables.{Stored, Limited, Tabled, pairTable, totalsOf}
+use Rattle.clause_tables.specs.Tables.{Limited}
+use Rattle.clause_table_laws.proofs.Cells.{Own, own}
 use Rattle.clause_table_laws.proofs.Elements.{program-limited}
 use Rattle.clause_text.specs.Lines.{headerText}
 use Rattle.clause_places.specs.Places.{placeAt, clauseIn}
 use Rattle.clause_places.proofs.Numbers.{clause-at, coordinates-count}
 use Rattle.clause_runs.specs.Lines.{codeLines, clauseTotal, lineOf}
 use Rattle.clause_runs.proofs.Placed.{total-is, line-short}
-use Rattle.call_laws.proofs.Tabled.{tabled}
 
 module _ (P : Program) where
   abbrev w : ℕ
@@ -41,15 +39,8 @@ module _ (P : Program) where
     G : Limited (codeOf P)
     G = program-limited P L
 
-    -- its arrays hold it
-    S : Stored (kept P)
-    S = record { limits = subst Limits (sym (decoded-kept P)) L; arrays-are = ap kept (sym (decoded-kept P)) }
-
-    T : Tabled (codeOf P) (totalsOf (codeOf P)) (kept P .heads) (kept P .starts) (kept P .bodies) (pairTable P .before) (pairTable P .bodies) (pairTable P .heads)
-    T =
-        subst
-        (λ (Q : Program). Tabled (codeOf Q) (totalsOf (codeOf Q)) (kept P .heads) (kept P .starts) (kept P .bodies) (pairTable Q .before) (pairTable Q .bodies) (pairTable Q .heads))
-        (decoded-kept P) (tabled S refl refl)
+    T : Own (codeOf P)
+    T = own (codeOf P) G
 
     pub clause-total : clauseTotal P ≡ length (clauses P w)
     clause-total = ap length (clauses-whole P w)

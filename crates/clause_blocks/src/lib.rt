@@ -1,12 +1,12 @@
 // Whole blocks of groups 4 and 5, which have most of the clauses, written into a lent buffer: the digits of a variable are found once for all clauses of
 // the block that have it (document 01, "Clauses, in order").
+use clause_cells::totals;
 use clause_layout::chain_of_block;
 use clause_literals::Sizes;
 use clause_literals::level_var;
 use clause_literals::next_var;
 use clause_slots::Chain;
 use clause_slots::chain_bit;
-use clause_tables::Totals;
 use digits::Digits;
 use digits::digits_of;
 use digits::put_digits;
@@ -125,7 +125,8 @@ fn level_digits(s: Sizes, a: Atom, j: u16) -> Digits
 // -v(a,1) to -v(a,k), each followed by one space.
 fn put_lower(s: Sizes, a: Atom, k: u16, buf: &mut [u8]) -> usize
     requires { ⌜ (Bounded s) × (0 < a .0) × (a .0 ≤ 126) × (k ≤ 7) × (length (lowerText (sizesOf s) (a .0) k) ≤ length (now buf)) ⌝ }
-    ensures { λ r. ⌜ (r ≡ length (lowerText (sizesOf s) (a .0) k)) × (now (buf .exit) ≡ lowerText (sizesOf s) (a .0) k ++ drop r (now (buf .entry))) ⌝ }
+    ensures { λ r. ⌜ (r ≡ length (lowerText (sizesOf s) (a .0) k))
+        × (now (buf .exit) ≡ lowerText (sizesOf s) (a .0) k ++ drop r (now (buf .entry))) ⌝ }
 {
     let mut j: u16 = 0;
     let mut at: usize = 0;
@@ -149,7 +150,8 @@ fn put_pair(x: Digits, u: Digits, v: Digits, buf: &mut [u8]) -> usize
 // The two lines of each of the k lowest bits.
 fn put_pairs(s: Sizes, a: Atom, k: u16, u: Digits, v: Digits, buf: &mut [u8]) -> usize
     requires { ⌜ (Bounded s) × (0 < a .0) × (a .0 ≤ 126) × (k ≤ 7) × (length (pairsText (sizesOf s) (a .0) k u v) ≤ length (now buf)) ⌝ }
-    ensures { λ r. ⌜ (r ≡ length (pairsText (sizesOf s) (a .0) k u v)) × (now (buf .exit) ≡ pairsText (sizesOf s) (a .0) k u v ++ drop r (now (buf .entry))) ⌝ }
+    ensures { λ r. ⌜ (r ≡ length (pairsText (sizesOf s) (a .0) k u v))
+        × (now (buf .exit) ≡ pairsText (sizesOf s) (a .0) k u v ++ drop r (now (buf .entry))) ⌝ }
 {
     let mut j: u16 = 0;
     let mut at: usize = 0;
@@ -174,7 +176,8 @@ fn put_long(s: Sizes, a: Atom, k: u16, p: bool, u: Digits, v: Digits, buf: &mut 
 // Group 4, atom a: the lines of block i.
 fn put_next_block(s: Sizes, a: Atom, i: u16, buf: &mut [u8]) -> usize
     requires { ⌜ (Bounded s) × (0 < a .0) × (a .0 ≤ 126) × (0 < i) × (i ≤ 7) × (length (nextBlockText (sizesOf s) (a .0) i) ≤ length (now buf)) ⌝ }
-    ensures { λ r. ⌜ (r ≡ length (nextBlockText (sizesOf s) (a .0) i)) × (now (buf .exit) ≡ nextBlockText (sizesOf s) (a .0) i ++ drop r (now (buf .entry))) ⌝ }
+    ensures { λ r. ⌜ (r ≡ length (nextBlockText (sizesOf s) (a .0) i))
+        × (now (buf .exit) ≡ nextBlockText (sizesOf s) (a .0) i ++ drop r (now (buf .entry))) ⌝ }
 {
     let u = digits_of(next_var(s, a, i).0);
     let v = level_digits(s, a, i);
@@ -187,30 +190,15 @@ fn put_next_block(s: Sizes, a: Atom, i: u16, buf: &mut [u8]) -> usize
 // ---- both groups
 
 // The lines of the clauses of block i of item a of group g.
-pub fn put_block<'a>(
-    t: Totals,
-    heads: &'a [u16],
-    starts: &'a [u16],
-    bodies: &'a [u16],
-    before: &'a [u16],
-    partners: &'a [u16],
-    owners: &'a [u16],
-    g: u16,
-    a: u16,
-    i: u16,
-    buf: &mut [u8],
-) -> usize
-    requires { ⌜ (Ready t (now heads) (now starts) (now bodies) (now before) (now partners) (now owners))
-        × (BlockAt (codeIn t (now heads) (now starts) (now bodies)) g a i) × (isBlockwise g ≡ true)
-        × (length (blockText (codeIn t (now heads) (now starts) (now bodies)) g a i) ≤ length (now buf)) ⌝ }
-    ensures { λ r. ⌜ (r
-        ≡ length (blockText (codeIn t (now (heads .entry)) (now (starts .entry)) (now (bodies .entry))) g a i))
-        × (now (buf .exit)
-        ≡ blockText (codeIn t (now (heads .entry)) (now (starts .entry)) (now (bodies .entry))) g a i
-        ++ drop r (now (buf .entry))) ⌝ }
+pub fn put_block(table: &[u16], g: u16, a: u16, i: u16, buf: &mut [u8]) -> usize
+    requires { ⌜ (Ready (now table)) × (BlockAt (codeIn (now table)) g a i) × (isBlockwise g ≡ true)
+        × (length (blockText (codeIn (now table)) g a i) ≤ length (now buf)) ⌝ }
+    ensures { λ r. ⌜ (r ≡ length (blockText (codeIn (now (table .entry))) g a i))
+        × (now (buf .exit) ≡ blockText (codeIn (now (table .entry))) g a i ++ drop r (now (buf .entry))) ⌝ }
 {
+    let t = totals(table);
     if g == 5 {
-        let c = chain_of_block(t, heads, starts, bodies, before, partners, owners, g, a, i);
+        let c = chain_of_block(table, g, a, i);
         return put_bit(c, chain_bit(t.sizes.w, i), &mut *buf);
     }
     put_next_block(t.sizes, Atom(a), i, &mut *buf)

@@ -19,8 +19,6 @@ use mathlib.Core.List.{List}
 use lib.Dec.{eqb, leb}
 use lib.ListN.{length, getD, take}
 use lib.Seq.{getD-take, length-take-le}
-use mir.Syntax.{w16}
-use mir.Val.{Fits}
 use borrow.Author.Tests.{eq-eqb, ne-eqb, le-leb, lt-leb}
 use Rattle.encoding.specs.Code.{Code}
 use Rattle.lists.proofs.Tables.{sum-ext}
@@ -94,9 +92,9 @@ module _ (hs : List ℕ) (a i : ℕ) where
   pub count-fits : lowCount i hs a ≤ i
   count-fits = count-le i (λ r. leb (getD hs (pred r) 0) a)
 
--- an element that the code reads is one of 16 bits
-pub element-fits : (xs : List ℕ) (k : ℕ) {x : ℕ} → ((i : ℕ) → Fits w16 (getD xs i 0)) → x ≡ getD xs k 0 → Fits w16 x
-element-fits xs k f e = subst (λ (n : ℕ). Fits w16 n) (sym e) (f k)
+-- where the lists of a rule after the last one would begin
+pub last-start : (m : ℕ) → 2 * (m + 1 - 1) + 0 ≡ 2 * m
+last-start m = omega arith
 
 -- the first m heads
 pub count-front : (m : ℕ) (hs : List ℕ) (a : ℕ) → m ≤ length hs → lowCount (length (take m hs)) (take m hs) a ≡ lowCount m hs a
@@ -118,12 +116,6 @@ module _ {G : Code} {t : Totals} {hs ss bs ks xs ys : List ℕ} (T : Tabled G t 
 
   pub width-asks : {x : ℕ} → x ≡ w → (0 < x) × (x ≤ 7)
   width-asks e = (omega (arith, e, elements.width-pos G t hs ss bs ks xs ys T), omega (arith, e, sizes-in .bits))
-
-  pub bodies-asks : (t .sizes .m ≤ 500) × (length ss ≡ 1001)
-  bodies-asks = (sizes-in .rules, elements.starts-length G t hs ss bs ks xs ys T)
-
-  pub heads-asks : (t .sizes .m ≤ 500) × (t .sizes .m ≤ length hs)
-  heads-asks = (sizes-in .rules, omega (arith, sizes-in .rules, elements.heads-length G t hs ss bs ks xs ys T))
 
   -- ---- groups
 

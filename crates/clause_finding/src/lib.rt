@@ -1,18 +1,21 @@
 // The place of clause j, found by passing whole groups, items and blocks.
+use clause_cells::heads;
+use clause_cells::list_start;
+use clause_cells::totals;
 use clause_layout::block_count;
 use clause_layout::items;
 use clause_layout::size;
 use clause_places::Coordinates;
 use clause_places::Place;
 use clause_places::start;
-use clause_tables::Totals;
+use numbers::Rule;
 use numbers::wide;
 ghost use Prim.Native.Nat.{_+_, _*_, _≤_, _<_};
 ghost use mathlib.Core.Path.{_≡_};
 ghost use mathlib.Core.Bool.{false};
 ghost use lib.ListN.{length, getD};
 ghost use Rattle.clause_walk.specs.Walk.{itemCount, blockCount, size as sizeAt, At};
-ghost use Rattle.clause_tables.specs.Tables.{codeIn, Ready};
+ghost use Rattle.clause_tables.specs.Tables.{Ready, codeIn, clausesIn, headsIn, startsIn};
 ghost use Rattle.clause_places.specs.Places.{coordinates, placeAt};
 ghost use Rattle.clause_finding.specs.Falls.{Falls};
 ghost use Rattle.clause_finding.specs.Sizes.{itemSize, groupSize, lowCount, isFixed, fixedSize};
@@ -70,38 +73,29 @@ fn low_count(heads: &[u16], a: u16) -> u16
 }
 
 // Group 2: how many clauses atoms 1 to a have.
-fn atoms_size(m: u16, heads: &[u16], a: u16) -> usize
-    requires { ⌜ (m ≤ 500) × (m ≤ length (now heads)) ⌝ }
-    ensures { λ r. ⌜ r ≡ lowCount m (now (heads .entry)) a + a ⌝ }
+fn atoms_size(table: &[u16], m: u16, a: u16) -> usize
+    requires { ⌜ (Ready (now table)) × (m ≤ 500) ⌝ }
+    ensures { λ r. ⌜ r ≡ lowCount m (headsIn (now (table .entry))) a + a ⌝ }
 {
-    wide(low_count(&heads[..m as usize], a)) + wide(a)
+    wide(low_count(heads(table, m), a)) + wide(a)
 }
 
 // Group 1: how many clauses its m rules have, from where the body atoms of the last rule end.
-fn bodies_size(m: u16, starts: &[u16]) -> usize
-    requires { ⌜ (m ≤ 500) × (length (now starts) ≡ 1001) ⌝ }
-    ensures { λ r. ⌜ r ≡ getD (now (starts .entry)) (2 * m) 0 + m ⌝ }
+fn bodies_size(table: &[u16], m: u16) -> usize
+    requires { ⌜ (Ready (now table)) × (m ≤ 500) ⌝ }
+    ensures { λ r. ⌜ r ≡ getD (startsIn (now (table .entry))) (2 * m) 0 + m ⌝ }
 {
-    let end = 2 * wide(m);
-    wide(starts[end]) + wide(m)
+    wide(list_start(table, Rule(m + 1), 0)) + wide(m)
 }
 
 // How many clauses group g has, from 1 to 5.
-fn group_size<'a>(
-    t: Totals,
-    heads: &'a [u16],
-    starts: &'a [u16],
-    bodies: &'a [u16],
-    before: &'a [u16],
-    partners: &'a [u16],
-    owners: &'a [u16],
-    g: u16,
-) -> usize
-    requires { ⌜ (Ready t (now heads) (now starts) (now bodies) (now before) (now partners) (now owners)) × (0 < g) × (g ≤ 5) ⌝ }
-    ensures { λ r. ⌜ r ≡ groupSize (codeIn t (now (heads .entry)) (now (starts .entry)) (now (bodies .entry))) g ⌝ }
+fn group_size(table: &[u16], g: u16) -> usize
+    requires { ⌜ (Ready (now table)) × (0 < g) × (g ≤ 5) ⌝ }
+    ensures { λ r. ⌜ r ≡ groupSize (codeIn (now (table .entry))) g ⌝ }
 {
+    let t = totals(table);
     if g == 1 {
-        return bodies_size(t.sizes.m, starts);
+        return bodies_size(table, t.sizes.m);
     }
     if g == 2 {
         return wide(t.sizes.m) + wide(t.sizes.n);
@@ -110,19 +104,11 @@ fn group_size<'a>(
 }
 
 // The group with the clause after `left` others.
-fn find_group<'a>(
-    t: Totals,
-    heads: &'a [u16],
-    starts: &'a [u16],
-    bodies: &'a [u16],
-    before: &'a [u16],
-    partners: &'a [u16],
-    owners: &'a [u16],
-    left: usize,
-) -> PartFound
-    requires { ⌜ (Ready t (now heads) (now starts) (now bodies) (now before) (now partners) (now owners)) × (left < t .clauses) ⌝ }
-    ensures { λ r. ⌜ Falls 7 (groupSize (codeIn t (now (heads .entry)) (now (starts .entry)) (now (bodies .entry)))) left r ⌝ }
+fn find_group(table: &[u16], left: usize) -> PartFound
+    requires { ⌜ (Ready (now table)) × (left < clausesIn (now table)) ⌝ }
+    ensures { λ r. ⌜ Falls 7 (groupSize (codeIn (now (table .entry)))) left r ⌝ }
 {
+    let t = totals(table);
     let last = t.clauses - wide(t.sizes.n);
     if last <= left {
         return PartFound {
@@ -133,7 +119,7 @@ fn find_group<'a>(
     let mut g: u16 = 1;
     let mut at = left;
     while g < 6 {
-        let k = group_size(t, heads, starts, bodies, before, partners, owners, g);
+        let k = group_size(table, g);
         if at < k {
             return PartFound {
                 number: g,
@@ -150,26 +136,16 @@ fn find_group<'a>(
 }
 
 // Group 2: the atom with the clause after `left` others of the group, by binary search.
-fn find_atom<'a>(
-    t: Totals,
-    heads: &'a [u16],
-    starts: &'a [u16],
-    bodies: &'a [u16],
-    before: &'a [u16],
-    partners: &'a [u16],
-    owners: &'a [u16],
-    left: usize,
-) -> PartFound
-    requires { ⌜ (Ready t (now heads) (now starts) (now bodies) (now before) (now partners) (now owners))
-        × (left < groupSize (codeIn t (now heads) (now starts) (now bodies)) 2) ⌝ }
-    ensures { λ r. ⌜ Falls (itemCount (codeIn t (now (heads .entry)) (now (starts .entry)) (now (bodies .entry))) 2)
-        (itemSize (codeIn t (now (heads .entry)) (now (starts .entry)) (now (bodies .entry))) 2) left r ⌝ }
+fn find_atom(table: &[u16], left: usize) -> PartFound
+    requires { ⌜ (Ready (now table)) × (left < groupSize (codeIn (now table)) 2) ⌝ }
+    ensures { λ r. ⌜ Falls (itemCount (codeIn (now (table .entry))) 2) (itemSize (codeIn (now (table .entry))) 2) left r ⌝ }
 {
+    let t = totals(table);
     let mut low: u16 = 0;
     let mut high = t.sizes.n;
     while low + 1 < high {
         let middle = (low + high) / 2;
-        if left < atoms_size(t.sizes.m, heads, middle) {
+        if left < atoms_size(table, t.sizes.m, middle) {
             high = middle;
         } else {
             low = middle;
@@ -177,32 +153,21 @@ fn find_atom<'a>(
     }
     PartFound {
         number: high,
-        left: left - atoms_size(t.sizes.m, heads, low),
+        left: left - atoms_size(table, t.sizes.m, low),
     }
 }
 
 // The rule of group 1 or 6 with the clause after `left` others of the group.
-fn find_rule<'a>(
-    t: Totals,
-    heads: &'a [u16],
-    starts: &'a [u16],
-    bodies: &'a [u16],
-    before: &'a [u16],
-    partners: &'a [u16],
-    owners: &'a [u16],
-    g: u16,
-    left: usize,
-) -> PartFound
-    requires { ⌜ (Ready t (now heads) (now starts) (now bodies) (now before) (now partners) (now owners)) × (0 < g) × (g ≤ 7) × (isFixed g ≡ false)
-        × (g ≡ 2 → ⊥) × (left < groupSize (codeIn t (now heads) (now starts) (now bodies)) g) ⌝ }
-    ensures { λ r. ⌜ Falls (itemCount (codeIn t (now (heads .entry)) (now (starts .entry)) (now (bodies .entry))) g)
-        (itemSize (codeIn t (now (heads .entry)) (now (starts .entry)) (now (bodies .entry))) g) left r ⌝ }
+fn find_rule(table: &[u16], g: u16, left: usize) -> PartFound
+    requires { ⌜ (Ready (now table)) × (0 < g) × (g ≤ 7) × (isFixed g ≡ false) × (g ≡ 2 → ⊥) × (left < groupSize (codeIn (now table)) g) ⌝ }
+    ensures { λ r. ⌜ Falls (itemCount (codeIn (now (table .entry))) g) (itemSize (codeIn (now (table .entry))) g) left r ⌝ }
 {
+    let t = totals(table);
     let n = items(t, g);
     let mut a: u16 = 1;
     let mut at = left;
     while a < n {
-        let k = wide(size(t, heads, starts, bodies, before, partners, owners, g, a, 1));
+        let k = wide(size(table, g, a, 1));
         if at < k {
             return PartFound {
                 number: a,
@@ -219,22 +184,11 @@ fn find_rule<'a>(
 }
 
 // The item of group g with the clause after `left` others of the group. Items of one size are passed by a division.
-fn find_item<'a>(
-    t: Totals,
-    heads: &'a [u16],
-    starts: &'a [u16],
-    bodies: &'a [u16],
-    before: &'a [u16],
-    partners: &'a [u16],
-    owners: &'a [u16],
-    g: u16,
-    left: usize,
-) -> PartFound
-    requires { ⌜ (Ready t (now heads) (now starts) (now bodies) (now before) (now partners) (now owners)) × (0 < g) × (g ≤ 7)
-        × (left < groupSize (codeIn t (now heads) (now starts) (now bodies)) g) ⌝ }
-    ensures { λ r. ⌜ Falls (itemCount (codeIn t (now (heads .entry)) (now (starts .entry)) (now (bodies .entry))) g)
-        (itemSize (codeIn t (now (heads .entry)) (now (starts .entry)) (now (bodies .entry))) g) left r ⌝ }
+fn find_item(table: &[u16], g: u16, left: usize) -> PartFound
+    requires { ⌜ (Ready (now table)) × (0 < g) × (g ≤ 7) × (left < groupSize (codeIn (now table)) g) ⌝ }
+    ensures { λ r. ⌜ Falls (itemCount (codeIn (now (table .entry))) g) (itemSize (codeIn (now (table .entry))) g) left r ⌝ }
 {
+    let t = totals(table);
     if is_fixed(g) {
         let k = fixed_size(wide(t.sizes.w), g);
         let q = left / k;
@@ -244,35 +198,23 @@ fn find_item<'a>(
         };
     }
     if g == 2 {
-        return find_atom(t, heads, starts, bodies, before, partners, owners, left);
+        return find_atom(table, left);
     }
-    find_rule(t, heads, starts, bodies, before, partners, owners, g, left)
+    find_rule(table, g, left)
 }
 
 // The block of item a of group g with the clause after `left` others of the item.
-fn find_block<'a>(
-    t: Totals,
-    heads: &'a [u16],
-    starts: &'a [u16],
-    bodies: &'a [u16],
-    before: &'a [u16],
-    partners: &'a [u16],
-    owners: &'a [u16],
-    g: u16,
-    a: u16,
-    left: usize,
-) -> PartFound
-    requires { ⌜ (Ready t (now heads) (now starts) (now bodies) (now before) (now partners) (now owners)) × (0 < g) × (g ≤ 7) × (0 < a)
-        × (a ≤ itemCount (codeIn t (now heads) (now starts) (now bodies)) g)
-        × (left < itemSize (codeIn t (now heads) (now starts) (now bodies)) g a) ⌝ }
-    ensures { λ r. ⌜ Falls (blockCount (codeIn t (now (heads .entry)) (now (starts .entry)) (now (bodies .entry))) g)
-        (sizeAt (codeIn t (now (heads .entry)) (now (starts .entry)) (now (bodies .entry))) g a) left r ⌝ }
+fn find_block(table: &[u16], g: u16, a: u16, left: usize) -> PartFound
+    requires { ⌜ (Ready (now table)) × (0 < g) × (g ≤ 7) × (0 < a) × (a ≤ itemCount (codeIn (now table)) g)
+        × (left < itemSize (codeIn (now table)) g a) ⌝ }
+    ensures { λ r. ⌜ Falls (blockCount (codeIn (now (table .entry))) g) (sizeAt (codeIn (now (table .entry))) g a) left r ⌝ }
 {
+    let t = totals(table);
     let n = block_count(t.sizes, g);
     let mut i: u16 = 1;
     let mut at = left;
     while i < n {
-        let k = wide(size(t, heads, starts, bodies, before, partners, owners, g, a, i));
+        let k = wide(size(table, g, a, i));
         if at < k {
             return PartFound {
                 number: i,
@@ -289,89 +231,35 @@ fn find_block<'a>(
 }
 
 // Where clause y of block i of item a of group g stands.
-fn coordinates_at<'a>(
-    t: Totals,
-    heads: &'a [u16],
-    starts: &'a [u16],
-    bodies: &'a [u16],
-    before: &'a [u16],
-    partners: &'a [u16],
-    owners: &'a [u16],
-    g: u16,
-    a: u16,
-    i: u16,
-    y: u16,
-) -> Coordinates
-    requires { ⌜ (Ready t (now heads) (now starts) (now bodies) (now before) (now partners) (now owners))
-        × (At (codeIn t (now heads) (now starts) (now bodies)) g a i y) ⌝ }
-    ensures { λ r. ⌜ r ≡ coordinates (codeIn t (now (heads .entry)) (now (starts .entry)) (now (bodies .entry))) g a i y ⌝ }
+fn coordinates_at(table: &[u16], g: u16, a: u16, i: u16, y: u16) -> Coordinates
+    requires { ⌜ (Ready (now table)) × (At (codeIn (now table)) g a i y) ⌝ }
+    ensures { λ r. ⌜ r ≡ coordinates (codeIn (now (table .entry))) g a i y ⌝ }
 {
+    let t = totals(table);
     Coordinates {
         group: g,
         item: a,
         block: i,
         clause: y,
-        clauses: size(t, heads, starts, bodies, before, partners, owners, g, a, i) - y,
+        clauses: size(table, g, a, i) - y,
         blocks: block_count(t.sizes, g) - i,
         items: items(t, g) - a,
     }
 }
 
 // The place of line j.
-pub fn place_of<'a>(
-    t: Totals,
-    heads: &'a [u16],
-    starts: &'a [u16],
-    bodies: &'a [u16],
-    before: &'a [u16],
-    partners: &'a [u16],
-    owners: &'a [u16],
-    j: usize,
-) -> Place
-    requires { ⌜ (Ready t (now heads) (now starts) (now bodies) (now before) (now partners) (now owners)) × (j ≤ t .clauses) ⌝ }
-    ensures { λ r. ⌜ r ≡ placeAt (codeIn t (now (heads .entry)) (now (starts .entry)) (now (bodies .entry))) j ⌝ }
+pub fn place_of(table: &[u16], j: usize) -> Place
+    requires { ⌜ (Ready (now table)) × (j ≤ clausesIn (now table)) ⌝ }
+    ensures { λ r. ⌜ r ≡ placeAt (codeIn (now (table .entry))) j ⌝ }
 {
     if j == 0 {
-        return start(t, heads, starts, bodies, before, partners, owners);
+        return start(table);
     }
-    let g = find_group(t, heads, starts, bodies, before, partners, owners, j - 1);
-    let a = find_item(
-        t,
-        heads,
-        starts,
-        bodies,
-        before,
-        partners,
-        owners,
-        g.number,
-        g.left,
-    );
-    let i = find_block(
-        t,
-        heads,
-        starts,
-        bodies,
-        before,
-        partners,
-        owners,
-        g.number,
-        a.number,
-        a.left,
-    );
+    let g = find_group(table, j - 1);
+    let a = find_item(table, g.number, g.left);
+    let i = find_block(table, g.number, a.number, a.left);
     Place {
         number: j,
-        coordinates: coordinates_at(
-            t,
-            heads,
-            starts,
-            bodies,
-            before,
-            partners,
-            owners,
-            g.number,
-            a.number,
-            i.number,
-            i.left as u16 + 1,
-        ),
+        coordinates: coordinates_at(table, g.number, a.number, i.number, i.left as u16 + 1),
     }
 }

@@ -148,9 +148,6 @@ module _ {G : Code} {t : Totals} {hs ss bs ks xs ys : List ℕ} (T : Tabled G t 
       L : elements.Listed G ss bs a (a - 1)
       L = listed a (R .item-some) h
 
-      pub start-asks : (k : ℕ) → k ≤ 2 → (0 < a) × (a ≤ 500) × (k ≤ 2) × (length ss ≡ 1001)
-      start-asks k q = (R .item-some, rule-fits, q, elements.starts-length G t hs ss bs ks xs ys T)
-
       pub first-middle : getD ss (2 * (a - 1) + 0) 0 ≤ getD ss (2 * (a - 1) + 1) 0
       first-middle = subst (λ (x : ℕ). x ≤ getD ss (2 * (a - 1) + 1) 0) (sym (from-first (a - 1))) (L .first-up)
 
@@ -166,8 +163,8 @@ module _ {G : Code} {t : Totals} {hs ss bs ks xs ys : List ℕ} (T : Tabled G t 
       pub body-is : take (getD ss (2 * (a - 1) + 2) 0 - getD ss (2 * (a - 1) + 0) 0) (drop (getD ss (2 * (a - 1) + 0) 0) bs) ≡ bodyOf G a
       body-is = ap (λ (x : ℕ). take (getD ss (2 * (a - 1) + 2) 0 - x) (drop x bs)) (from-first (a - 1)) ∙ L .body-are
 
-      pub end-in : getD ss (2 * (a - 1) + 2) 0 ≤ length bs
-      end-in = subst (λ (x : ℕ). getD ss (2 * (a - 1) + 2) 0 ≤ x) (sym (elements.bodies-length G t hs ss bs ks xs ys T)) (L .end-fits)
+      pub end-in : getD ss (2 * (a - 1) + 2) 0 ≤ 500
+      end-in = L .end-fits
 
       pub body-fits : bodyCount G a ≤ 500
       body-fits = elements.body-fits G (T .limits) a (R .item-some) h
@@ -225,14 +222,6 @@ module _ {G : Code} {t : Totals} {hs ss bs ks xs ys : List ℕ} (T : Tabled G t 
     pub heads-in : m ≤ length hs
     heads-in = subst (λ (k : ℕ). m ≤ k) (sym (elements.heads-length G t hs ss bs ks xs ys T)) (bounded .rules)
 
-    pub span-asks1 : a ≤ length (G .rules)
-        → (0 < a) × (a ≤ 500) × (1 ≤ 2) × (length ss ≡ 1001) × (getD ss (2 * (a - 1) + 0) 0 ≤ getD ss (2 * (a - 1) + 1) 0)
-    span-asks1 h = (R .item-some, rule-fits h, omega arith, elements.starts-length G t hs ss bs ks xs ys T, first-middle h)
-
-    pub span-asks2 : a ≤ length (G .rules)
-        → (0 < a) × (a ≤ 500) × (2 ≤ 2) × (length ss ≡ 1001) × (getD ss (2 * (a - 1) + 0) 0 ≤ getD ss (2 * (a - 1) + 2) 0)
-    span-asks2 h = (R .item-some, rule-fits h, omega arith, elements.starts-length G t hs ss bs ks xs ys T, first-end h)
-
     pub span-fits1 : {x : ℕ} → a ≤ length (G .rules) → x ≡ getD ss (2 * (a - 1) + 1) 0 - getD ss (2 * (a - 1) + 0) 0 → x ≤ 500
     span-fits1 {x} h q = subst (λ (k : ℕ). k ≤ 500) (sym (q ∙ span1 h)) (fits (before G a) (positives G a) (pairs-in h))
       where
@@ -242,13 +231,13 @@ module _ {G : Code} {t : Totals} {hs ss bs ks xs ys : List ℕ} (T : Tabled G t 
     pub span-fits2 : {x : ℕ} → a ≤ length (G .rules) → x ≡ getD ss (2 * (a - 1) + 2) 0 - getD ss (2 * (a - 1) + 0) 0 → x ≤ 500
     span-fits2 {x} h q = subst (λ (k : ℕ). k ≤ 500) (sym (q ∙ span2 h)) (body-fits h)
 
-    pub entry-asks5 : (zs : List ℕ) → length zs ≡ 500 → g ≡ 5 → (0 < a) × (a ≤ length zs)
-    entry-asks5 zs q e = (R .item-some, subst (λ (k : ℕ). a ≤ k) (sym q) (le-trans (pair5 e) (elements.pairs-fit G (T .limits))))
+    pub pair-fits : g ≡ 5 → a ≤ 500
+    pair-fits e = le-trans (pair5 e) (elements.pairs-fit G (T .limits))
 
     pub pair-asks : {b h : ℕ} → g ≡ 5 → b ≡ getD xs (a - 1) 0 → h ≡ getD ys (a - 1) 0
         → Bounded (t .sizes) × (0 < a) × (a ≤ 500) × (0 < b) × (b ≤ 126) × (0 < h) × (h ≤ 126) × (0 < i) × (i ≤ w + w)
     pair-asks {b} {h} e p q =
-        (bounded, R .item-some, le-trans (pair5 e) (elements.pairs-fit G (T .limits)), subst (λ (k : ℕ). 0 < k) (sym p) (x .0), subst (λ (k : ℕ). k ≤ 126) (sym p) (x .1), subst (λ (k : ℕ). 0 < k) (sym q) (z .0), subst (λ (k : ℕ). k ≤ 126) (sym q) (z .1), R .block-some, block5 e)
+        (bounded, R .item-some, pair-fits e, subst (λ (k : ℕ). 0 < k) (sym p) (x .0), subst (λ (k : ℕ). k ≤ 126) (sym p) (x .1), subst (λ (k : ℕ). 0 < k) (sym q) (z .0), subst (λ (k : ℕ). k ≤ 126) (sym q) (z .1), R .block-some, block5 e)
       where
         x : (0 < getD xs (a - 1) 0) × (getD xs (a - 1) 0 ≤ 126)
         x = elements.partner-in G t hs ss bs ks xs ys T a (R .item-some) (pair5 e)
@@ -377,15 +366,15 @@ module _ {G : Code} {t : Totals} {hs ss bs ks xs ys : List ℕ} (T : Tabled G t 
 
       pub body-asks : {b c d : ℕ} → g ≡ 1 → b ≡ getD ss (2 * (a - 1) + 0) 0 → c ≡ getD ss (2 * (a - 1) + 1) 0 → d ≡ getD ss (2 * (a - 1) + 2) 0
           → 0 < l → l ≤ slots G g a i y
-          → Bounded (t .sizes) × (a ≤ 500) × (b ≤ c) × (b ≤ d) × (d ≤ length bs) × (0 < y) × (0 < l) × (l ≤ slots1 (d - b) y)
+          → (a ≤ 500) × (b ≤ c) × (b ≤ d) × (d ≤ 500) × (0 < y) × (0 < l) × (l ≤ slots1 (d - b) y)
       body-asks {b} {c} {d} e p q r f n =
-          (bounded, rule-fits R (rule1 R e), le-by p q (first-middle R (rule1 R e)), le-by p r (first-end R (rule1 R e)), subst (λ (k : ℕ). k ≤ length bs) (sym r) (end-in R (rule1 R e)), A .clause-some, f, subst (λ (k : ℕ). l ≤ k) (sym (slots-body e (ap₂ (λ (d b : ℕ). d - b) r p) refl)) n)
+          (rule-fits R (rule1 R e), le-by p q (first-middle R (rule1 R e)), le-by p r (first-end R (rule1 R e)), subst (λ (k : ℕ). k ≤ 500) (sym r) (end-in R (rule1 R e)), A .clause-some, f, subst (λ (k : ℕ). l ≤ k) (sym (slots-body e (ap₂ (λ (d b : ℕ). d - b) r p) refl)) n)
         where
           le-by : {j k u v : ℕ} → j ≡ u → k ≡ v → u ≤ v → j ≤ k
           le-by {j} {k} {u} {v} p q h = subst (λ (x : ℕ). x ≤ k) (sym p) (subst (λ (x : ℕ). u ≤ x) (sym q) h)
 
-      pub supported-asks : g ≡ 2 → m < i → 0 < l → l ≤ slots G g a i y → (t .sizes .n ≤ 626) × (m ≤ 500) × (m ≤ length hs) × (0 < l) × (l ≤ m + 1)
-      supported-asks e h f n = (le-trans (bounded .atoms) (omega arith), bounded .rules, heads-in R, f, subst (λ (k : ℕ). l ≤ k) (sym (slots-supported e h)) n)
+      pub supported-asks : g ≡ 2 → m < i → 0 < l → l ≤ slots G g a i y → (t .sizes .n ≤ 626) × (m ≤ 500) × (0 < l) × (l ≤ m + 1)
+      supported-asks e h f n = (le-trans (bounded .atoms) (omega arith), bounded .rules, f, subst (λ (k : ℕ). l ≤ k) (sym (slots-supported e h)) n)
 
       pub implied-asks : i ≤ m → Bounded (t .sizes) × (i ≤ 500)
       implied-asks h = (bounded, le-trans h (bounded .rules))
@@ -403,13 +392,6 @@ module _ {G : Code} {t : Totals} {hs ss bs ks xs ys : List ℕ} (T : Tabled G t 
               (λ (h : i ≤ bitOf y). omega (arith, subst (λ (b : Bool). l ≤ cond b 3 (suc i)) (le-ltb (bitOf y) i h) n, bits4 R e))
               (λ (h : bitOf y < i). omega (arith, subst (λ (b : Bool). l ≤ cond b 3 (suc i)) (lt-ltb (bitOf y) i h) n)) (le-or-lt i (bitOf y))
 
-      pub head-asks : g ≡ 6 → (0 < a) × (a ≤ length hs)
-      head-asks e = (R .item-some, subst (λ (k : ℕ). a ≤ k) (sym (elements.heads-length G t hs ss bs ks xs ys T)) (rule-fits R (rule6 R e)))
-
-      pub before-asks : g ≡ 6 → (0 < a) × (a ≤ length ks)
-      before-asks e =
-          (R .item-some, subst (λ (k : ℕ). a ≤ k) (sym (elements.before-length G t hs ss bs ks xs ys T)) (le-trans (rule-fits R (rule6 R e)) (omega arith)))
-
       pub rule-asks : {h k b : ℕ} → g ≡ 6 → h ≡ getD hs (a - 1) 0 → k ≡ getD ks (a - 1) 0 → b ≡ getD ss (2 * (a - 1) + 1) 0 - getD ss (2 * (a - 1) + 0) 0
           → 0 < l → l ≤ slots G g a i y
           → Bounded (t .sizes) × (a ≤ 500) × (0 < h) × (h ≤ 126) × (k + b ≤ 500) × (0 < y) × (y ≤ size6 w b) × (0 < l) × (l ≤ slots6 b y)
@@ -425,6 +407,6 @@ module _ {G : Code} {t : Totals} {hs ss bs ks xs ys : List ℕ} (T : Tabled G t 
           q′ : k ≡ before G a
           q′ = q ∙ elements.before-is G t hs ss bs ks xs ys T a (R .item-some) (le-trans (rule6 R e) (omega arith))
 
-      pub founded-asks : Last g → 0 < l → l ≤ slots G g a i y → (t .sizes .n + m ≤ 626) × (m ≤ 500) × (m ≤ length hs) × (0 < l) × (l ≤ m + 1)
+      pub founded-asks : Last g → 0 < l → l ≤ slots G g a i y → (t .sizes .n + m ≤ 626) × (m ≤ 500) × (0 < l) × (l ≤ m + 1)
       founded-asks f p n =
-          (omega (arith, bounded .atoms, bounded .rules), bounded .rules, heads-in R, p, subst (λ (k : ℕ). l ≤ k) (sym (slots-last f)) n)
+          (omega (arith, bounded .atoms, bounded .rules), bounded .rules, p, subst (λ (k : ℕ). l ≤ k) (sym (slots-last f)) n)

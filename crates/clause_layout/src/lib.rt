@@ -1,4 +1,12 @@
 // The walk of the clause list by its numbers: how many items, blocks, clauses and slots there are, and the literal in a slot.
+use clause_cells::body;
+use clause_cells::head;
+use clause_cells::heads;
+use clause_cells::list_start;
+use clause_cells::pair_body;
+use clause_cells::pair_head;
+use clause_cells::pairs_before;
+use clause_cells::totals;
 use clause_literals::Sizes;
 use clause_slots::Chain;
 use clause_slots::Signed;
@@ -20,17 +28,16 @@ use clause_slots::rule_slots;
 use clause_slots::zero_slot;
 use clause_tables::Totals;
 use numbers::Atom;
+use numbers::Pair;
 use numbers::Rule;
 use numbers::Var;
-use numbers::wide;
-use program::head;
 ghost use Prim.Native.Nat.{_+_, _-_, _*_, _^_, _≤_, _<_};
 ghost use mathlib.Core.Path.{_≡_};
 ghost use lib.ListN.{length, getD, take, drop};
 ghost use Rattle.clause_literals.specs.Sizes.{sizesOf, Bounded};
 ghost use Rattle.clause_slots.specs.Signed.{literalIn, slotLiteral};
 ghost use Rattle.clause_walk.specs.Walk.{slots1, slot1, ofHead, size as sizeAt, slots as slotsAt, slot as slotAt};
-ghost use Rattle.clause_tables.specs.Tables.{Ready, codeIn};
+ghost use Rattle.clause_tables.specs.Tables.{Ready, codeIn, totalsIn, headsIn, bodiesIn, startsIn};
 ghost use Rattle.clause_walk.specs.Walk.{BlockAt, At};
 ghost use Rattle.clause_layout.specs.BlockChain.{chainOfBlock};
 ghost use Rattle.clause_layout.specs.Numbers.{itemsOf, blocksOf, impliedSize, isAt, amongEight, nextHead, pastEmpty};
@@ -67,58 +74,27 @@ pub fn block_count(s: Sizes, g: u16) -> u16
     1
 }
 
-// Element j of xs, from 0.
-fn element(xs: &[u16], j: usize) -> u16
-    requires { ⌜ j < length (now xs) ⌝ }
-    ensures { λ r. ⌜ r ≡ getD (now (xs .entry)) j 0 ⌝ }
-{
-    xs[j]
-}
-
-// Entry k of xs, from 1.
-pub fn entry(xs: &[u16], k: u16) -> u16
-    requires { ⌜ (0 < k) × (k ≤ length (now xs)) ⌝ }
-    ensures { λ r. ⌜ r ≡ getD (now (xs .entry)) (k - 1) 0 ⌝ }
-{
-    element(xs, wide(k - 1))
-}
-
-// Where the lists of rule r begin and end: start 0 is that of B, start 1 that of C, and C ends at start 2.
-fn start(starts: &[u16], r: Rule, k: usize) -> u16
-    requires { ⌜ (0 < r .0) × (r .0 ≤ 500) × (k ≤ 2) × (length (now starts) ≡ 1001) ⌝ }
-    ensures { λ x. ⌜ x ≡ getD (now (starts .entry)) (2 * (r .0 - 1) + k) 0 ⌝ }
-{
-    element(starts, 2 * wide(r.0 - 1) + k)
-}
-
 // How many body atoms rule r has before start k.
-fn span(starts: &[u16], r: Rule, k: usize) -> u16
-    requires { ⌜ (0 < r .0) × (r .0 ≤ 500) × (k ≤ 2) × (length (now starts) ≡ 1001)
-        × (getD (now starts) (2 * (r .0 - 1) + 0) 0 ≤ getD (now starts) (2 * (r .0 - 1) + k) 0) ⌝ }
-    ensures { λ x. ⌜ x ≡ getD (now (starts .entry)) (2 * (r .0 - 1) + k) 0 - getD (now (starts .entry)) (2 * (r .0 - 1) + 0) 0 ⌝ }
+pub fn span(table: &[u16], r: Rule, k: u16) -> u16
+    requires { ⌜ (Ready (now table)) × (0 < r .0) × (r .0 ≤ 500) × (k ≤ 2)
+        × (getD (startsIn (now table)) (2 * (r .0 - 1) + 0) 0 ≤ getD (startsIn (now table)) (2 * (r .0 - 1) + k) 0) ⌝ }
+    ensures { λ x. ⌜ x ≡ getD (startsIn (now (table .entry))) (2 * (r .0 - 1) + k) 0 - getD (startsIn (now (table .entry))) (2 * (r .0 - 1) + 0) 0 ⌝ }
 {
-    start(starts, r, k) - start(starts, r, 0)
+    list_start(table, r, k) - list_start(table, r, 0)
 }
 
 // Group 1, rule r, whose lists begin at `first` and `middle` and end at `end`: slot l of clause y.
-fn body_part(
-    s: Sizes,
-    bodies: &[u16],
-    first: u16,
-    middle: u16,
-    end: u16,
-    r: Rule,
-    y: u16,
-    l: u16,
-) -> Signed
-    requires { ⌜ (Bounded s) × (r .0 ≤ 500) × (first ≤ middle) × (first ≤ end) × (end ≤ length (now bodies)) × (0 < y) × (0 < l)
+fn body_part(table: &[u16], first: u16, middle: u16, end: u16, r: Rule, y: u16, l: u16) -> Signed
+    requires { ⌜ (Ready (now table)) × (r .0 ≤ 500) × (first ≤ middle) × (first ≤ end) × (end ≤ 500) × (0 < y) × (0 < l)
         × (l ≤ slots1 (end - first) y) ⌝ }
-    ensures { λ x. ⌜ literalIn x ≡ slot1 (sizesOf s) (r .0) (take (end - first) (drop first (now (bodies .entry)))) (middle - first) y l ⌝ }
+    ensures { λ x. ⌜ literalIn x
+        ≡ slot1 (sizesOf (totalsIn (now (table .entry)) .sizes)) (r .0) (take (end - first) (drop first (bodiesIn (now (table .entry)))))
+        (middle - first) y l ⌝ }
 {
     body_slot(
-        s,
+        totals(table).sizes,
         r,
-        &bodies[first as usize..end as usize],
+        body(table, first, end),
         middle - first,
         y,
         l,
@@ -126,50 +102,39 @@ fn body_part(
 }
 
 // Groups 2 and 7, atom a: slot l of its last clause.
-fn heads_part(m: u16, heads: &[u16], a: Atom, base: u16, l: u16) -> Signed
-    requires { ⌜ (base ≤ 626) × (m ≤ 500) × (m ≤ length (now heads)) × (0 < l) × (l ≤ m + 1) ⌝ }
-    ensures { λ x. ⌜ literalIn x ≡ slotLiteral (ofHead (take m (now (heads .entry))) (a .0) (λ r. base + r) l) ⌝ }
+fn heads_part(table: &[u16], m: u16, a: Atom, base: u16, l: u16) -> Signed
+    requires { ⌜ (Ready (now table)) × (base ≤ 626) × (m ≤ 500) × (0 < l) × (l ≤ m + 1) ⌝ }
+    ensures { λ x. ⌜ literalIn x ≡ slotLiteral (ofHead (take m (headsIn (now (table .entry)))) (a .0) (λ r. base + r) l) ⌝ }
 {
-    head_slot(&heads[..m as usize], a, base, l)
+    head_slot(heads(table, m), a, base, l)
 }
 
 // Group 2, atom a: how many clauses block i has.
-fn implied_size(m: u16, heads: &[u16], a: Atom, i: u16) -> u16
-    requires { ⌜ (m ≤ length (now heads)) × (0 < i) ⌝ }
-    ensures { λ r. ⌜ r ≡ impliedSize m (now (heads .entry)) (a .0) i ⌝ }
+fn implied_size(table: &[u16], m: u16, a: Atom, i: u16) -> u16
+    requires { ⌜ (Ready (now table)) × (m ≤ 500) × (0 < i) ⌝ }
+    ensures { λ r. ⌜ r ≡ impliedSize m (headsIn (now (table .entry))) (a .0) i ⌝ }
 {
     if m < i {
         return 1;
     }
-    if head(heads, Rule(i)).0 == a.0 {
+    if head(table, Rule(i)).0 == a.0 {
         return 1;
     }
     0
 }
 
 // How many clauses block i of item a of group g has.
-pub fn size<'a>(
-    t: Totals,
-    heads: &'a [u16],
-    starts: &'a [u16],
-    bodies: &'a [u16],
-    before: &'a [u16],
-    partners: &'a [u16],
-    owners: &'a [u16],
-    g: u16,
-    a: u16,
-    i: u16,
-) -> u16
-    requires { ⌜ (Ready t (now heads) (now starts) (now bodies) (now before) (now partners) (now owners))
-        × (BlockAt (codeIn t (now heads) (now starts) (now bodies)) g a i) ⌝ }
-    ensures { λ r. ⌜ r ≡ sizeAt (codeIn t (now (heads .entry)) (now (starts .entry)) (now (bodies .entry))) g a i ⌝ }
+pub fn size(table: &[u16], g: u16, a: u16, i: u16) -> u16
+    requires { ⌜ (Ready (now table)) × (BlockAt (codeIn (now table)) g a i) ⌝ }
+    ensures { λ r. ⌜ r ≡ sizeAt (codeIn (now (table .entry))) g a i ⌝ }
 {
+    let t = totals(table);
     let s = t.sizes;
     if g == 1 {
-        return span(starts, Rule(a), 2) + 1;
+        return span(table, Rule(a), 2) + 1;
     }
     if g == 2 {
-        return implied_size(s.m, heads, Atom(a), i);
+        return implied_size(table, s.m, Atom(a), i);
     }
     if g == 3 {
         return s.w;
@@ -181,32 +146,20 @@ pub fn size<'a>(
         return chain_size(chain_bit(s.w, i));
     }
     if g == 6 {
-        return rule_size(s.w, span(starts, Rule(a), 1));
+        return rule_size(s.w, span(table, Rule(a), 1));
     }
     1
 }
 
 // How many slots clause y of block i of item a of group g has.
-pub fn slots<'a>(
-    t: Totals,
-    heads: &'a [u16],
-    starts: &'a [u16],
-    bodies: &'a [u16],
-    before: &'a [u16],
-    partners: &'a [u16],
-    owners: &'a [u16],
-    g: u16,
-    a: u16,
-    i: u16,
-    y: u16,
-) -> u16
-    requires { ⌜ (Ready t (now heads) (now starts) (now bodies) (now before) (now partners) (now owners))
-        × (At (codeIn t (now heads) (now starts) (now bodies)) g a i y) ⌝ }
-    ensures { λ r. ⌜ r ≡ slotsAt (codeIn t (now (heads .entry)) (now (starts .entry)) (now (bodies .entry))) g a i y ⌝ }
+pub fn slots(table: &[u16], g: u16, a: u16, i: u16, y: u16) -> u16
+    requires { ⌜ (Ready (now table)) × (At (codeIn (now table)) g a i y) ⌝ }
+    ensures { λ r. ⌜ r ≡ slotsAt (codeIn (now (table .entry))) g a i y ⌝ }
 {
+    let t = totals(table);
     let s = t.sizes;
     if g == 1 {
-        return body_slots(span(starts, Rule(a), 2), y);
+        return body_slots(span(table, Rule(a), 2), y);
     }
     if g == 2 {
         if s.m < i {
@@ -224,48 +177,33 @@ pub fn slots<'a>(
         return chain_slots(chain_bit(s.w, i), y);
     }
     if g == 6 {
-        return rule_slots(span(starts, Rule(a), 1), y);
+        return rule_slots(span(table, Rule(a), 1), y);
     }
     s.m + 1
 }
 
 // The literal in slot l of that clause; the negated variable 0 where the slot has none.
-pub fn slot<'a>(
-    t: Totals,
-    heads: &'a [u16],
-    starts: &'a [u16],
-    bodies: &'a [u16],
-    before: &'a [u16],
-    partners: &'a [u16],
-    owners: &'a [u16],
-    g: u16,
-    a: u16,
-    i: u16,
-    y: u16,
-    l: u16,
-) -> Signed
-    requires { ⌜ (Ready t (now heads) (now starts) (now bodies) (now before) (now partners) (now owners))
-        × (At (codeIn t (now heads) (now starts) (now bodies)) g a i y) × (0 < l)
-        × (l ≤ slotsAt (codeIn t (now heads) (now starts) (now bodies)) g a i y) ⌝ }
-    ensures { λ x. ⌜ literalIn x
-        ≡ slotLiteral (slotAt (codeIn t (now (heads .entry)) (now (starts .entry)) (now (bodies .entry))) g a i y l) ⌝ }
+pub fn slot(table: &[u16], g: u16, a: u16, i: u16, y: u16, l: u16) -> Signed
+    requires { ⌜ (Ready (now table)) × (At (codeIn (now table)) g a i y) × (0 < l) × (l ≤ slotsAt (codeIn (now table)) g a i y) ⌝ }
+    ensures { λ x. ⌜ literalIn x ≡ slotLiteral (slotAt (codeIn (now (table .entry))) g a i y l) ⌝ }
 {
+    let t = totals(table);
     let s = t.sizes;
     if g == 5 {
-        let b = Atom(entry(partners, a));
-        let h = Atom(entry(owners, a));
+        let b = pair_body(table, Pair(a));
+        let h = pair_head(table, Pair(a));
         return pair_slot(s, a, b, h, i, y, l);
     }
     if g == 1 {
         let r = Rule(a);
-        let first = start(starts, r, 0);
-        let middle = start(starts, r, 1);
-        let end = start(starts, r, 2);
-        return body_part(s, bodies, first, middle, end, r, y, l);
+        let first = list_start(table, r, 0);
+        let middle = list_start(table, r, 1);
+        let end = list_start(table, r, 2);
+        return body_part(table, first, middle, end, r, y, l);
     }
     if g == 2 {
         if s.m < i {
-            return heads_part(s.m, heads, Atom(a), s.n, l);
+            return heads_part(table, s.m, Atom(a), s.n, l);
         }
         return implied_slot(s, Atom(a), Rule(i), l);
     }
@@ -277,10 +215,10 @@ pub fn slot<'a>(
     }
     if g == 6 {
         let r = Rule(a);
-        let b = span(starts, r, 1);
-        return rule_slot(s, r, head(heads, r), entry(before, a), b, y, l);
+        let b = span(table, r, 1);
+        return rule_slot(s, r, head(table, r), pairs_before(table, r), b, y, l);
     }
-    heads_part(s.m, heads, Atom(a), s.n + s.m, l)
+    heads_part(table, s.m, Atom(a), s.n + s.m, l)
 }
 
 // Whether head i, from 0, is a.
@@ -337,49 +275,38 @@ pub fn next_head(heads: &[u16], a: Atom, from: u16) -> u16
 }
 
 // Groups 2 and 7, atom a: how many slots of its last clause are done once the empty ones after slot l are passed.
-fn past_others(m: u16, heads: &[u16], a: Atom, l: u16) -> u16
-    requires { ⌜ (m ≤ 500) × (m ≤ length (now heads)) × (0 < l) ⌝ }
-    ensures { λ r. ⌜ r ≡ nextHead (take m (now (heads .entry))) (a .0) (l - 1) + 1 ⌝ }
+fn past_others(table: &[u16], m: u16, a: Atom, l: u16) -> u16
+    requires { ⌜ (Ready (now table)) × (m ≤ 500) × (0 < l) ⌝ }
+    ensures { λ r. ⌜ r ≡ nextHead (take m (headsIn (now (table .entry)))) (a .0) (l - 1) + 1 ⌝ }
 {
-    next_head(&heads[..m as usize], a, l - 1) + 1
+    next_head(heads(table, m), a, l - 1) + 1
 }
 
 // How many slots of a clause of block i of item a of group g are done once the empty ones after slot l are passed.
-pub fn past_empty(m: u16, heads: &[u16], g: u16, a: u16, i: u16, l: u16) -> u16
-    requires { ⌜ (m ≤ 500) × (m ≤ length (now heads)) × (0 < l) ⌝ }
-    ensures { λ r. ⌜ r ≡ pastEmpty m (now (heads .entry)) g a i l ⌝ }
+pub fn past_empty(table: &[u16], m: u16, g: u16, a: u16, i: u16, l: u16) -> u16
+    requires { ⌜ (Ready (now table)) × (m ≤ 500) × (0 < l) ⌝ }
+    ensures { λ r. ⌜ r ≡ pastEmpty m (headsIn (now (table .entry))) g a i l ⌝ }
 {
     if g == 7 {
-        return past_others(m, heads, Atom(a), l);
+        return past_others(table, m, Atom(a), l);
     }
     if g == 2 {
         if m < i {
-            return past_others(m, heads, Atom(a), l);
+            return past_others(table, m, Atom(a), l);
         }
     }
     l
 }
 
 // The variables of the chain's bit of block i of pair a, in group 5; of no use in the other groups.
-pub fn chain_of_block<'a>(
-    t: Totals,
-    heads: &'a [u16],
-    starts: &'a [u16],
-    bodies: &'a [u16],
-    before: &'a [u16],
-    partners: &'a [u16],
-    owners: &'a [u16],
-    g: u16,
-    a: u16,
-    i: u16,
-) -> Chain
-    requires { ⌜ (Ready t (now heads) (now starts) (now bodies) (now before) (now partners) (now owners))
-        × (BlockAt (codeIn t (now heads) (now starts) (now bodies)) g a i) ⌝ }
-    ensures { λ r. ⌜ r ≡ chainOfBlock (codeIn t (now (heads .entry)) (now (starts .entry)) (now (bodies .entry))) g a i ⌝ }
+pub fn chain_of_block(table: &[u16], g: u16, a: u16, i: u16) -> Chain
+    requires { ⌜ (Ready (now table)) × (BlockAt (codeIn (now table)) g a i) ⌝ }
+    ensures { λ r. ⌜ r ≡ chainOfBlock (codeIn (now (table .entry))) g a i ⌝ }
 {
+    let t = totals(table);
     if g == 5 {
-        let b = Atom(entry(partners, a));
-        let h = Atom(entry(owners, a));
+        let b = pair_body(table, Pair(a));
+        let h = pair_head(table, Pair(a));
         return chain_of(t.sizes, a, b, h, i);
     }
     Chain {
@@ -391,43 +318,14 @@ pub fn chain_of_block<'a>(
 }
 
 // What `slot` gives, from the block's chain.
-pub fn literal_in<'a>(
-    t: Totals,
-    heads: &'a [u16],
-    starts: &'a [u16],
-    bodies: &'a [u16],
-    before: &'a [u16],
-    partners: &'a [u16],
-    owners: &'a [u16],
-    c: Chain,
-    g: u16,
-    a: u16,
-    i: u16,
-    y: u16,
-    l: u16,
-) -> Signed
-    requires { ⌜ (Ready t (now heads) (now starts) (now bodies) (now before) (now partners) (now owners))
-        × (At (codeIn t (now heads) (now starts) (now bodies)) g a i y) × (0 < l)
-        × (l ≤ slotsAt (codeIn t (now heads) (now starts) (now bodies)) g a i y)
-        × (c ≡ chainOfBlock (codeIn t (now heads) (now starts) (now bodies)) g a i) ⌝ }
-    ensures { λ x. ⌜ literalIn x
-        ≡ slotLiteral (slotAt (codeIn t (now (heads .entry)) (now (starts .entry)) (now (bodies .entry))) g a i y l) ⌝ }
+pub fn literal_in(table: &[u16], c: Chain, g: u16, a: u16, i: u16, y: u16, l: u16) -> Signed
+    requires { ⌜ (Ready (now table)) × (At (codeIn (now table)) g a i y) × (0 < l) × (l ≤ slotsAt (codeIn (now table)) g a i y)
+        × (c ≡ chainOfBlock (codeIn (now table)) g a i) ⌝ }
+    ensures { λ x. ⌜ literalIn x ≡ slotLiteral (slotAt (codeIn (now (table .entry))) g a i y l) ⌝ }
 {
+    let t = totals(table);
     if g == 5 {
         return chain_literal(c, chain_bit(t.sizes.w, i), y, l);
     }
-    slot(
-        t,
-        heads,
-        starts,
-        bodies,
-        before,
-        partners,
-        owners,
-        g,
-        a,
-        i,
-        y,
-        l,
-    )
+    slot(table, g, a, i, y, l)
 }

@@ -1,6 +1,6 @@
 -- Group 2: the next block of an atom that holds a clause.
 --   head-block-is       it is as code has it
---   head-block-asks     what `head_block` asks
+--   block-in            the block is not past the last rule
 --   head-block-onward   the block is a step to the next clause: the blocks before it are empty
 -- Assumes nothing.
 use Prim.Native.Nat.{ℕ, suc, _+_, _-_, _≤_, _<_}
@@ -20,7 +20,7 @@ use Rattle.clause_tables.specs.Tables.{Tabled}
 use Rattle.clause_layout.specs.Numbers.{blocksOf, impliedSize, nextHead}
 use Rattle.clause_layout.proofs.Parts.{implied-past, implied-own, implied-other}
 use Rattle.clause_layout.proofs.Heads.{next-from, next-in, next-at, next-between}
-use Rattle.clause_layout.proofs.Groups.{bounded, heads-in, size-implied}
+use Rattle.clause_layout.proofs.Groups.{heads-in, size-implied}
 use Rattle.clause_places.specs.declared.Coordinates.{Coordinates}
 use Rattle.clause_places.specs.Places.{coordinates, blockCoordinates}
 use Rattle.clause_places.specs.Ahead.{after, itemsAhead, clausesAhead, In, headBlock, Onward}
@@ -49,11 +49,8 @@ module _ {G : Code} {t : Totals} {hs ss bs ks xs ys : List ℕ} (T : Tabled G t 
   blocks-end : c .block + c .blocks ≡ suc m
   blocks-end = I .blocks-are (omega (arith, h)) .1 ∙ blocks-all
 
-  block-in : c .block ≤ m
+  pub block-in : c .block ≤ m
   block-in = omega (arith, blocks-end, h)
-
-  pub head-block-asks : (m ≤ 500) × (m ≤ length hs) × (c .block ≤ m)
-  head-block-asks = (bounded T .rules, heads-in T R, block-in)
 
   from : c .block ≤ j
   from = next-from (take m hs) (c .item) (c .block)

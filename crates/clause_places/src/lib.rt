@@ -1,15 +1,16 @@
 // The walk of the clause list from clause to clause.
+use clause_cells::heads;
+use clause_cells::totals;
 use clause_layout::block_count;
 use clause_layout::items;
 use clause_layout::next_head;
 use clause_layout::size;
-use clause_tables::Totals;
 use numbers::Atom;
 ghost use Prim.Native.Nat.{suc, _+_, _≤_, _<_};
 ghost use mathlib.Core.Path.{_≡_};
 ghost use mathlib.Core.Bool.{false};
 ghost use lib.ListN.{length};
-ghost use Rattle.clause_tables.specs.Tables.{Ready, codeIn};
+ghost use Rattle.clause_tables.specs.Tables.{Ready, codeIn, clausesIn, headsIn};
 ghost use Rattle.clause_places.specs.Places.{placeAt, furtherBlock};
 ghost use Rattle.clause_places.specs.Ahead.{ahead, firstOf, In, isOver, headBlock, Onward};
 
@@ -59,11 +60,11 @@ fn is_over(c: Coordinates) -> bool
 }
 
 // Group 2: the next block of the item, an atom, that holds a clause: that of the next rule with this head, or the last block.
-fn head_block(m: u16, heads: &[u16], c: Coordinates) -> Coordinates
-    requires { ⌜ (m ≤ 500) × (m ≤ length (now heads)) × (c .block ≤ m) ⌝ }
-    ensures { λ r. ⌜ r ≡ headBlock m (now (heads .entry)) c ⌝ }
+fn head_block(table: &[u16], m: u16, c: Coordinates) -> Coordinates
+    requires { ⌜ (Ready (now table)) × (m ≤ 500) × (c .block ≤ m) ⌝ }
+    ensures { λ r. ⌜ r ≡ headBlock m (headsIn (now (table .entry))) c ⌝ }
 {
-    let j = next_head(&heads[..m as usize], Atom(c.item), c.block);
+    let j = next_head(heads(table, m), Atom(c.item), c.block);
     Coordinates {
         group: c.group,
         item: c.item,
@@ -76,25 +77,16 @@ fn head_block(m: u16, heads: &[u16], c: Coordinates) -> Coordinates
 }
 
 // The next block of the item, in group 2 the next one that holds a clause, the next item of the group or the next group.
-fn step<'a>(
-    t: Totals,
-    heads: &'a [u16],
-    starts: &'a [u16],
-    bodies: &'a [u16],
-    before: &'a [u16],
-    partners: &'a [u16],
-    owners: &'a [u16],
-    c: Coordinates,
-) -> Coordinates
-    requires { ⌜ (Ready t (now heads) (now starts) (now bodies) (now before) (now partners) (now owners))
-        × (In (codeIn t (now heads) (now starts) (now bodies)) c) × (c .clauses ≡ 0) × (isOver c ≡ false) ⌝ }
-    ensures { λ r. ⌜ Onward (codeIn t (now (heads .entry)) (now (starts .entry)) (now (bodies .entry))) c r ⌝ }
+fn step(table: &[u16], c: Coordinates) -> Coordinates
+    requires { ⌜ (Ready (now table)) × (In (codeIn (now table)) c) × (c .clauses ≡ 0) × (isOver c ≡ false) ⌝ }
+    ensures { λ r. ⌜ Onward (codeIn (now (table .entry))) c r ⌝ }
 {
+    let t = totals(table);
     let g = c.group;
     let a = c.item;
     if 0 < c.blocks {
         if g == 2 {
-            return head_block(t.sizes.m, heads, c);
+            return head_block(table, t.sizes.m, c);
         }
         let i = c.block + 1;
         return Coordinates {
@@ -102,7 +94,7 @@ fn step<'a>(
             item: a,
             block: i,
             clause: 0,
-            clauses: size(t, heads, starts, bodies, before, partners, owners, g, a, i),
+            clauses: size(table, g, a, i),
             blocks: c.blocks - 1,
             items: c.items,
         };
@@ -122,26 +114,16 @@ fn step<'a>(
 }
 
 // The coordinates of the first clause that follows c.
-fn next_coordinates<'a>(
-    t: Totals,
-    heads: &'a [u16],
-    starts: &'a [u16],
-    bodies: &'a [u16],
-    before: &'a [u16],
-    partners: &'a [u16],
-    owners: &'a [u16],
-    c: Coordinates,
-) -> Coordinates
-    requires { ⌜ (Ready t (now heads) (now starts) (now bodies) (now before) (now partners) (now owners))
-        × (In (codeIn t (now heads) (now starts) (now bodies)) c) ⌝ }
-    ensures { λ r. ⌜ r ≡ firstOf (ahead (codeIn t (now (heads .entry)) (now (starts .entry)) (now (bodies .entry))) c) ⌝ }
+fn next_coordinates(table: &[u16], c: Coordinates) -> Coordinates
+    requires { ⌜ (Ready (now table)) × (In (codeIn (now table)) c) ⌝ }
+    ensures { λ r. ⌜ r ≡ firstOf (ahead (codeIn (now (table .entry))) c) ⌝ }
 {
     let mut at = c;
     while at.clauses == 0 {
         if is_over(at) {
             return group_start(8, 0);
         }
-        at = step(t, heads, starts, bodies, before, partners, owners, at);
+        at = step(table, at);
     }
     Coordinates {
         group: at.group,
@@ -155,18 +137,11 @@ fn next_coordinates<'a>(
 }
 
 // The place before the first clause.
-pub fn start<'a>(
-    t: Totals,
-    heads: &'a [u16],
-    starts: &'a [u16],
-    bodies: &'a [u16],
-    before: &'a [u16],
-    partners: &'a [u16],
-    owners: &'a [u16],
-) -> Place
-    requires { ⌜ Ready t (now heads) (now starts) (now bodies) (now before) (now partners) (now owners) ⌝ }
-    ensures { λ r. ⌜ r ≡ placeAt (codeIn t (now (heads .entry)) (now (starts .entry)) (now (bodies .entry))) 0 ⌝ }
+pub fn start(table: &[u16]) -> Place
+    requires { ⌜ Ready (now table) ⌝ }
+    ensures { λ r. ⌜ r ≡ placeAt (codeIn (now (table .entry))) 0 ⌝ }
 {
+    let t = totals(table);
     Place {
         number: 0,
         coordinates: group_start(1, items(t, 1)),
@@ -174,51 +149,21 @@ pub fn start<'a>(
 }
 
 // The place of the clause after that of c.
-pub fn next<'a>(
-    t: Totals,
-    heads: &'a [u16],
-    starts: &'a [u16],
-    bodies: &'a [u16],
-    before: &'a [u16],
-    partners: &'a [u16],
-    owners: &'a [u16],
-    c: Place,
-) -> Place
-    requires { ⌜ (Ready t (now heads) (now starts) (now bodies) (now before) (now partners) (now owners))
-        × (c ≡ placeAt (codeIn t (now heads) (now starts) (now bodies)) (c .number)) × (c .number ≤ t .clauses) ⌝ }
-    ensures { λ r. ⌜ r ≡ placeAt (codeIn t (now (heads .entry)) (now (starts .entry)) (now (bodies .entry))) (suc (c .number)) ⌝ }
+pub fn next(table: &[u16], c: Place) -> Place
+    requires { ⌜ (Ready (now table)) × (c ≡ placeAt (codeIn (now table)) (c .number)) × (c .number ≤ clausesIn (now table)) ⌝ }
+    ensures { λ r. ⌜ r ≡ placeAt (codeIn (now (table .entry))) (suc (c .number)) ⌝ }
 {
     Place {
         number: c.number + 1,
-        coordinates: next_coordinates(
-            t,
-            heads,
-            starts,
-            bodies,
-            before,
-            partners,
-            owners,
-            c.coordinates,
-        ),
+        coordinates: next_coordinates(table, c.coordinates),
     }
 }
 
 // The place of the last clause of c's block.
-fn last<'a>(
-    t: Totals,
-    heads: &'a [u16],
-    starts: &'a [u16],
-    bodies: &'a [u16],
-    before: &'a [u16],
-    partners: &'a [u16],
-    owners: &'a [u16],
-    c: Place,
-) -> Place
-    requires { ⌜ (Ready t (now heads) (now starts) (now bodies) (now before) (now partners) (now owners))
-        × (c ≡ placeAt (codeIn t (now heads) (now starts) (now bodies)) (c .number)) × (c .number ≤ t .clauses) ⌝ }
-    ensures { λ r. ⌜ (r
-        ≡ placeAt (codeIn t (now (heads .entry)) (now (starts .entry)) (now (bodies .entry)))
-        (c .number + c .coordinates .clauses)) × (c .number + c .coordinates .clauses ≤ t .clauses) × (r .coordinates .clauses ≡ 0) ⌝ }
+fn last(table: &[u16], c: Place) -> Place
+    requires { ⌜ (Ready (now table)) × (c ≡ placeAt (codeIn (now table)) (c .number)) × (c .number ≤ clausesIn (now table)) ⌝ }
+    ensures { λ r. ⌜ (r ≡ placeAt (codeIn (now (table .entry))) (c .number + c .coordinates .clauses))
+        × (c .number + c .coordinates .clauses ≤ clausesIn (now (table .entry))) × (r .coordinates .clauses ≡ 0) ⌝ }
 {
     let s = c.coordinates;
     Place {
@@ -236,24 +181,13 @@ fn last<'a>(
 }
 
 // The place of the clause after the last one of c's block.
-pub fn past_block<'a>(
-    t: Totals,
-    heads: &'a [u16],
-    starts: &'a [u16],
-    bodies: &'a [u16],
-    before: &'a [u16],
-    partners: &'a [u16],
-    owners: &'a [u16],
-    c: Place,
-) -> Place
-    requires { ⌜ (Ready t (now heads) (now starts) (now bodies) (now before) (now partners) (now owners))
-        × (c ≡ placeAt (codeIn t (now heads) (now starts) (now bodies)) (c .number)) × (c .number ≤ t .clauses) ⌝ }
-    ensures { λ r. ⌜ (r
-        ≡ placeAt (codeIn t (now (heads .entry)) (now (starts .entry)) (now (bodies .entry)))
-        (suc (c .number + c .coordinates .clauses))) × (c .number + c .coordinates .clauses ≤ t .clauses) ⌝ }
+pub fn past_block(table: &[u16], c: Place) -> Place
+    requires { ⌜ (Ready (now table)) × (c ≡ placeAt (codeIn (now table)) (c .number)) × (c .number ≤ clausesIn (now table)) ⌝ }
+    ensures { λ r. ⌜ (r ≡ placeAt (codeIn (now (table .entry))) (suc (c .number + c .coordinates .clauses)))
+        × (c .number + c .coordinates .clauses ≤ clausesIn (now (table .entry))) ⌝ }
 {
-    let end = last(t, heads, starts, bodies, before, partners, owners, c);
-    next(t, heads, starts, bodies, before, partners, owners, end)
+    let end = last(table, c);
+    next(table, end)
 }
 
 // The place of the first clause of the next block of c's item, which has k clauses.

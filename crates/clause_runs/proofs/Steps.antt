@@ -69,9 +69,9 @@ module _ {G : Code} {t : Totals} {hs ss bs ks xs ys : List ℕ} (T : Tabled G t 
     size-is = omega (arith, z, block-size T e h some)
 
     pub block-asks : isBlockwise (c .coordinates .group) ≡ true → {n : ℕ} → 3008 ≤ n
-        → (Tabled G t hs ss bs ks xs ys) × (BlockAt G (c .coordinates .group) (c .coordinates .item) (c .coordinates .block)) × (isBlockwise (c .coordinates .group) ≡ true)
+        → (BlockAt G (c .coordinates .group) (c .coordinates .item) (c .coordinates .block)) × (isBlockwise (c .coordinates .group) ≡ true)
         × (length (blockText G (c .coordinates .group) (c .coordinates .item) (c .coordinates .block)) ≤ n)
-    block-asks r f = (T, placed-at T e some h .block-at, r, le-trans (block-short T (placed-at T e some h .block-at) r) f)
+    block-asks r f = (placed-at T e some h .block-at, r, le-trans (block-short T (placed-at T e some h .block-at) r) f)
 
     -- line by line, as far as the block goes
     line-at : (y : ℕ) → y ≤ c .coordinates .clauses → getD (codeLines G) (c .number + y) [] ≡ lineText (clauseAt G (c .coordinates .group) (c .coordinates .item) (c .coordinates .block) (suc y))
@@ -102,7 +102,7 @@ module _ {G : Code} {t : Totals} {hs ss bs ks xs ys : List ℕ} (T : Tabled G t 
           record {
             some = omega arith;
             listed = listed;
-            in-room = omega (arith, u .0, block-asks g k .3);
+            in-room = omega (arith, u .0, block-asks g k .2);
             bytes-are = u .0 ∙ sym (ap length block-lines);
             text-is = u .1 ∙ ap (λ (y : List ℕ). y ++ drop r b) (sym block-lines);
             place-is = q ∙ ap (placeAt G) (more (c .number) (c .coordinates .clauses));

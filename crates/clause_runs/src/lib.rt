@@ -1,11 +1,11 @@
 // The lines of the clause file from a place on, into a lent buffer (document 01, "Clauses, in order").
 use clause_blocks::put_block;
+use clause_cells::totals;
 use clause_layout::size;
 use clause_places::Place;
 use clause_places::further_block;
 use clause_places::next;
 use clause_places::past_block;
-use clause_tables::Totals;
 use clause_text::clause_length;
 use clause_text::header_length;
 use clause_text::is_blockwise;
@@ -17,7 +17,7 @@ ghost use mathlib.Core.Bool.{true};
 ghost use mathlib.Core.List.{_++_};
 ghost use lib.Dec.{leb};
 ghost use lib.ListN.{length, drop};
-ghost use Rattle.clause_tables.specs.Tables.{codeIn, Ready};
+ghost use Rattle.clause_tables.specs.Tables.{Ready, codeIn, clausesIn};
 ghost use Rattle.clause_places.specs.Places.{placeAt};
 ghost use Rattle.clause_text.specs.Blocks.{isBlockwise};
 ghost use Rattle.clause_runs.specs.Lines.{codeLine, codePart, codeRunBytes};
@@ -31,313 +31,124 @@ pub struct RunPart {
 }
 
 // The length of the line at place c: line 0 stands before the first clause.
-pub fn line_length<'a>(
-    t: Totals,
-    heads: &'a [u16],
-    starts: &'a [u16],
-    bodies: &'a [u16],
-    before: &'a [u16],
-    partners: &'a [u16],
-    owners: &'a [u16],
-    c: Place,
-) -> usize
-    requires { ⌜ (Ready t (now heads) (now starts) (now bodies) (now before) (now partners) (now owners))
-        × (c ≡ placeAt (codeIn t (now heads) (now starts) (now bodies)) (c .number)) × (c .number ≤ t .clauses) ⌝ }
-    ensures { λ r. ⌜ r ≡ length (codeLine (codeIn t (now (heads .entry)) (now (starts .entry)) (now (bodies .entry))) (c .number)) ⌝ }
+pub fn line_length(table: &[u16], c: Place) -> usize
+    requires { ⌜ (Ready (now table)) × (c ≡ placeAt (codeIn (now table)) (c .number)) × (c .number ≤ clausesIn (now table)) ⌝ }
+    ensures { λ r. ⌜ r ≡ length (codeLine (codeIn (now (table .entry))) (c .number)) ⌝ }
 {
+    let t = totals(table);
     if c.number == 0 {
         return header_length(t.vars, t.clauses);
     }
     let s = c.coordinates;
-    clause_length(
-        t,
-        heads,
-        starts,
-        bodies,
-        before,
-        partners,
-        owners,
-        s.group,
-        s.item,
-        s.block,
-        s.clause,
-    )
+    clause_length(table, s.group, s.item, s.block, s.clause)
 }
 
 // Writes the line at place c at the front of the buffer and returns its length.
-pub fn put_line<'a>(
-    t: Totals,
-    heads: &'a [u16],
-    starts: &'a [u16],
-    bodies: &'a [u16],
-    before: &'a [u16],
-    partners: &'a [u16],
-    owners: &'a [u16],
-    c: Place,
-    buf: &mut [u8],
-) -> usize
-    requires { ⌜ (Ready t (now heads) (now starts) (now bodies) (now before) (now partners) (now owners))
-        × (c ≡ placeAt (codeIn t (now heads) (now starts) (now bodies)) (c .number)) × (c .number ≤ t .clauses)
-        × (length (codeLine (codeIn t (now heads) (now starts) (now bodies)) (c .number)) ≤ length (now buf)) ⌝ }
-    ensures { λ r. ⌜ (r ≡ length (codeLine (codeIn t (now (heads .entry)) (now (starts .entry)) (now (bodies .entry))) (c .number)))
-        × (now (buf .exit)
-        ≡ codeLine (codeIn t (now (heads .entry)) (now (starts .entry)) (now (bodies .entry))) (c .number) ++ drop r (now (buf .entry))) ⌝ }
+pub fn put_line(table: &[u16], c: Place, buf: &mut [u8]) -> usize
+    requires { ⌜ (Ready (now table)) × (c ≡ placeAt (codeIn (now table)) (c .number)) × (c .number ≤ clausesIn (now table))
+        × (length (codeLine (codeIn (now table)) (c .number)) ≤ length (now buf)) ⌝ }
+    ensures { λ r. ⌜ (r ≡ length (codeLine (codeIn (now (table .entry))) (c .number)))
+        × (now (buf .exit) ≡ codeLine (codeIn (now (table .entry))) (c .number) ++ drop r (now (buf .entry))) ⌝ }
 {
+    let t = totals(table);
     if c.number == 0 {
         return put_header(t.vars, t.clauses, &mut *buf);
     }
     let s = c.coordinates;
-    put_clause(
-        t,
-        heads,
-        starts,
-        bodies,
-        before,
-        partners,
-        owners,
-        s.group,
-        s.item,
-        s.block,
-        s.clause,
-        &mut *buf,
-    )
+    put_clause(table, s.group, s.item, s.block, s.clause, &mut *buf)
 }
 
 // Whether the line at place c fits `room` bytes. No line has more than 3,008 bytes.
-fn fits<'a>(
-    t: Totals,
-    heads: &'a [u16],
-    starts: &'a [u16],
-    bodies: &'a [u16],
-    before: &'a [u16],
-    partners: &'a [u16],
-    owners: &'a [u16],
-    c: Place,
-    room: usize,
-) -> bool
-    requires { ⌜ (Ready t (now heads) (now starts) (now bodies) (now before) (now partners) (now owners))
-        × (c ≡ placeAt (codeIn t (now heads) (now starts) (now bodies)) (c .number)) × (c .number ≤ t .clauses) ⌝ }
-    ensures { λ r. ⌜ r ≡ leb (length (codeLine (codeIn t (now (heads .entry)) (now (starts .entry)) (now (bodies .entry))) (c .number))) room ⌝ }
+fn fits(table: &[u16], c: Place, room: usize) -> bool
+    requires { ⌜ (Ready (now table)) × (c ≡ placeAt (codeIn (now table)) (c .number)) × (c .number ≤ clausesIn (now table)) ⌝ }
+    ensures { λ r. ⌜ r ≡ leb (length (codeLine (codeIn (now (table .entry))) (c .number))) room ⌝ }
 {
     if 3008 <= room {
         return true;
     }
-    line_length(t, heads, starts, bodies, before, partners, owners, c) <= room
+    line_length(table, c) <= room
 }
 
 // The place of the clause after the last one of c's block, by `past_block` only where the item has no further block.
-fn after_block<'a>(
-    t: Totals,
-    heads: &'a [u16],
-    starts: &'a [u16],
-    bodies: &'a [u16],
-    before: &'a [u16],
-    partners: &'a [u16],
-    owners: &'a [u16],
-    c: Place,
-) -> Place
-    requires { ⌜ (Ready t (now heads) (now starts) (now bodies) (now before) (now partners) (now owners))
-        × (c ≡ placeAt (codeIn t (now heads) (now starts) (now bodies)) (c .number)) × (c .number ≤ t .clauses) ⌝ }
-    ensures { λ r. ⌜ (r
-        ≡ placeAt (codeIn t (now (heads .entry)) (now (starts .entry)) (now (bodies .entry)))
-        (suc (c .number + c .coordinates .clauses))) × (c .number + c .coordinates .clauses ≤ t .clauses) ⌝ }
+fn after_block(table: &[u16], c: Place) -> Place
+    requires { ⌜ (Ready (now table)) × (c ≡ placeAt (codeIn (now table)) (c .number)) × (c .number ≤ clausesIn (now table)) ⌝ }
+    ensures { λ r. ⌜ (r ≡ placeAt (codeIn (now (table .entry))) (suc (c .number + c .coordinates .clauses)))
+        × (c .number + c .coordinates .clauses ≤ clausesIn (now (table .entry))) ⌝ }
 {
     let s = c.coordinates;
     if 0 < s.blocks {
-        let k = size(
-            t,
-            heads,
-            starts,
-            bodies,
-            before,
-            partners,
-            owners,
-            s.group,
-            s.item,
-            s.block + 1,
-        );
+        let k = size(table, s.group, s.item, s.block + 1);
         if 0 < k {
             return further_block(c, k);
         }
     }
-    past_block(t, heads, starts, bodies, before, partners, owners, c)
+    past_block(table, c)
 }
 
 // Writes the lines of the block of groups 4 and 5 that begins at place c.
-fn put_whole_block<'a>(
-    t: Totals,
-    heads: &'a [u16],
-    starts: &'a [u16],
-    bodies: &'a [u16],
-    before: &'a [u16],
-    partners: &'a [u16],
-    owners: &'a [u16],
-    c: Place,
-    buf: &mut [u8],
-) -> RunPart
-    requires { ⌜ (Ready t (now heads) (now starts) (now bodies) (now before) (now partners) (now owners))
-        × (c ≡ placeAt (codeIn t (now heads) (now starts) (now bodies)) (c .number)) × (c .number ≤ t .clauses)
+fn put_whole_block(table: &[u16], c: Place, buf: &mut [u8]) -> RunPart
+    requires { ⌜ (Ready (now table)) × (c ≡ placeAt (codeIn (now table)) (c .number)) × (c .number ≤ clausesIn (now table))
         × (isBlockwise (c .coordinates .group) ≡ true) × (c .coordinates .clause ≡ 1) × (3008 ≤ length (now buf)) ⌝ }
-    ensures { λ r. ⌜ Taken (codeIn t (now (heads .entry)) (now (starts .entry)) (now (bodies .entry))) (c .number) r
-        (now (buf .entry)) (now (buf .exit)) ⌝ }
+    ensures { λ r. ⌜ Taken (codeIn (now (table .entry))) (c .number) r (now (buf .entry)) (now (buf .exit)) ⌝ }
 {
     let s = c.coordinates;
-    let bytes = put_block(
-        t,
-        heads,
-        starts,
-        bodies,
-        before,
-        partners,
-        owners,
-        s.group,
-        s.item,
-        s.block,
-        &mut *buf,
-    );
+    let bytes = put_block(table, s.group, s.item, s.block, &mut *buf);
     RunPart {
         lines: s.clauses as usize + 1,
         bytes: bytes,
-        place: after_block(t, heads, starts, bodies, before, partners, owners, c),
+        place: after_block(table, c),
     }
 }
 
 // Writes the line at place c.
-fn put_one<'a>(
-    t: Totals,
-    heads: &'a [u16],
-    starts: &'a [u16],
-    bodies: &'a [u16],
-    before: &'a [u16],
-    partners: &'a [u16],
-    owners: &'a [u16],
-    c: Place,
-    buf: &mut [u8],
-) -> RunPart
-    requires { ⌜ (Ready t (now heads) (now starts) (now bodies) (now before) (now partners) (now owners))
-        × (c ≡ placeAt (codeIn t (now heads) (now starts) (now bodies)) (c .number)) × (c .number ≤ t .clauses)
-        × (length (codeLine (codeIn t (now heads) (now starts) (now bodies)) (c .number)) ≤ length (now buf)) ⌝ }
-    ensures { λ r. ⌜ Taken (codeIn t (now (heads .entry)) (now (starts .entry)) (now (bodies .entry))) (c .number) r
-        (now (buf .entry)) (now (buf .exit)) ⌝ }
+fn put_one(table: &[u16], c: Place, buf: &mut [u8]) -> RunPart
+    requires { ⌜ (Ready (now table)) × (c ≡ placeAt (codeIn (now table)) (c .number)) × (c .number ≤ clausesIn (now table))
+        × (length (codeLine (codeIn (now table)) (c .number)) ≤ length (now buf)) ⌝ }
+    ensures { λ r. ⌜ Taken (codeIn (now (table .entry))) (c .number) r (now (buf .entry)) (now (buf .exit)) ⌝ }
 {
-    let bytes = put_line(
-        t,
-        heads,
-        starts,
-        bodies,
-        before,
-        partners,
-        owners,
-        c,
-        &mut *buf,
-    );
+    let bytes = put_line(table, c, &mut *buf);
     RunPart {
         lines: 1,
         bytes: bytes,
-        place: next(t, heads, starts, bodies, before, partners, owners, c),
+        place: next(table, c),
     }
 }
 
 // Writes the line at place c, which fits, or the lines of the whole block that begins there.
-fn put_some<'a>(
-    t: Totals,
-    heads: &'a [u16],
-    starts: &'a [u16],
-    bodies: &'a [u16],
-    before: &'a [u16],
-    partners: &'a [u16],
-    owners: &'a [u16],
-    c: Place,
-    buf: &mut [u8],
-) -> RunPart
-    requires { ⌜ (Ready t (now heads) (now starts) (now bodies) (now before) (now partners) (now owners))
-        × (c ≡ placeAt (codeIn t (now heads) (now starts) (now bodies)) (c .number)) × (c .number ≤ t .clauses)
-        × (length (codeLine (codeIn t (now heads) (now starts) (now bodies)) (c .number)) ≤ length (now buf)) ⌝ }
-    ensures { λ r. ⌜ Taken (codeIn t (now (heads .entry)) (now (starts .entry)) (now (bodies .entry))) (c .number) r
-        (now (buf .entry)) (now (buf .exit)) ⌝ }
+fn put_some(table: &[u16], c: Place, buf: &mut [u8]) -> RunPart
+    requires { ⌜ (Ready (now table)) × (c ≡ placeAt (codeIn (now table)) (c .number)) × (c .number ≤ clausesIn (now table))
+        × (length (codeLine (codeIn (now table)) (c .number)) ≤ length (now buf)) ⌝ }
+    ensures { λ r. ⌜ Taken (codeIn (now (table .entry))) (c .number) r (now (buf .entry)) (now (buf .exit)) ⌝ }
 {
     if 3008 <= buf.len() {
         if c.coordinates.clause == 1 {
             if is_blockwise(c.coordinates.group) {
-                return put_whole_block(
-                    t,
-                    heads,
-                    starts,
-                    bodies,
-                    before,
-                    partners,
-                    owners,
-                    c,
-                    &mut *buf,
-                );
+                return put_whole_block(table, c, &mut *buf);
             }
         }
     }
-    put_one(
-        t,
-        heads,
-        starts,
-        bodies,
-        before,
-        partners,
-        owners,
-        c,
-        &mut *buf,
-    )
+    put_one(table, c, &mut *buf)
 }
 
 // Writes as many whole lines as fit the buffer, from the line at place c on.
-pub fn put_lines<'a>(
-    t: Totals,
-    heads: &'a [u16],
-    starts: &'a [u16],
-    bodies: &'a [u16],
-    before: &'a [u16],
-    partners: &'a [u16],
-    owners: &'a [u16],
-    c: Place,
-    buf: &mut [u8],
-) -> RunPart
-    requires { ⌜ (Ready t (now heads) (now starts) (now bodies) (now before) (now partners) (now owners))
-        × (c ≡ placeAt (codeIn t (now heads) (now starts) (now bodies)) (c .number)) × (c .number ≤ suc (t .clauses)) ⌝ }
-    ensures { λ r. ⌜ (r
-        ≡ codePart (codeIn t (now (heads .entry)) (now (starts .entry)) (now (bodies .entry))) (c .number)
-        (length (now (buf .entry))))
-        × (now (buf .exit)
-        ≡ codeRunBytes (codeIn t (now (heads .entry)) (now (starts .entry)) (now (bodies .entry))) (c .number) (now (buf .entry))) ⌝ }
+pub fn put_lines(table: &[u16], c: Place, buf: &mut [u8]) -> RunPart
+    requires { ⌜ (Ready (now table)) × (c ≡ placeAt (codeIn (now table)) (c .number)) × (c .number ≤ suc (clausesIn (now table))) ⌝ }
+    ensures { λ r. ⌜ (r ≡ codePart (codeIn (now (table .entry))) (c .number) (length (now (buf .entry))))
+        × (now (buf .exit) ≡ codeRunBytes (codeIn (now (table .entry))) (c .number) (now (buf .entry))) ⌝ }
 {
+    let t = totals(table);
     let mut at = c;
     let mut lines: usize = 0;
     let mut to: usize = 0;
     while at.number <= t.clauses {
-        if !fits(
-            t,
-            heads,
-            starts,
-            bodies,
-            before,
-            partners,
-            owners,
-            at,
-            buf.len() - to,
-        ) {
+        if !fits(table, at, buf.len() - to) {
             return RunPart {
                 lines: lines,
                 bytes: to,
                 place: at,
             };
         }
-        let part = put_some(
-            t,
-            heads,
-            starts,
-            bodies,
-            before,
-            partners,
-            owners,
-            at,
-            &mut buf[to..],
-        );
+        let part = put_some(table, at, &mut buf[to..]);
         to += part.bytes;
         lines += part.lines;
         at = part.place;

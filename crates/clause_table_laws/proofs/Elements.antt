@@ -14,9 +14,8 @@
 --   before-is                         how many pairs stand before rule r
 --   partner-is, owner-is              body atom and head of pair k
 --   partner-in, owner-in              both are from 1 to 126
--- Of arrays (Stored A):
---   programIn-is, codeIn-is           the sizes and three arrays hold the program that the whole holds, and document 01's code of it
---   ready                             the totals and the table of that program make Ready
+-- Of arrays:
+--   programIn-is                      the sizes and the three arrays kept of a program hold it
 --   kept-stored                       the arrays kept of a program are Stored
 -- Of document 01's code:
 --   program-limited                   that of a program within the limits is limited
@@ -55,7 +54,7 @@ use Rattle.text.specs.Limits.{Limits}
 use Rattle.program.proofs.Decode.{decoded-kept}
 use Rattle.program.proofs.Pads.{length-pad}
 use Rattle.clause_tables.specs.declared.Totals.{Totals}
-use Rattle.clause_tables.specs.Tables.{Stored, Limited, Tabled, Ready, programIn, codeIn, pairTable, totalsOf}
+use Rattle.clause_tables.specs.Tables.{Stored, Limited, Tabled, programIn, totalsOf}
 use Rattle.clause_tables.proofs.Sizes.{pairs-few as positives-few}
 
 -- ---- lists filled up with zeros
@@ -404,20 +403,14 @@ same-rules : (A : Arrays) (n m k i : ℕ)
 same-rules A n m zero i = refl
 same-rules A n m (suc k) i = ap (λ (rs : List Rule). ruleIn A i ∷ rs) (same-rules A n m k (suc i))
 
-rules-length : (A : Arrays) (i k : ℕ) → length (rulesFrom A i k) ≡ k
-rules-length A i zero = refl
-rules-length A i (suc k) = ap suc (rules-length A (suc i) k)
+held-none : (P : Program) (w : ℕ)
+    → programIn (record { n = P .atoms; m = length (P .rules); w = w }) (kept P .heads) (kept P .starts) (kept P .bodies) ≡ decoded (kept P)
+unfolding decoded kept
+held-none P w = ap (λ (rs : List Rule). record { atoms = P .atoms; rules = rs }) (same-rules (kept P) (P .atoms) (length (P .rules)) (length (P .rules)) 0)
 
-pub programIn-is : (A : Arrays) (t : Totals) → t ≡ totalsOf (codeOf (decoded A)) → programIn (t .sizes) (A .heads) (A .starts) (A .bodies) ≡ decoded A
-unfolding decoded totalsOf
-programIn-is A t e =
-    ap (λ (x : Totals). programIn (x .sizes) (A .heads) (A .starts) (A .bodies)) e
-    ∙ ap (λ (rs : List Rule). record { atoms = A .atoms; rules = rs })
-    (same-rules A (A .atoms) (length (rulesFrom A 0 (A .rules))) (length (rulesFrom A 0 (A .rules))) 0 ∙ ap (rulesFrom A 0) (rules-length A 0 (A .rules)))
-
-pub codeIn-is : (A : Arrays) (t : Totals) → t ≡ totalsOf (codeOf (decoded A)) → codeIn t (A .heads) (A .starts) (A .bodies) ≡ codeOf (decoded A)
-unfolding totalsOf
-codeIn-is A t e = ap₂ whole (programIn-is A t e) (ap (λ (x : Totals). x .sizes .w) e)
+pub programIn-is : (P : Program) (w : ℕ)
+    → programIn (record { n = P .atoms; m = length (P .rules); w = w }) (kept P .heads) (kept P .starts) (kept P .bodies) ≡ P
+programIn-is P w = held-none P w ∙ decoded-kept P
 
 -- document 01's code of a program within the limits
 pub program-limited : (P : Program) → Limits P → Limited (codeOf P)
@@ -429,26 +422,6 @@ program-limited P L =
       none-open = λ a. refl;
       all-inside = λ b h. refl;
     }
-
-pub ready : (A : Arrays) → Stored A
-    → Ready (totalsOf (codeOf (decoded A))) (A .heads) (A .starts) (A .bodies) (pairTable (decoded A) .before) (pairTable (decoded A) .bodies) (pairTable (decoded A) .heads)
-unfolding pairTable
-ready A s =
-    let P = decoded A in
-    let w = width (P .atoms) in
-    subst
-    (λ (G : Code). Tabled G (totalsOf (codeOf P)) (A .heads) (A .starts) (A .bodies) (pairTable P .before) (pairTable P .bodies) (pairTable P .heads))
-    (sym (codeIn-is A (totalsOf (codeOf P)) refl))
-    (record {
-      limits = program-limited P (s .limits);
-      totals-are = refl;
-      heads-are = ap (λ (X : Arrays). X .heads) (s .arrays-are);
-      starts-are = ap (λ (X : Arrays). X .starts) (s .arrays-are);
-      bodies-are = ap (λ (X : Arrays). X .bodies) (s .arrays-are);
-      before-are = ap (λ (f : ℕ → ℕ). pad 501 (tab (suc (length (P .rules))) f)) (fun-ext (λ r. sym (before-whole P w r)));
-      partners-are = ap (λ (ps : List Pair). pad 500 (map (λ p. p .body) ps)) (sym (pairs-whole P w));
-      owners-are = ap (λ (ps : List Pair). pad 500 (map (λ p. p .head) ps)) (sym (pairs-whole P w));
-    })
 
 pub kept-stored : (P : Program) → Limits P → Stored (kept P)
 kept-stored P l = record { limits = subst (λ (X : Program). Limits X) (sym (decoded-kept P)) l; arrays-are = ap kept (sym (decoded-kept P)) }

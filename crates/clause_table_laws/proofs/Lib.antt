@@ -1,4 +1,6 @@
 -- Elements: what the tables of a program hold, by number
 -- Bounds: the bounds of all numbers and lines
+-- Cells: the regions of the table of a code
 pub mod Elements
 pub mod Bounds
+pub mod Cells

@@ -1,43 +1,33 @@
--- What is made of a program once, before its clauses are walked: the table of its pairs, and its totals.
+-- What is made of a program once, before its clauses are walked: one table, with its counts, its arrays and those of its pairs.
 --   Stored A         the arrays A are those kept of the program that they hold, which is within the limits
---   pairTable P      the pairs of P as arrays: how many stand before each rule, their body atoms and their heads
 --   totalsOf G       the sizes, the number of pairs, V and C
---   programIn, codeIn  the program that the sizes and three arrays hold, and its code with the width that the sizes have
+--   regionsOf G      the regions of the table of a code, in order, each filled up with zeros to its size
+--   tableOf G        the table: its regions, one after the other
+--   countIn, sizesIn, totalsIn, headsIn ..    the counts and the regions of a table
+--   programIn, codeIn  the program that the sizes and three arrays hold, and the code that a table holds
 --   Limited G        the code is of a program within the limits, has from 1 to 7 bits, no open atom and every pair inside
---   Tabled G ..      totals, arrays and pair table are those of the code G, which is limited so
---   Ready ..         of the code that the first three arrays hold
+--   Tabled G ..      totals and arrays are those of the code G, which is limited so
+--   TableOf G tb     the table is that of the code G, which is limited so
+--   Ready tb         of the code that it holds
 -- Assumes nothing.
 use Prim.Native.Nat.{ℕ, suc, _≤_, _<_}
 use mathlib.Core.Path.{_≡_}
 use mathlib.Core.Bool.{true, false}
-use mathlib.Core.List.{List, map}
-use lib.ListN.{length}
-use Rattle.lists.specs.Lists.{tab}
+use mathlib.Core.List.{List, [], _∷_, map}
+use lib.ListN.{getD, take, drop}
+use Rattle.lists.specs.Lists.{tab, joined}
 use Rattle.meaning.specs.Program.{Program}
-use Rattle.encoding.specs.Clauses.{pairs, pairCount, pairsBefore, emptyBodies}
 use Rattle.encoding.specs.Code.{Code, whole, programOf, m, pairList, pairTotal, before, clauseTotalOf, variablesOf}
 use Rattle.clause_literals.specs.declared.Sizes.{Sizes}
 use Rattle.program.specs.declared.Program.{Program as Arrays}
 use Rattle.program.specs.Arrays.{pad, kept}
 use Rattle.program.specs.Arrays.{decoded}
 use Rattle.text.specs.Limits.{Limits}
-use Rattle.clause_tables.specs.declared.Pairs.{Pairs}
 use Rattle.clause_tables.specs.declared.Totals.{Totals}
 
 pub record Stored (A : Arrays) : Type 0 where
   pub limits : Limits (decoded A)
   pub arrays-are : A ≡ kept (decoded A)
-
--- entry r of `before`, from 1, is for rule r; the one after the last rule is K
-unfoldable pub pairTable : Program → Pairs
-pairTable P =
-    record {
-      count = pairCount P;
-      empty = emptyBodies P;
-      before = pad 501 (tab (suc (length (P .rules))) (pairsBefore P));
-      bodies = pad 500 (map (λ p. p .body) (pairs P));
-      heads = pad 500 (map (λ p. p .head) (pairs P));
-    }
 
 unfoldable pub totalsOf : Code → Totals
 totalsOf G =
@@ -50,9 +40,6 @@ totalsOf G =
 
 abbrev pub programIn : Sizes → List ℕ → List ℕ → List ℕ → Program
 programIn s hs ss bs = decoded (record { atoms = s .n; rules = s .m; held = 0; heads = hs; starts = ss; bodies = bs })
-
-abbrev pub codeIn : Totals → List ℕ → List ℕ → List ℕ → Code
-codeIn t hs ss bs = whole (programIn (t .sizes) hs ss bs) (t .sizes .w)
 
 pub record Limited (G : Code) : Type 0 where
   pub within : Limits (programOf G)
@@ -71,5 +58,75 @@ pub record Tabled (G : Code) (t : Totals) (hs ss bs ks xs ys : List ℕ) : Type 
   pub partners-are : xs ≡ pad 500 (map (λ p. p .body) (pairList G))
   pub owners-are : ys ≡ pad 500 (map (λ p. p .head) (pairList G))
 
-abbrev pub Ready : Totals → List ℕ → List ℕ → List ℕ → List ℕ → List ℕ → List ℕ → Type 0
-Ready t hs ss bs ks xs ys = Tabled (codeIn t hs ss bs) t hs ss bs ks xs ys
+-- ---- the table
+
+-- the counts in their order, the heads, the body atoms, the pairs before each rule and, after the last one, K, the two atoms of the pairs, the list starts
+unfoldable pub regionsOf : Code → List (List ℕ)
+regionsOf G =
+    pad 16 (G .n ∷ m G ∷ G .w ∷ pairTotal G ∷ variablesOf G ∷ clauseTotalOf G ∷ [])
+    ∷ kept (programOf G) .heads
+    ∷ kept (programOf G) .bodies
+    ∷ pad 501 (tab (suc (m G)) (before G))
+    ∷ pad 500 (map (λ p. p .body) (pairList G))
+    ∷ pad 500 (map (λ p. p .head) (pairList G))
+    ∷ kept (programOf G) .starts
+    ∷ []
+
+abbrev pub tableOf : Code → List ℕ
+tableOf G = joined (regionsOf G)
+
+-- k cells of a table from cell j on
+abbrev pub region : ℕ → ℕ → List ℕ → List ℕ
+region j k tb = take k (drop j tb)
+
+abbrev pub countIn : List ℕ → ℕ → ℕ
+countIn tb j = getD (region 0 16 tb) j 0
+
+abbrev pub headsIn : List ℕ → List ℕ
+headsIn tb = region 16 500 tb
+
+abbrev pub bodiesIn : List ℕ → List ℕ
+bodiesIn tb = region 516 500 tb
+
+abbrev pub beforeIn : List ℕ → List ℕ
+beforeIn tb = region 1016 501 tb
+
+abbrev pub partnersIn : List ℕ → List ℕ
+partnersIn tb = region 1517 500 tb
+
+abbrev pub ownersIn : List ℕ → List ℕ
+ownersIn tb = region 2017 500 tb
+
+abbrev pub startsIn : List ℕ → List ℕ
+startsIn tb = region 2517 1001 tb
+
+abbrev pub totalsIn : List ℕ → Totals
+totalsIn tb =
+    record {
+      sizes = record { n = countIn tb 0; m = countIn tb 1; w = countIn tb 2 };
+      pairs = countIn tb 3;
+      vars = countIn tb 4;
+      clauses = countIn tb 5;
+    }
+
+abbrev pub atomsIn : List ℕ → ℕ
+atomsIn tb = totalsIn tb .sizes .n
+
+abbrev pub rulesIn : List ℕ → ℕ
+rulesIn tb = totalsIn tb .sizes .m
+
+abbrev pub varsIn : List ℕ → ℕ
+varsIn tb = totalsIn tb .vars
+
+abbrev pub clausesIn : List ℕ → ℕ
+clausesIn tb = totalsIn tb .clauses
+
+abbrev pub codeIn : List ℕ → Code
+codeIn tb = whole (programIn (totalsIn tb .sizes) (headsIn tb) (startsIn tb) (bodiesIn tb)) (totalsIn tb .sizes .w)
+
+pub record TableOf (G : Code) (tb : List ℕ) : Type 0 where
+  pub limits : Limited G
+  pub table-is : tb ≡ tableOf G
+
+abbrev pub Ready : List ℕ → Type 0
+Ready tb = TableOf (codeIn tb) tb

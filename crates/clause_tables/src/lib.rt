@@ -1,15 +1,21 @@
-// What is made of a program once, before its clauses are walked: the table of its pairs, V and C (document 01, "Variables").
+// One table for each program, made once before its clauses are walked: its counts, its arrays and those of its pairs (document 01, "Variables").
 use clause_literals::Sizes;
 
-// The pairs (body atom, head) in text order; entry r of `before`, from 1, says how many stand before those of rule r.
-// `empty` counts the rules with B empty. What lies past the counts is 0.
-pub struct Pairs {
-    pub count: u16,
-    pub empty: u16,
-    pub before: [u16; 501],
-    pub bodies: [u16; 500],
-    pub heads: [u16; 500],
-}
+// Where each region of the table begins. Its cells past those in use are 0.
+pub const HEADS_AT: usize = 16;
+
+pub const BODIES_AT: usize = 516;
+
+pub const BEFORE_AT: usize = 1016;
+
+pub const PARTNERS_AT: usize = 1517;
+
+pub const OWNERS_AT: usize = 2017;
+
+pub const STARTS_AT: usize = 2517;
+
+// How many cells it has in all.
+pub const CELLS: usize = 3518;
 
 // The sizes, the number of pairs, V and C.
 pub struct Totals {

@@ -1,6 +1,5 @@
 -- What the arrays of a stored program hold of rule r (with r rules before it).
---   rules-many       the program that arrays hold has as many rules as they say
---   rule-at          its rule r is the one that they hold there
+--   rule-at          rule r of the program that arrays hold is the one that they hold there
 --   Here A P r       rule r of P is held by A: its positive list begins no later than it ends, within the body atoms
 --   here             so it is for a stored program
 --   size-is          the difference of the starts is the length of the positive list
@@ -8,18 +7,16 @@
 use Prim.Native.Nat.{ℕ, zero, suc, _+_, _-_, _*_, _≤_, _<_}
 use native.Mathlib.Nat.{not-suc-le-zero, le-of-suc-le-suc, add-zero}
 use native.Mathlib.Omega.{arith}
-use mathlib.Core.Path.{_≡_, refl, sym, _∙_, ap, subst}
+use mathlib.Core.Path.{_≡_, sym, _∙_, ap, subst}
 use mathlib.Core.List.{List, [], _∷_, _++_}
 use lib.ListN.{length, getD, take, drop, replicate, length-append, length-drop}
 use lib.Seq.{length-take-le}
 use Rattle.meaning.specs.Program.{Rule, Program, noRule, ruleAt}
 use Rattle.program.specs.declared.Program.{Program as Arrays}
-use Rattle.program.specs.Arrays.{kept, endsOf}
+use Rattle.program.specs.Arrays.{kept, endsOf, startOf, ruleIn, rulesFrom, decoded}
 use Rattle.text.specs.Limits.{bodiesOf}
-use Rattle.program.specs.Arrays.{startOf, ruleIn, rulesFrom, decoded}
-use Rattle.program.proofs.Pads.{length-pad}
-use Rattle.text.specs.Limits.{Limits}
 use Rattle.clause_tables.specs.Tables.{Stored}
+use Rattle.clause_tabling.proofs.Held.{rules-many, many-bodies}
 
 -- ---- the rule
 
@@ -30,14 +27,6 @@ rules-from A i (suc k) (suc r) h = rules-from A (suc i) k r (le-of-suc-le-suc h)
   where
     next : (i r : ℕ) → suc i + r ≡ i + suc r
     next i r = omega arith
-
-pub rules-many : (A : Arrays) → length (decoded A .rules) ≡ A .rules
-unfolding decoded
-rules-many A = go 0 (A .rules)
-  where
-    go : (i k : ℕ) → length (rulesFrom A i k) ≡ k
-    go i zero = refl
-    go i (suc k) = ap suc (go (suc i) k)
 
 pub rule-at : (A : Arrays) (r : ℕ) → r < A .rules → ruleAt (decoded A .rules) (suc r) ≡ ruleIn A r
 unfolding decoded
@@ -82,12 +71,6 @@ kept-ordered : (P : Program) (i : ℕ) → i < length (P .rules) → Ordered (ke
 unfolding kept
 kept-ordered P i h = ends-ordered (P .rules) 0 (replicate (1001 - length (0 ∷ endsOf 0 (P .rules))) 0) i h
 
--- ---- lengths
-
-kept-bodies : (P : Program) → Limits P → length (kept P .bodies) ≡ 500
-unfolding kept
-kept-bodies P l = length-pad 500 (bodiesOf (P .rules)) (l .few-bodies)
-
 -- ---- together
 
 pub record Here (A : Arrays) (P : Program) (r : ℕ) : Type 0 where
@@ -107,7 +90,7 @@ here A s r h =
     record {
       is-rule = less;
       rises = subst (λ (B : Arrays). startOf B (2 * r) ≤ startOf B (2 * r + 1)) (sym (s .arrays-are)) (o .rises);
-      within = subst (λ (B : Arrays). startOf B (2 * r + 1) ≤ length (B .bodies)) (sym (s .arrays-are)) (omega (arith, o .within, s .limits .few-bodies, full));
+      within = omega (arith, before-end, s .limits .few-bodies, many-bodies A s);
       head-is = sym (ap (λ (R : Rule). R .head) (rule-at A r h));
       positive-is = sym (ap (λ (R : Rule). R .positive) (rule-at A r h));
     }
@@ -118,5 +101,5 @@ here A s r h =
     o : Ordered (kept (decoded A) .starts) r (0 + length (bodiesOf (decoded A .rules)))
     o = kept-ordered (decoded A) r less
 
-    full : length (kept (decoded A) .bodies) ≡ 500
-    full = kept-bodies (decoded A) (s .limits)
+    before-end : startOf A (2 * r + 1) ≤ 0 + length (bodiesOf (decoded A .rules))
+    before-end = subst (λ (B : Arrays). startOf B (2 * r + 1) ≤ 0 + length (bodiesOf (decoded A .rules))) (sym (s .arrays-are)) (o .within)

@@ -1,10 +1,18 @@
 -- Products: the products in the number of clauses are bounded
--- Stores: what the stores of a rule's pairs leave in an array
--- Kept: what the arrays of a stored program hold of a rule
--- Turns: the loop over the rules that fills the table
--- Totals: the totals of a stored program
+-- Stores: the loops that store a list or copies of a number, and what they leave of an array with zeros after its list
+-- Regions: what stores into one of several lists leave of them all
+-- Held: the arrays of a stored program are lists, filled up with zeros
+-- Kept: what they hold of a rule
+-- Sums: the counts of a loop over the rules
+-- Laid: the regions of the table, written one after the other
+-- Turns: the loop over the rules that writes the pairs
+-- Totals: the counts of the table of a stored program
 pub mod Products
 pub mod Stores
+pub mod Regions
+pub mod Held
 pub mod Kept
+pub mod Sums
+pub mod Laid
 pub mod Turns
 pub mod Totals

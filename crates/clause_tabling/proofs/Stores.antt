@@ -1,5 +1,6 @@
--- The loop that stores the pairs of a rule, and what stores leave of an array with zeros after its list.
+-- The loops that store a list or copies of a number, and what stores leave of an array with zeros after its list.
 --   taken-goes, copies-goes    one turn: what is left to store, without the element stored
+--   sets-twice                 two lists stored, one after the other
 --   set-pad, sets-pad          x, and the elements of ys, stored after xs
 --   set-behind, sets-behind    the same at a place that is known to be after xs
 -- Assumes nothing.
@@ -62,6 +63,11 @@ taken-ends from ys ws a size at i h inv = sym (ap (λ (k : ℕ). sets ys (at + i
 
 pub copies-ends : (ys ws : List ℕ) (size at i x : ℕ) → size ≤ i → sets ys (at + i) (replicate (size - i) x) ≡ ws → ys ≡ ws
 copies-ends ys ws size at i x h inv = sym (ap (λ (k : ℕ). sets ys (at + i) (replicate k x)) (none-left size i h)) ∙ inv
+
+-- ---- two stores, one after the other
+
+pub sets-twice : (xs ys zs us vs : List ℕ) (i j : ℕ) → ys ≡ sets xs i us → zs ≡ sets ys j vs → zs ≡ sets (sets xs i us) j vs
+sets-twice xs ys zs us vs i j p q = q ∙ ap (λ (ws : List ℕ). sets ws j vs) p
 
 -- ---- arrays with zeros after a list
 

@@ -1,2 +1,4 @@
--- Formula: the number of clauses over plain numbers
+-- Formula: the counts over plain numbers
+-- Stages: the table after each of its parts was written
 pub mod Formula
+pub mod Stages

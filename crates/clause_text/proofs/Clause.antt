@@ -3,7 +3,7 @@
 --   line-short         the line has at most 3,008 bytes
 --   text-more          the literals of one slot more, as code has them
 --   text-fits          the literals of some slots have at most as many bytes as those of all
---   slot-asks, past-asks                     what `slot` and `past_empty` ask
+--   slot-in                                  the slot that follows is one of the clause
 --   past-within, past-less, text-past        how many slots are done with the empty ones that follow, and their literals
 --   length-more, length-next, length-fits, length-line    the number of bytes with one slot more and the empty ones that follow, its bound, and that of the line
 --   part-fits, text-next                     room for one slot more, and the text with it and the empty ones that follow
@@ -29,7 +29,6 @@ use Rattle.clause_tables.specs.Tables.{Tabled}
 use Rattle.clause_table_laws.proofs.Elements as elements
 use Rattle.clause_table_laws.proofs.Bounds.{Slotted, literal-in, line-fits}
 use Rattle.clause_layout.specs.Numbers.{pastEmpty}
-use Rattle.clause_layout.proofs.Groups.{bounded, heads-in}
 use Rattle.clause_layout.proofs.Passed.{Passed, passed, passed-each}
 use Rattle.clause_text.specs.Lines.{literalsIn}
 use Rattle.clause_text.proofs.Held.{held-is}
@@ -85,19 +84,15 @@ module _ {G : Code} {t : Totals} {hs ss bs ks xs ys : List ℕ} (T : Tabled G t 
 
   -- ---- one slot more, and the empty ones that follow
 
-  pub slot-asks : {k l : ℕ} → k ≡ slots G g a i y → l < k
-      → Tabled G t hs ss bs ks xs ys × At G g a i y × (0 < l + 1) × (l + 1 ≤ slots G g a i y)
-  slot-asks {k} {l} e h = (T, A, omega arith, subst (λ (n : ℕ). l + 1 ≤ n) e (more l k h))
+  pub slot-in : {k l : ℕ} → k ≡ slots G g a i y → l < k → l + 1 ≤ slots G g a i y
+  slot-in {k} {l} e h = subst (λ (n : ℕ). l + 1 ≤ n) e (more l k h)
     where
       more : (l k : ℕ) → l < k → l + 1 ≤ k
       more l k h = omega (arith, h)
 
-  pub past-asks : (l : ℕ) → (t .sizes .m ≤ 500) × (t .sizes .m ≤ length hs) × (0 < l + 1)
-  past-asks l = (bounded T .rules, heads-in T (A .block-at), omega arith)
-
   module _ {k l r : ℕ} (e : k ≡ slots G g a i y) (h : l < k) (p : r ≡ pastEmpty (t .sizes .m) hs g a i (l + 1)) where
     past : Passed G g a i y (l + 1) r
-    past = passed T A (omega arith) (slot-asks e h .3) p
+    past = passed T A (omega arith) (slot-in e h) p
 
     pub past-within : r ≤ k
     past-within = subst (λ (n : ℕ). r ≤ n) (sym e) (past .within)

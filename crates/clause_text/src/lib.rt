@@ -1,4 +1,5 @@
 // The lines of the clause file and of a refusal, written into a lent buffer (document 01, "Clauses, in order").
+use clause_cells::totals;
 use clause_layout::chain_of_block;
 use clause_layout::past_empty;
 use clause_layout::slot;
@@ -10,7 +11,6 @@ use clause_slots::Signed;
 use clause_slots::chain_bit;
 use clause_slots::chain_literal;
 use clause_slots::chain_slots;
-use clause_tables::Totals;
 use digits::decimal_length;
 use digits::literal_length;
 use digits::put_decimal;
@@ -104,56 +104,18 @@ fn put_signed(x: Signed, buf: &mut [u8]) -> usize
 }
 
 // How many bytes the line of clause y of block i of item a of group g has.
-pub fn clause_length<'a>(
-    t: Totals,
-    heads: &'a [u16],
-    starts: &'a [u16],
-    bodies: &'a [u16],
-    before: &'a [u16],
-    partners: &'a [u16],
-    owners: &'a [u16],
-    g: u16,
-    a: u16,
-    i: u16,
-    y: u16,
-) -> usize
-    requires { ⌜ (Ready t (now heads) (now starts) (now bodies) (now before) (now partners) (now owners))
-        × (At (codeIn t (now heads) (now starts) (now bodies)) g a i y) ⌝ }
-    ensures { λ r. ⌜ r
-        ≡ length (lineText (clauseAt (codeIn t (now (heads .entry)) (now (starts .entry)) (now (bodies .entry))) g a i y)) ⌝ }
+pub fn clause_length(table: &[u16], g: u16, a: u16, i: u16, y: u16) -> usize
+    requires { ⌜ (Ready (now table)) × (At (codeIn (now table)) g a i y) ⌝ }
+    ensures { λ r. ⌜ r ≡ length (lineText (clauseAt (codeIn (now (table .entry))) g a i y)) ⌝ }
 {
-    let k = slots(
-        t,
-        heads,
-        starts,
-        bodies,
-        before,
-        partners,
-        owners,
-        g,
-        a,
-        i,
-        y,
-    );
+    let t = totals(table);
+    let k = slots(table, g, a, i, y);
     let mut l: u16 = 0;
     let mut to: usize = 0;
     while l < k {
-        let x = slot(
-            t,
-            heads,
-            starts,
-            bodies,
-            before,
-            partners,
-            owners,
-            g,
-            a,
-            i,
-            y,
-            l + 1,
-        );
+        let x = slot(table, g, a, i, y, l + 1);
         to += signed_length(x);
-        l = past_empty(t.sizes.m, heads, g, a, i, l + 1);
+        l = past_empty(table, t.sizes.m, g, a, i, l + 1);
     }
     to + 2
 }
@@ -177,65 +139,24 @@ fn put_chain(c: Chain, i: u16, y: u16, buf: &mut [u8]) -> usize
 }
 
 // Writes the line of clause y of block i of item a of group g at the front of the buffer and returns how many bytes it has.
-pub fn put_clause<'a>(
-    t: Totals,
-    heads: &'a [u16],
-    starts: &'a [u16],
-    bodies: &'a [u16],
-    before: &'a [u16],
-    partners: &'a [u16],
-    owners: &'a [u16],
-    g: u16,
-    a: u16,
-    i: u16,
-    y: u16,
-    buf: &mut [u8],
-) -> usize
-    requires { ⌜ (Ready t (now heads) (now starts) (now bodies) (now before) (now partners) (now owners))
-        × (At (codeIn t (now heads) (now starts) (now bodies)) g a i y)
-        × (length (lineText (clauseAt (codeIn t (now heads) (now starts) (now bodies)) g a i y)) ≤ length (now buf)) ⌝ }
-    ensures { λ r. ⌜ (r
-        ≡ length (lineText (clauseAt (codeIn t (now (heads .entry)) (now (starts .entry)) (now (bodies .entry))) g a i y)))
-        × (now (buf .exit)
-        ≡ lineText (clauseAt (codeIn t (now (heads .entry)) (now (starts .entry)) (now (bodies .entry))) g a i y)
-        ++ drop r (now (buf .entry))) ⌝ }
+pub fn put_clause(table: &[u16], g: u16, a: u16, i: u16, y: u16, buf: &mut [u8]) -> usize
+    requires { ⌜ (Ready (now table)) × (At (codeIn (now table)) g a i y)
+        × (length (lineText (clauseAt (codeIn (now table)) g a i y)) ≤ length (now buf)) ⌝ }
+    ensures { λ r. ⌜ (r ≡ length (lineText (clauseAt (codeIn (now (table .entry))) g a i y)))
+        × (now (buf .exit) ≡ lineText (clauseAt (codeIn (now (table .entry))) g a i y) ++ drop r (now (buf .entry))) ⌝ }
 {
+    let t = totals(table);
     if g == 5 {
-        let c = chain_of_block(t, heads, starts, bodies, before, partners, owners, g, a, i);
+        let c = chain_of_block(table, g, a, i);
         return put_chain(c, chain_bit(t.sizes.w, i), y, &mut *buf);
     }
-    let k = slots(
-        t,
-        heads,
-        starts,
-        bodies,
-        before,
-        partners,
-        owners,
-        g,
-        a,
-        i,
-        y,
-    );
+    let k = slots(table, g, a, i, y);
     let mut l: u16 = 0;
     let mut to: usize = 0;
     while l < k {
-        let x = slot(
-            t,
-            heads,
-            starts,
-            bodies,
-            before,
-            partners,
-            owners,
-            g,
-            a,
-            i,
-            y,
-            l + 1,
-        );
+        let x = slot(table, g, a, i, y, l + 1);
         to += put_signed(x, &mut buf[to..]);
-        l = past_empty(t.sizes.m, heads, g, a, i, l + 1);
+        l = past_empty(table, t.sizes.m, g, a, i, l + 1);
     }
     buf[to] = 48;
     buf[to + 1] = 10;

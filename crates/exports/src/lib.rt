@@ -7,7 +7,6 @@ use call_lines::line;
 use call_lines::run;
 use call_lines_rows::LineVerdict;
 use call_lines_rows::RunVerdict;
-use clause_tabling::pairs_of;
 use clause_tabling::totals_of;
 use program::Program;
 use reader::ReadVerdict;
@@ -70,8 +69,7 @@ fn of_program(p: Program) -> Reply
     requires { ⌜ Stored p ⌝ }
     ensures { λ r. ⌜ r ≡ totalsReply (decoded p) ⌝ }
 {
-    let k = pairs_of(p);
-    let t = totals_of(p, k.count, k.empty);
+    let t = totals_of(p);
     accepted(t.vars, t.clauses, 0)
 }
 

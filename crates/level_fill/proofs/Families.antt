@@ -2,7 +2,7 @@
 --   body-unmet, body-is           the body of a rule, list by list
 --   founds-unmet, founds-is       whether a rule founds its head
 --   rule-asks, rule-inside, rule-row, rules-done    one rule of many
---   inside, partner-asks, partner-fits, owner-asks, owner-fits, pair-row, pairs-done    one pair of many
+--   inside, pair-fits, partner-fits, owner-fits, pair-row, pairs-done    one pair of many
 --   atom-row                      one atom of many
 --   family-room, families-written    the families one after the other
 --   levels-long, filled-is        with the levels of the stages
@@ -23,14 +23,14 @@ use Rattle.theory.proofs.Atoms.{RuleIn, atom-pos, atom-le, is-atom}
 use Rattle.theory.proofs.Pairs.{body-in, head-in}
 use Rattle.clause_tables.specs.declared.Totals.{Totals}
 use Rattle.clause_tables.specs.Tables.{Tabled}
-use Rattle.clause_table_laws.proofs.Elements.{ranges, inner-all, pairs-fit, rules-are, atoms-are, width-are, pairs-are, vars-are, partner-is, owner-is, partners-length, owners-length}
+use Rattle.clause_table_laws.proofs.Elements.{ranges, inner-all, pairs-fit, rules-are, atoms-are, width-are, pairs-are, vars-are, partner-is, owner-is}
 use Rattle.truth_clauses.specs.Truth.{valueIn}
 use Rattle.level_stages.specs.Levels.{setIn, levelByte}
 use Rattle.level_stages.proofs.Rules.{set-is, none-is, all-is}
 use Rattle.level_stages.proofs.OneRound.{tab-byte}
 use Rattle.answer_offers.specs.Offered.{valueBytes}
 use Rattle.level_fill.specs.Values.{byteOf, foundsAt, pairBytes, pairAtBytes, familyBytes, filledWith}
-use Rattle.level_fill.proofs.Writes.{rows-fit}
+use Rattle.level_fill.proofs.Writes.{rows-fit, rows-all}
 use Rattle.level_fill.proofs.Whole.{filled-same, filled-fill, values-are, values-length}
 use Rattle.digits.proofs.Begins.{Begins}
 
@@ -87,11 +87,8 @@ module _ {G : Code} {t : Totals} {hs ss bs ks xs ys : List ℕ} (T : Tabled G t 
     pub inside : k < pairTotal G
     inside = subst (λ (m : ℕ). k < m) (pairs-are G t hs ss bs ks xs ys T) h
 
-    pub partner-asks : (0 < k + 1) × (k + 1 ≤ length xs)
-    partner-asks = (omega arith, omega (arith, inside, pairs-fit G (T .limits), partners-length G t hs ss bs ks xs ys T))
-
-    pub owner-asks : (0 < k + 1) × (k + 1 ≤ length ys)
-    owner-asks = (omega arith, omega (arith, inside, pairs-fit G (T .limits), owners-length G t hs ss bs ks xs ys T))
+    pub pair-fits : k + 1 ≤ 500
+    pair-fits = omega (arith, inside, pairs-fit G (T .limits))
 
     body-of : {b : ℕ} → b ≡ getD xs (k + 1 - 1) 0 → b ≡ pairBody G (suc k)
     body-of e = e ∙ partner-is G t hs ss bs ks xs ys T (k + 1) (omega arith) (omega (arith, inside)) ∙ ap (λ (j : ℕ). pairBody G j) (add-one k)
@@ -136,10 +133,11 @@ module _ {G : Code} {t : Totals} {hs ss bs ks xs ys : List ℕ} (T : Tabled G t 
     family-room b h k l =
         rows-fit b (familyBytes G (t .sizes .n) w M (levelByte ls)) 6 k refl l (subst (λ (m : ℕ). m ≤ length b) (sym families-length) h)
 
-    pub families-written : {b e : List ℕ} {to : ℕ} → Begins b e (each 6 (familyBytes G (t .sizes .n) w M (levelByte ls))) to
+    pub families-written : {b e : List ℕ} {k to : ℕ} → k ≤ 6 → 6 ≤ k → Begins b e (each k (familyBytes G (t .sizes .n) w M (levelByte ls))) to
         → (to ≡ t .vars) × (e ≡ valueBytes (filledWith G M (levelByte ls)) ++ drop (t .vars) b)
-    families-written {b} B =
-        let place = B .place ∙ families-length in (place, B .bytes ∙ ap₂ (λ (x : List ℕ) (j : ℕ). x ++ drop j b) (sym families-are) place)
+    families-written {b} {e} {k} {to} h l B =
+        let q = rows-all b (familyBytes G (t .sizes .n) w M (levelByte ls)) 6 k h l B in
+        let place = q .0 ∙ families-length in (place, q .1 ∙ ap₂ (λ (x : List ℕ) (j : ℕ). x ++ drop j b) (sym families-are) place)
 
   -- ---- with the levels of the stages
   module _ (s rest : List ℕ) {ls : List ℕ} (q : ls ≡ tab (t .sizes .n) (levelOf G (setIn (t .sizes .n) s)) ++ rest) where

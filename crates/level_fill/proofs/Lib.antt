@@ -8,3 +8,5 @@ pub mod Steps
 pub mod Whole
 pub mod Families
 pub mod Computed
+-- Cases: the six families, by the tests that code makes
+pub mod Cases

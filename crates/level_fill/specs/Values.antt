@@ -9,6 +9,7 @@
 --   pairBytes w x y      the two chains of a pair, for the levels x of its body atom and y of its head; pairAtBytes G w ℓ k those of pair k
 --   chainBytes G w ℓ     those of each pair
 --   familyBytes G n w M ℓ k    family k of these six
+--   familyIn tb s ls k    the same of the code in a table, for the bytes s of a set and ls of levels
 --   filledWith G M ℓ   the filled-out values of a set M, for levels ℓ
 -- Assumes nothing.
 use Prim.Native.Nat.{ℕ, zero, suc, _+_}
@@ -20,6 +21,8 @@ use Rattle.meaning.specs.Program.{Atoms, bodyTrue}
 use Rattle.encoding.specs.Code.{Code, codeSizes, rl, inner, pairList, pairTotal, pairBody, pairHead}
 use Rattle.encoding.specs.Counter.{bit}
 use Rattle.encoding.specs.Fill.{lessAt, founds, fillWith}
+use Rattle.clause_tables.specs.Tables.{codeIn, atomsIn}
+use Rattle.level_stages.specs.Levels.{setIn, levelByte}
 
 abbrev pub byteOf : Bool → ℕ
 byteOf b = cond b 1 0
@@ -73,6 +76,10 @@ familyBytes G n w M ℓ (suc (suc (suc zero))) = foundsBytes G M ℓ
 familyBytes G n w M ℓ (suc (suc (suc (suc zero)))) = levelBytes n w 0 ℓ
 familyBytes G n w M ℓ (suc (suc (suc (suc (suc zero))))) = levelBytes n w 1 ℓ
 familyBytes G n w M ℓ (suc (suc (suc (suc (suc (suc k)))))) = chainBytes G w ℓ
+
+-- of the code in a table, for the bytes of a set and of levels
+abbrev pub familyIn : List ℕ → List ℕ → List ℕ → ℕ → List ℕ
+familyIn tb s ls k = familyBytes (codeIn tb) (atomsIn tb) (codeIn tb .w) (setIn (atomsIn tb) s) (levelByte ls) k
 
 unfoldable pub filledWith : Code → Atoms → (ℕ → ℕ) → List Bool
 filledWith G M ℓ = fillWith (codeSizes G) (rl G) (inner G) (pairList G) M ℓ

@@ -1,13 +1,15 @@
 // The filled-out assignment of a set of atoms and their levels, family by family into a lent buffer (document 01, "Check and filling out").
-use clause_layout::entry;
-use clause_tables::Totals;
+use clause_cells::head;
+use clause_cells::pair_body;
+use clause_cells::pair_head;
+use clause_cells::totals;
 use level_stages::byte_of;
 use level_stages::negatives_out;
 use level_stages::positives_below;
 use level_stages::positives_in;
+use numbers::Pair;
 use numbers::Rule;
 use numbers::wide;
-use program::head;
 ghost use Prim.Native.Nat.{_+_, _≤_, _<_};
 ghost use mathlib.Core.Path.{_≡_};
 ghost use mathlib.Core.Bool.{cond};
@@ -17,11 +19,11 @@ ghost use lib.ListN.{length, drop};
 ghost use Rattle.lists.specs.Lists.{tab};
 ghost use Rattle.meaning.specs.Program.{bodyTrue};
 ghost use Rattle.encoding.specs.Code.{rl, levelOf, codeFill};
-ghost use Rattle.clause_tables.specs.Tables.{codeIn, Ready};
+ghost use Rattle.clause_tables.specs.Tables.{Ready, codeIn, atomsIn, rulesIn, varsIn};
 ghost use Rattle.level_stages.specs.Levels.{setIn, levelByte};
 ghost use Rattle.answer_offers.specs.Offered.{valueBytes};
-ghost use Rattle.level_fill.specs.Values.{byteOf, atomBytes, bodyBytes, foundsAt, foundsBytes, bitBytes};
-ghost use Rattle.level_fill.specs.Values.{levelBytes, lessBytes, pairBytes, chainBytes, filledWith};
+ghost use Rattle.level_fill.specs.Values.{byteOf, atomBytes, bodyBytes, foundsAt, foundsBytes, bitBytes, familyIn};
+ghost use Rattle.level_fill.specs.Values.{levelBytes, lessBytes, pairBytes, chainBytes, filledWith, familyIn};
 
 fn as_byte(x: bool) -> u8
     ensures { λ r. ⌜ r ≡ byteOf x ⌝ }
@@ -128,102 +130,43 @@ fn put_level_values(n: u16, w: usize, d: u16, levels: &[u8], buf: &mut [u8]) -> 
 }
 
 // Whether the body of rule r is true.
-fn body_true<'a>(
-    t: Totals,
-    heads: &'a [u16],
-    starts: &'a [u16],
-    bodies: &'a [u16],
-    before: &'a [u16],
-    partners: &'a [u16],
-    owners: &'a [u16],
-    r: u16,
-    set: &'a [u8],
-) -> bool
-    requires { ⌜ (Ready t (now heads) (now starts) (now bodies) (now before) (now partners) (now owners)) × (0 < r) × (r ≤ t .sizes .m)
-        × (t .sizes .n ≤ length (now set)) ⌝ }
-    ensures { λ x. ⌜ x
-        ≡ bodyTrue (setIn (t .sizes .n) (now (set .entry)))
-        (rl (codeIn t (now (heads .entry)) (now (starts .entry)) (now (bodies .entry))) r) ⌝ }
+fn body_true<'a>(table: &'a [u16], r: u16, set: &'a [u8]) -> bool
+    requires { ⌜ (Ready (now table)) × (0 < r) × (r ≤ rulesIn (now table)) × (atomsIn (now table) ≤ length (now set)) ⌝ }
+    ensures { λ x. ⌜ x ≡ bodyTrue (setIn (atomsIn (now (table .entry))) (now (set .entry))) (rl (codeIn (now (table .entry))) r) ⌝ }
 {
-    if !positives_in(t, heads, starts, bodies, before, partners, owners, r, set) {
+    if !positives_in(table, r, set) {
         return false;
     }
-    negatives_out(t, heads, starts, bodies, before, partners, owners, r, set)
+    negatives_out(table, r, set)
 }
 
 // Whether rule r founds its head: its body is true and each of its B has a smaller level than the head.
-fn rule_founds<'a>(
-    t: Totals,
-    heads: &'a [u16],
-    starts: &'a [u16],
-    bodies: &'a [u16],
-    before: &'a [u16],
-    partners: &'a [u16],
-    owners: &'a [u16],
-    r: u16,
-    set: &'a [u8],
-    levels: &'a [u8],
-) -> bool
-    requires { ⌜ (Ready t (now heads) (now starts) (now bodies) (now before) (now partners) (now owners)) × (0 < r) × (r ≤ t .sizes .m)
-        × (t .sizes .n ≤ length (now set)) × (t .sizes .n ≤ length (now levels)) ⌝ }
-    ensures { λ x. ⌜ x
-        ≡ foundsAt (codeIn t (now (heads .entry)) (now (starts .entry)) (now (bodies .entry))) (setIn (t .sizes .n) (now (set .entry)))
+fn rule_founds<'a>(table: &'a [u16], r: u16, set: &'a [u8], levels: &'a [u8]) -> bool
+    requires { ⌜ (Ready (now table)) × (0 < r) × (r ≤ rulesIn (now table)) × (atomsIn (now table) ≤ length (now set))
+        × (atomsIn (now table) ≤ length (now levels)) ⌝ }
+    ensures { λ x. ⌜ x ≡ foundsAt (codeIn (now (table .entry))) (setIn (atomsIn (now (table .entry))) (now (set .entry)))
         (levelByte (now (levels .entry))) r ⌝ }
 {
-    if !body_true(t, heads, starts, bodies, before, partners, owners, r, set) {
+    if !body_true(table, r, set) {
         return false;
     }
-    let h = head(heads, Rule(r)).0;
+    let h = head(table, Rule(r)).0;
     let y = byte_of(levels, h);
-    positives_below(
-        t,
-        heads,
-        starts,
-        bodies,
-        before,
-        partners,
-        owners,
-        r,
-        levels,
-        y,
-    )
+    positives_below(table, r, levels, y)
 }
 
 // Of each rule, whether its body is true.
-fn put_bodies<'a>(
-    t: Totals,
-    heads: &'a [u16],
-    starts: &'a [u16],
-    bodies: &'a [u16],
-    before: &'a [u16],
-    partners: &'a [u16],
-    owners: &'a [u16],
-    set: &'a [u8],
-    buf: &mut [u8],
-) -> usize
-    requires { ⌜ (Ready t (now heads) (now starts) (now bodies) (now before) (now partners) (now owners)) × (t .sizes .n ≤ length (now set))
-        × (length (bodyBytes (codeIn t (now heads) (now starts) (now bodies)) (setIn (t .sizes .n) (now set))) ≤ length (now buf)) ⌝ }
-    ensures { λ r. ⌜ (r
-        ≡ length
-        (bodyBytes (codeIn t (now (heads .entry)) (now (starts .entry)) (now (bodies .entry)))
-        (setIn (t .sizes .n) (now (set .entry)))))
-        × (now (buf .exit)
-        ≡ bodyBytes (codeIn t (now (heads .entry)) (now (starts .entry)) (now (bodies .entry))) (setIn (t .sizes .n) (now (set .entry)))
+fn put_bodies<'a>(table: &'a [u16], set: &'a [u8], buf: &mut [u8]) -> usize
+    requires { ⌜ (Ready (now table)) × (atomsIn (now table) ≤ length (now set))
+        × (length (bodyBytes (codeIn (now table)) (setIn (atomsIn (now table)) (now set))) ≤ length (now buf)) ⌝ }
+    ensures { λ r. ⌜ (r ≡ length (bodyBytes (codeIn (now (table .entry))) (setIn (atomsIn (now (table .entry))) (now (set .entry)))))
+        × (now (buf .exit) ≡ bodyBytes (codeIn (now (table .entry))) (setIn (atomsIn (now (table .entry))) (now (set .entry)))
         ++ drop r (now (buf .entry))) ⌝ }
 {
+    let t = totals(table);
     let mut r: u16 = 0;
     while r < t.sizes.m {
-        let x = body_true(
-            t,
-            heads,
-            starts,
-            bodies,
-            before,
-            partners,
-            owners,
-            r + 1,
-            set,
-        );
+        let x = body_true(table, r + 1, set);
         let i = wide(r);
         buf[i] = as_byte(x);
         r += 1;
@@ -232,44 +175,18 @@ fn put_bodies<'a>(
 }
 
 // Of each rule, whether it founds its head.
-fn put_founds<'a>(
-    t: Totals,
-    heads: &'a [u16],
-    starts: &'a [u16],
-    bodies: &'a [u16],
-    before: &'a [u16],
-    partners: &'a [u16],
-    owners: &'a [u16],
-    set: &'a [u8],
-    levels: &'a [u8],
-    buf: &mut [u8],
-) -> usize
-    requires { ⌜ (Ready t (now heads) (now starts) (now bodies) (now before) (now partners) (now owners)) × (t .sizes .n ≤ length (now set))
-        × (t .sizes .n ≤ length (now levels))
-        × (length (foundsBytes (codeIn t (now heads) (now starts) (now bodies)) (setIn (t .sizes .n) (now set)) (levelByte (now levels)))
-        ≤ length (now buf)) ⌝ }
-    ensures { λ r. ⌜ (r
-        ≡ length
-        (foundsBytes (codeIn t (now (heads .entry)) (now (starts .entry)) (now (bodies .entry)))
-        (setIn (t .sizes .n) (now (set .entry))) (levelByte (now (levels .entry)))))
-        × (now (buf .exit)
-        ≡ foundsBytes (codeIn t (now (heads .entry)) (now (starts .entry)) (now (bodies .entry)))
-        (setIn (t .sizes .n) (now (set .entry))) (levelByte (now (levels .entry))) ++ drop r (now (buf .entry))) ⌝ }
+fn put_founds<'a>(table: &'a [u16], set: &'a [u8], levels: &'a [u8], buf: &mut [u8]) -> usize
+    requires { ⌜ (Ready (now table)) × (atomsIn (now table) ≤ length (now set)) × (atomsIn (now table) ≤ length (now levels))
+        × (length (foundsBytes (codeIn (now table)) (setIn (atomsIn (now table)) (now set)) (levelByte (now levels))) ≤ length (now buf)) ⌝ }
+    ensures { λ r. ⌜ (r ≡ length
+        (foundsBytes (codeIn (now (table .entry))) (setIn (atomsIn (now (table .entry))) (now (set .entry))) (levelByte (now (levels .entry)))))
+        × (now (buf .exit) ≡ foundsBytes (codeIn (now (table .entry))) (setIn (atomsIn (now (table .entry))) (now (set .entry)))
+        (levelByte (now (levels .entry))) ++ drop r (now (buf .entry))) ⌝ }
 {
+    let t = totals(table);
     let mut r: u16 = 0;
     while r < t.sizes.m {
-        let x = rule_founds(
-            t,
-            heads,
-            starts,
-            bodies,
-            before,
-            partners,
-            owners,
-            r + 1,
-            set,
-            levels,
-        );
+        let x = rule_founds(table, r + 1, set, levels);
         let i = wide(r);
         buf[i] = as_byte(x);
         r += 1;
@@ -278,134 +195,83 @@ fn put_founds<'a>(
 }
 
 // The two chains of each pair.
-fn put_chains<'a>(
-    t: Totals,
-    heads: &'a [u16],
-    starts: &'a [u16],
-    bodies: &'a [u16],
-    before: &'a [u16],
-    partners: &'a [u16],
-    owners: &'a [u16],
-    w: usize,
-    levels: &'a [u8],
-    buf: &mut [u8],
-) -> usize
-    requires { ⌜ (Ready t (now heads) (now starts) (now bodies) (now before) (now partners) (now owners)) × (t .sizes .n ≤ length (now levels))
-        × (length (chainBytes (codeIn t (now heads) (now starts) (now bodies)) w (levelByte (now levels))) ≤ length (now buf)) ⌝ }
-    ensures { λ r. ⌜ (r
-        ≡ length
-        (chainBytes (codeIn t (now (heads .entry)) (now (starts .entry)) (now (bodies .entry))) w (levelByte (now (levels .entry)))))
-        × (now (buf .exit)
-        ≡ chainBytes (codeIn t (now (heads .entry)) (now (starts .entry)) (now (bodies .entry))) w (levelByte (now (levels .entry)))
-        ++ drop r (now (buf .entry))) ⌝ }
+fn put_chains<'a>(table: &'a [u16], w: usize, levels: &'a [u8], buf: &mut [u8]) -> usize
+    requires { ⌜ (Ready (now table)) × (atomsIn (now table) ≤ length (now levels))
+        × (length (chainBytes (codeIn (now table)) w (levelByte (now levels))) ≤ length (now buf)) ⌝ }
+    ensures { λ r. ⌜ (r ≡ length (chainBytes (codeIn (now (table .entry))) w (levelByte (now (levels .entry)))))
+        × (now (buf .exit) ≡ chainBytes (codeIn (now (table .entry))) w (levelByte (now (levels .entry))) ++ drop r (now (buf .entry))) ⌝ }
 {
+    let t = totals(table);
     let mut to: usize = 0;
     let mut k: u16 = 0;
     while k < t.pairs {
-        let x = level_of(levels, entry(partners, k + 1));
-        let y = level_of(levels, entry(owners, k + 1));
+        let x = level_of(levels, pair_body(table, Pair(k + 1)).0);
+        let y = level_of(levels, pair_head(table, Pair(k + 1)).0);
         to += put_pair_values(w, x, y, &mut buf[to..]);
         k += 1;
     }
     to
 }
 
-// The filled-out values of the set, for levels of any kind.
-fn put_values<'a>(
-    t: Totals,
-    heads: &'a [u16],
-    starts: &'a [u16],
-    bodies: &'a [u16],
-    before: &'a [u16],
-    partners: &'a [u16],
-    owners: &'a [u16],
+// Writes family k of the filled-out values at the front of the buffer and returns how many bytes it has.
+fn put_family<'a>(
+    table: &'a [u16],
+    k: u16,
     set: &'a [u8],
     levels: &'a [u8],
     buf: &mut [u8],
 ) -> usize
-    requires { ⌜ (Ready t (now heads) (now starts) (now bodies) (now before) (now partners) (now owners)) × (t .sizes .n ≤ length (now set))
-        × (t .sizes .n ≤ length (now levels)) × (t .vars ≤ length (now buf)) ⌝ }
-    ensures { λ r. ⌜ (r ≡ t .vars)
-        × (now (buf .exit)
-        ≡ valueBytes
-        (filledWith (codeIn t (now (heads .entry)) (now (starts .entry)) (now (bodies .entry)))
-        (setIn (t .sizes .n) (now (set .entry))) (levelByte (now (levels .entry)))) ++ drop (t .vars) (now (buf .entry))) ⌝ }
+    requires { ⌜ (Ready (now table)) × (0 < k) × (k ≤ 6) × (atomsIn (now table) ≤ length (now set)) × (atomsIn (now table) ≤ length (now levels))
+        × (length (familyIn (now table) (now set) (now levels) k) ≤ length (now buf)) ⌝ }
+    ensures { λ r. ⌜ (r ≡ length (familyIn (now (table .entry)) (now (set .entry)) (now (levels .entry)) k))
+        × (now (buf .exit) ≡ familyIn (now (table .entry)) (now (set .entry)) (now (levels .entry)) k ++ drop r (now (buf .entry))) ⌝ }
 {
-    let n = t.sizes.n;
-    let w = wide(t.sizes.w);
-    let mut to = put_atom_values(n, set, &mut *buf);
-    to += put_bodies(
-        t,
-        heads,
-        starts,
-        bodies,
-        before,
-        partners,
-        owners,
-        set,
-        &mut buf[to..],
-    );
-    to += put_founds(
-        t,
-        heads,
-        starts,
-        bodies,
-        before,
-        partners,
-        owners,
-        set,
-        levels,
-        &mut buf[to..],
-    );
-    to += put_level_values(n, w, 0, levels, &mut buf[to..]);
-    to += put_level_values(n, w, 1, levels, &mut buf[to..]);
-    to += put_chains(
-        t,
-        heads,
-        starts,
-        bodies,
-        before,
-        partners,
-        owners,
-        w,
-        levels,
-        &mut buf[to..],
-    );
+    let s = totals(table).sizes;
+    if k == 1 {
+        return put_atom_values(s.n, set, &mut *buf);
+    }
+    if k == 2 {
+        return put_bodies(table, set, &mut *buf);
+    }
+    if k == 3 {
+        return put_founds(table, set, levels, &mut *buf);
+    }
+    let w = wide(s.w);
+    if k == 4 {
+        return put_level_values(s.n, w, 0, levels, &mut *buf);
+    }
+    if k == 5 {
+        return put_level_values(s.n, w, 1, levels, &mut *buf);
+    }
+    put_chains(table, w, levels, &mut *buf)
+}
+
+// The filled-out values of the set, for levels of any kind.
+fn put_values<'a>(table: &'a [u16], set: &'a [u8], levels: &'a [u8], buf: &mut [u8]) -> usize
+    requires { ⌜ (Ready (now table)) × (atomsIn (now table) ≤ length (now set)) × (atomsIn (now table) ≤ length (now levels))
+        × (varsIn (now table) ≤ length (now buf)) ⌝ }
+    ensures { λ r. ⌜ (r ≡ varsIn (now (table .entry)))
+        × (now (buf .exit) ≡ valueBytes
+        (filledWith (codeIn (now (table .entry))) (setIn (atomsIn (now (table .entry))) (now (set .entry))) (levelByte (now (levels .entry))))
+        ++ drop (varsIn (now (table .entry))) (now (buf .entry))) ⌝ }
+{
+    let mut k: u16 = 0;
+    let mut to: usize = 0;
+    while k < 6 {
+        to += put_family(table, k + 1, set, levels, &mut buf[to..]);
+        k += 1;
+    }
     to
 }
 
 // Writes the filled-out assignment of the set, whose levels are given, to the first V bytes.
-pub fn put_filled<'a>(
-    t: Totals,
-    heads: &'a [u16],
-    starts: &'a [u16],
-    bodies: &'a [u16],
-    before: &'a [u16],
-    partners: &'a [u16],
-    owners: &'a [u16],
-    set: &'a [u8],
-    levels: &'a [u8],
-    assignment: &mut [u8],
-)
-    requires { ⌜ (Ready t (now heads) (now starts) (now bodies) (now before) (now partners) (now owners)) × (t .sizes .n ≤ length (now set))
-        × (now levels
-        ≡ tab (t .sizes .n) (levelOf (codeIn t (now heads) (now starts) (now bodies)) (setIn (t .sizes .n) (now set)))
-        ++ drop (t .sizes .n) (now levels)) × (t .vars ≤ length (now assignment)) ⌝ }
+pub fn put_filled<'a>(table: &'a [u16], set: &'a [u8], levels: &'a [u8], assignment: &mut [u8])
+    requires { ⌜ (Ready (now table)) × (atomsIn (now table) ≤ length (now set))
+        × (now levels ≡ tab (atomsIn (now table)) (levelOf (codeIn (now table)) (setIn (atomsIn (now table)) (now set)))
+        ++ drop (atomsIn (now table)) (now levels)) × (varsIn (now table) ≤ length (now assignment)) ⌝ }
     ensures { λ r. ⌜ now (assignment .exit)
-        ≡ valueBytes
-        (codeFill (codeIn t (now (heads .entry)) (now (starts .entry)) (now (bodies .entry)))
-        (setIn (t .sizes .n) (now (set .entry)))) ++ drop (t .vars) (now (assignment .entry)) ⌝ }
+        ≡ valueBytes (codeFill (codeIn (now (table .entry))) (setIn (atomsIn (now (table .entry))) (now (set .entry))))
+        ++ drop (varsIn (now (table .entry))) (now (assignment .entry)) ⌝ }
 {
-    put_values(
-        t,
-        heads,
-        starts,
-        bodies,
-        before,
-        partners,
-        owners,
-        set,
-        levels,
-        &mut *assignment,
-    );
+    put_values(table, set, levels, &mut *assignment);
 }

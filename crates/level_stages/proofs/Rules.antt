@@ -2,11 +2,11 @@
 --   set-is, none-is, all-is          of atoms alone, a set is its bytes
 --   Part bs x y l                    from x to y the array holds the list l
 -- Of rule r of a code in its tables (Tabled G ..):
---   start-asks                       what its starts ask
+--   rule-fits                        it is one of 500
 --   positive-part, negative-part     its two lists
 --   rule-atoms                       its atoms are atoms
 --   positives-asked, negatives-asked, head-fits    and have bytes where n bytes are there
---   head-asks, its-head-is           its head
+--   its-head-is                      its head
 -- Of a rule alone:
 --   enters-not-kept, enters-unmet, enters-is    its tests in a round, one after the other
 -- Assumes nothing.
@@ -28,7 +28,7 @@ use Rattle.truth_clauses.specs.Truth.{valueIn}
 use Rattle.clause_tables.specs.declared.Totals.{Totals}
 use Rattle.clause_tables.specs.Tables.{Tabled}
 use Rattle.clause_walk.proofs.Tabs.{head-is as its-head}
-use Rattle.clause_table_laws.proofs.Elements.{Listed, start-first, rules-are, rules-fit, atoms-are, starts-length, bodies-length, heads-length, head-is, all-fit}
+use Rattle.clause_table_laws.proofs.Elements.{Listed, start-first, rules-are, rules-fit, atoms-are, head-is, all-fit}
 use Rattle.level_stages.specs.Levels.{setIn, levelByte, isBelow, enters}
 
 -- ---- parts of a list
@@ -36,7 +36,6 @@ use Rattle.level_stages.specs.Levels.{setIn, levelByte, isBelow, enters}
 pub record Part (bs : List ℕ) (x y : ℕ) (l : List ℕ) : Type 0 where
   pub up : x ≤ y
   pub short : y ≤ 500
-  pub within : y ≤ length bs
   pub list-is : take (y - x) (drop x bs) ≡ l
 
 part-at : {bs l : List ℕ} {u v : ℕ} → Part bs u v l → {x y : ℕ} → x ≡ u → y ≡ v → Part bs x y l
@@ -52,14 +51,13 @@ back-is l p q i j e f g =
     ∙ drop-at p q i (sym g)
 
 -- of three places in a row
-module _ (bs p q : List ℕ) (x y z : ℕ) (up : x ≤ y) (upper : y ≤ z) (short : z ≤ 500) (len : length bs ≡ 500)
+module _ (bs p q : List ℕ) (x y z : ℕ) (up : x ≤ y) (upper : y ≤ z) (short : z ≤ 500)
     (count : y - x ≡ length p) (whole : take (z - x) (drop x bs) ≡ p ++ q) where
   first-part : Part bs x y p
   first-part =
       record {
         up = up;
         short = le-trans upper short;
-        within = omega (arith, upper, short, len);
         list-is = front-is (drop x bs) p q (y - x) (z - x) (omega (arith, upper)) whole count;
       }
 
@@ -68,7 +66,6 @@ module _ (bs p q : List ℕ) (x y z : ℕ) (up : x ≤ y) (upper : y ≤ z) (sho
       record {
         up = upper;
         short = short;
-        within = omega (arith, short, len);
         list-is =
             ap (take (z - y)) (ap (λ (k : ℕ). drop k bs) (there x y up) ∙ sym (drop-drop (y - x) x bs))
             ∙ back-is (drop x bs) p q (y - x) (z - y) (ap (λ (k : ℕ). take k (drop x bs)) (steps x y z up upper) ∙ whole) (first-part .list-is) count;
@@ -109,21 +106,21 @@ module _ {G : Code} {t : Totals} {hs ss bs ks xs ys : List ℕ} (T : Tabled G t 
   listed : Listed G ss bs r (r - 1)
   listed = start-first G t hs ss bs ks xs ys T r p inside
 
-  pub start-asks : (k : ℕ) → k ≤ 2 → (0 < r) × (r ≤ 500) × (k ≤ 2) × (length ss ≡ 1001)
-  start-asks k l = (p, le-trans inside (rules-fit G t hs ss bs ks xs ys T), l, starts-length G t hs ss bs ks xs ys T)
+  pub rule-fits : r ≤ 500
+  rule-fits = le-trans inside (rules-fit G t hs ss bs ks xs ys T)
 
   pub positive-part : {x y : ℕ} → x ≡ getD ss (2 * (r - 1) + 0) 0 → y ≡ getD ss (2 * (r - 1) + 1) 0 → Part bs x y (ruleAt (G .rules) r .positive)
   positive-part e f =
       part-at
       (first-part bs (ruleAt (G .rules) r .positive) (ruleAt (G .rules) r .negative) _ _ _ (listed .first-up) (listed .second-up) (listed .end-fits)
-      (bodies-length G t hs ss bs ks xs ys T) (listed .positives-are) (listed .body-are))
+      (listed .positives-are) (listed .body-are))
       (e ∙ ap (λ (k : ℕ). getD ss k 0) (add-zero (2 * (r - 1)))) f
 
   pub negative-part : {x y : ℕ} → x ≡ getD ss (2 * (r - 1) + 1) 0 → y ≡ getD ss (2 * (r - 1) + 2) 0 → Part bs x y (ruleAt (G .rules) r .negative)
   negative-part =
       part-at
       (second-part bs (ruleAt (G .rules) r .positive) (ruleAt (G .rules) r .negative) _ _ _ (listed .first-up) (listed .second-up) (listed .end-fits)
-      (bodies-length G t hs ss bs ks xs ys T) (listed .positives-are) (listed .body-are))
+      (listed .positives-are) (listed .body-are))
 
   pub rule-atoms : RuleIn (t .sizes .n) (ruleAt (G .rules) r)
   rule-atoms =
@@ -135,18 +132,13 @@ module _ {G : Code} {t : Totals} {hs ss bs ks xs ys : List ℕ} (T : Tabled G t 
       before-it (suc r) l k = k
 
   -- the part's atoms have bytes
-  pub positives-asked : (b : List ℕ) {x y : ℕ} → t .sizes .n ≤ length b → Part bs x y (ruleAt (G .rules) r .positive)
-      → So (all (isAtom (length b)) (take (y - x) (drop x bs)))
-  positives-asked b k q =
-      subst (λ (l : List ℕ). So (all (isAtom (length b)) l)) (sym (q .list-is)) (all-wider (t .sizes .n) (length b) (ruleAt (G .rules) r .positive) k (rule-atoms .positive-in))
+  pub positives-asked : (b : List ℕ) {l : List ℕ} → t .sizes .n ≤ length b → l ≡ ruleAt (G .rules) r .positive → So (all (isAtom (length b)) l)
+  positives-asked b k e =
+      subst (λ (l : List ℕ). So (all (isAtom (length b)) l)) (sym e) (all-wider (t .sizes .n) (length b) (ruleAt (G .rules) r .positive) k (rule-atoms .positive-in))
 
-  pub negatives-asked : (b : List ℕ) {x y : ℕ} → t .sizes .n ≤ length b → Part bs x y (ruleAt (G .rules) r .negative)
-      → So (all (isAtom (length b)) (take (y - x) (drop x bs)))
-  negatives-asked b k q =
-      subst (λ (l : List ℕ). So (all (isAtom (length b)) l)) (sym (q .list-is)) (all-wider (t .sizes .n) (length b) (ruleAt (G .rules) r .negative) k (rule-atoms .negative-in))
-
-  pub head-asks : (0 < r) × (r ≤ length hs)
-  head-asks = (p, omega (arith, inside, rules-fit G t hs ss bs ks xs ys T, heads-length G t hs ss bs ks xs ys T))
+  pub negatives-asked : (b : List ℕ) {l : List ℕ} → t .sizes .n ≤ length b → l ≡ ruleAt (G .rules) r .negative → So (all (isAtom (length b)) l)
+  negatives-asked b k e =
+      subst (λ (l : List ℕ). So (all (isAtom (length b)) l)) (sym e) (all-wider (t .sizes .n) (length b) (ruleAt (G .rules) r .negative) k (rule-atoms .negative-in))
 
   pub its-head-is : {a : ℕ} → a ≡ getD hs (r - 1) 0 → a ≡ ruleAt (G .rules) r .head
   its-head-is e = e ∙ head-is G t hs ss bs ks xs ys T r p inside ∙ its-head (G .rules) r

@@ -1,9 +1,11 @@
 // The level numbers of a set of atoms (document 01, "Meaning"): the stages of its reduct, in one round over the rules for each,
 // and the smallest atom where the set and the least model differ.
-use clause_tables::Totals;
+use clause_cells::body;
+use clause_cells::head;
+use clause_cells::list_start;
+use clause_cells::totals;
 use numbers::Rule;
 use numbers::wide;
-use program::head;
 ghost use Prim.Native.Nat.{pred, _+_, _-_, _*_, _≤_, _<_};
 ghost use mathlib.Core.Path.{_≡_};
 ghost use mathlib.Core.Bool.{So, not, _||_, Bool·beq};
@@ -13,7 +15,7 @@ ghost use lib.ListN.{length, getD, drop, set as put};
 ghost use Rattle.lists.specs.Lists.{all, any, tab};
 ghost use Rattle.meaning.specs.Program.{isAtom, noneIn};
 ghost use Rattle.encoding.specs.Code.{rl, levelOf};
-ghost use Rattle.clause_tables.specs.Tables.{codeIn, Ready};
+ghost use Rattle.clause_tables.specs.Tables.{Ready, codeIn, atomsIn, rulesIn};
 ghost use Rattle.truth_clauses.specs.Truth.{valueIn};
 ghost use Rattle.level_stages.specs.Levels.{setIn, levelByte, enters, fires, firedBytes, levelAfter, firstDifference};
 
@@ -76,173 +78,64 @@ fn all_below<'a>(atoms: &'a [u16], bytes: &'a [u8], x: u8) -> bool
     true
 }
 
-// Where the lists of rule r begin and end: start 0 is that of B, start 1 that of C, and C ends at start 2.
-fn list_start(starts: &[u16], r: u16, k: usize) -> usize
-    requires { ⌜ (0 < r) × (r ≤ 500) × (k ≤ 2) × (length (now starts) ≡ 1001) ⌝ }
-    ensures { λ x. ⌜ x ≡ getD (now (starts .entry)) (2 * (r - 1) + k) 0 ⌝ }
-{
-    let j = 2 * wide(r - 1) + k;
-    wide(starts[j])
-}
-
 // Of rule r: whether each C atom has byte 0, whether no B atom has, and whether each B atom has a byte below y.
-pub fn negatives_out<'a>(
-    t: Totals,
-    heads: &'a [u16],
-    starts: &'a [u16],
-    bodies: &'a [u16],
-    before: &'a [u16],
-    partners: &'a [u16],
-    owners: &'a [u16],
-    r: u16,
-    bytes: &'a [u8],
-) -> bool
-    requires { ⌜ (Ready t (now heads) (now starts) (now bodies) (now before) (now partners) (now owners)) × (0 < r) × (r ≤ t .sizes .m)
-        × (t .sizes .n ≤ length (now bytes)) ⌝ }
-    ensures { λ x. ⌜ x
-        ≡ noneIn (valueIn (now (bytes .entry)))
-        (rl (codeIn t (now (heads .entry)) (now (starts .entry)) (now (bodies .entry))) r .negative) ⌝ }
+pub fn negatives_out<'a>(table: &'a [u16], r: u16, bytes: &'a [u8]) -> bool
+    requires { ⌜ (Ready (now table)) × (0 < r) × (r ≤ rulesIn (now table)) × (atomsIn (now table) ≤ length (now bytes)) ⌝ }
+    ensures { λ x. ⌜ x ≡ noneIn (valueIn (now (bytes .entry))) (rl (codeIn (now (table .entry))) r .negative) ⌝ }
 {
-    let first = list_start(starts, r, 1);
-    let end = list_start(starts, r, 2);
-    none_in(&bodies[first..end], bytes)
+    let first = list_start(table, Rule(r), 1);
+    let end = list_start(table, Rule(r), 2);
+    none_in(body(table, first, end), bytes)
 }
 
-pub fn positives_in<'a>(
-    t: Totals,
-    heads: &'a [u16],
-    starts: &'a [u16],
-    bodies: &'a [u16],
-    before: &'a [u16],
-    partners: &'a [u16],
-    owners: &'a [u16],
-    r: u16,
-    bytes: &'a [u8],
-) -> bool
-    requires { ⌜ (Ready t (now heads) (now starts) (now bodies) (now before) (now partners) (now owners)) × (0 < r) × (r ≤ t .sizes .m)
-        × (t .sizes .n ≤ length (now bytes)) ⌝ }
-    ensures { λ x. ⌜ x
-        ≡ all (valueIn (now (bytes .entry)))
-        (rl (codeIn t (now (heads .entry)) (now (starts .entry)) (now (bodies .entry))) r .positive) ⌝ }
+pub fn positives_in<'a>(table: &'a [u16], r: u16, bytes: &'a [u8]) -> bool
+    requires { ⌜ (Ready (now table)) × (0 < r) × (r ≤ rulesIn (now table)) × (atomsIn (now table) ≤ length (now bytes)) ⌝ }
+    ensures { λ x. ⌜ x ≡ all (valueIn (now (bytes .entry))) (rl (codeIn (now (table .entry))) r .positive) ⌝ }
 {
-    let first = list_start(starts, r, 0);
-    let end = list_start(starts, r, 1);
-    all_in(&bodies[first..end], bytes)
+    let first = list_start(table, Rule(r), 0);
+    let end = list_start(table, Rule(r), 1);
+    all_in(body(table, first, end), bytes)
 }
 
-pub fn positives_below<'a>(
-    t: Totals,
-    heads: &'a [u16],
-    starts: &'a [u16],
-    bodies: &'a [u16],
-    before: &'a [u16],
-    partners: &'a [u16],
-    owners: &'a [u16],
-    r: u16,
-    bytes: &'a [u8],
-    y: u8,
-) -> bool
-    requires { ⌜ (Ready t (now heads) (now starts) (now bodies) (now before) (now partners) (now owners)) × (0 < r) × (r ≤ t .sizes .m)
-        × (t .sizes .n ≤ length (now bytes)) ⌝ }
-    ensures { λ x. ⌜ x
-        ≡ all (λ b. ltb (levelByte (now (bytes .entry)) b) y)
-        (rl (codeIn t (now (heads .entry)) (now (starts .entry)) (now (bodies .entry))) r .positive) ⌝ }
+pub fn positives_below<'a>(table: &'a [u16], r: u16, bytes: &'a [u8], y: u8) -> bool
+    requires { ⌜ (Ready (now table)) × (0 < r) × (r ≤ rulesIn (now table)) × (atomsIn (now table) ≤ length (now bytes)) ⌝ }
+    ensures { λ x. ⌜ x ≡ all (λ b. ltb (levelByte (now (bytes .entry)) b) y) (rl (codeIn (now (table .entry))) r .positive) ⌝ }
 {
-    let first = list_start(starts, r, 0);
-    let end = list_start(starts, r, 1);
-    all_below(&bodies[first..end], bytes, y)
+    let first = list_start(table, Rule(r), 0);
+    let end = list_start(table, Rule(r), 1);
+    all_below(body(table, first, end), bytes, y)
 }
 
 // Whether rule r is kept and each of its B has a level below i.
-fn rule_enters<'a>(
-    t: Totals,
-    heads: &'a [u16],
-    starts: &'a [u16],
-    bodies: &'a [u16],
-    before: &'a [u16],
-    partners: &'a [u16],
-    owners: &'a [u16],
-    r: u16,
-    i: u8,
-    set: &'a [u8],
-    levels: &'a [u8],
-) -> bool
-    requires { ⌜ (Ready t (now heads) (now starts) (now bodies) (now before) (now partners) (now owners)) × (0 < r) × (r ≤ t .sizes .m)
-        × (t .sizes .n ≤ length (now set)) × (t .sizes .n ≤ length (now levels)) ⌝ }
-    ensures { λ x. ⌜ x
-        ≡ enters (setIn (t .sizes .n) (now (set .entry))) (now (levels .entry)) i
-        (rl (codeIn t (now (heads .entry)) (now (starts .entry)) (now (bodies .entry))) r) ⌝ }
+fn rule_enters<'a>(table: &'a [u16], r: u16, i: u8, set: &'a [u8], levels: &'a [u8]) -> bool
+    requires { ⌜ (Ready (now table)) × (0 < r) × (r ≤ rulesIn (now table)) × (atomsIn (now table) ≤ length (now set))
+        × (atomsIn (now table) ≤ length (now levels)) ⌝ }
+    ensures { λ x. ⌜ x ≡ enters (setIn (atomsIn (now (table .entry))) (now (set .entry))) (now (levels .entry)) i
+        (rl (codeIn (now (table .entry))) r) ⌝ }
 {
-    if !negatives_out(t, heads, starts, bodies, before, partners, owners, r, set) {
+    if !negatives_out(table, r, set) {
         return false;
     }
-    if !positives_in(
-        t,
-        heads,
-        starts,
-        bodies,
-        before,
-        partners,
-        owners,
-        r,
-        levels,
-    ) {
+    if !positives_in(table, r, levels) {
         return false;
     }
-    positives_below(
-        t,
-        heads,
-        starts,
-        bodies,
-        before,
-        partners,
-        owners,
-        r,
-        levels,
-        i,
-    )
+    positives_below(table, r, levels, i)
 }
 
 // One rule's turn in round i: its head is given level i if it has none and the rule puts it into stage i.
-fn put_rule<'a>(
-    t: Totals,
-    heads: &'a [u16],
-    starts: &'a [u16],
-    bodies: &'a [u16],
-    before: &'a [u16],
-    partners: &'a [u16],
-    owners: &'a [u16],
-    r: u16,
-    i: u8,
-    set: &'a [u8],
-    levels: &mut [u8],
-) -> bool
-    requires { ⌜ (Ready t (now heads) (now starts) (now bodies) (now before) (now partners) (now owners)) × (0 < r) × (r ≤ t .sizes .m)
-        × (t .sizes .n ≤ length (now set)) × (t .sizes .n ≤ length (now levels)) ⌝ }
-    ensures { λ x. ⌜ (x
-        ≡ fires (setIn (t .sizes .n) (now (set .entry))) (now (levels .entry)) i
-        (rl (codeIn t (now (heads .entry)) (now (starts .entry)) (now (bodies .entry))) r))
+fn put_rule<'a>(table: &'a [u16], r: u16, i: u8, set: &'a [u8], levels: &mut [u8]) -> bool
+    requires { ⌜ (Ready (now table)) × (0 < r) × (r ≤ rulesIn (now table)) × (atomsIn (now table) ≤ length (now set))
+        × (atomsIn (now table) ≤ length (now levels)) ⌝ }
+    ensures { λ x. ⌜ (x ≡ fires (setIn (atomsIn (now (table .entry))) (now (set .entry))) (now (levels .entry)) i
+        (rl (codeIn (now (table .entry))) r))
         × (now (levels .exit)
-        ≡ firedBytes (setIn (t .sizes .n) (now (set .entry))) i
-        (rl (codeIn t (now (heads .entry)) (now (starts .entry)) (now (bodies .entry))) r) (now (levels .entry))) ⌝ }
+        ≡ firedBytes (setIn (atomsIn (now (table .entry))) (now (set .entry))) i (rl (codeIn (now (table .entry))) r) (now (levels .entry))) ⌝ }
 {
-    let h = head(heads, Rule(r)).0;
+    let h = head(table, Rule(r)).0;
     if byte_of(&levels[..], h) != 0 {
         return false;
     }
-    if !rule_enters(
-        t,
-        heads,
-        starts,
-        bodies,
-        before,
-        partners,
-        owners,
-        r,
-        i,
-        set,
-        &levels[..],
-    ) {
+    if !rule_enters(table, r, i, set, &levels[..]) {
         return false;
     }
     put_byte(&mut *levels, h, i);
@@ -259,45 +152,20 @@ fn disjunction(x: bool, y: bool) -> bool
 }
 
 // Round i: each rule has its turn. Whether an atom was given a level.
-fn round<'a>(
-    t: Totals,
-    heads: &'a [u16],
-    starts: &'a [u16],
-    bodies: &'a [u16],
-    before: &'a [u16],
-    partners: &'a [u16],
-    owners: &'a [u16],
-    i: u8,
-    set: &'a [u8],
-    levels: &mut [u8],
-) -> bool
-    requires { ⌜ (Ready t (now heads) (now starts) (now bodies) (now before) (now partners) (now owners)) × (0 < i) × (t .sizes .n ≤ length (now set))
-        × (t .sizes .n ≤ length (now levels)) ⌝ }
-    ensures { λ x. ⌜ (x
-        ≡ any (fires (setIn (t .sizes .n) (now (set .entry))) (now (levels .entry)) i)
-        (codeIn t (now (heads .entry)) (now (starts .entry)) (now (bodies .entry)) .rules))
+fn round<'a>(table: &'a [u16], i: u8, set: &'a [u8], levels: &mut [u8]) -> bool
+    requires { ⌜ (Ready (now table)) × (0 < i) × (atomsIn (now table) ≤ length (now set)) × (atomsIn (now table) ≤ length (now levels)) ⌝ }
+    ensures { λ x. ⌜ (x ≡ any (fires (setIn (atomsIn (now (table .entry))) (now (set .entry))) (now (levels .entry)) i)
+        (codeIn (now (table .entry)) .rules))
         × (now (levels .exit)
-        ≡ tab (t .sizes .n)
-        (levelAfter (setIn (t .sizes .n) (now (set .entry))) (now (levels .entry)) i
-        (codeIn t (now (heads .entry)) (now (starts .entry)) (now (bodies .entry)) .rules))
-        ++ drop (t .sizes .n) (now (levels .entry))) ⌝ }
+        ≡ tab (atomsIn (now (table .entry)))
+        (levelAfter (setIn (atomsIn (now (table .entry))) (now (set .entry))) (now (levels .entry)) i (codeIn (now (table .entry)) .rules))
+        ++ drop (atomsIn (now (table .entry))) (now (levels .entry))) ⌝ }
 {
+    let t = totals(table);
     let mut given = false;
     let mut r: u16 = 0;
     while r < t.sizes.m {
-        let x = put_rule(
-            t,
-            heads,
-            starts,
-            bodies,
-            before,
-            partners,
-            owners,
-            r + 1,
-            i,
-            set,
-            &mut *levels,
-        );
+        let x = put_rule(table, r + 1, i, set, &mut *levels);
         given = disjunction(given, x);
         r += 1;
     }
@@ -316,38 +184,17 @@ fn zero_bytes(n: u16, bytes: &mut [u8])
 }
 
 // The rounds, on bytes that are 0. A round that gives no level is the last.
-fn rounds<'a>(
-    t: Totals,
-    heads: &'a [u16],
-    starts: &'a [u16],
-    bodies: &'a [u16],
-    before: &'a [u16],
-    partners: &'a [u16],
-    owners: &'a [u16],
-    set: &'a [u8],
-    levels: &mut [u8],
-)
-    requires { ⌜ (Ready t (now heads) (now starts) (now bodies) (now before) (now partners) (now owners)) × (t .sizes .n ≤ length (now set))
-        × (t .sizes .n ≤ length (now levels)) × (now levels ≡ tab (t .sizes .n) (λ a. 0) ++ drop (t .sizes .n) (now levels)) ⌝ }
+fn rounds<'a>(table: &'a [u16], set: &'a [u8], levels: &mut [u8])
+    requires { ⌜ (Ready (now table)) × (atomsIn (now table) ≤ length (now set)) × (atomsIn (now table) ≤ length (now levels))
+        × (now levels ≡ tab (atomsIn (now table)) (λ a. 0) ++ drop (atomsIn (now table)) (now levels)) ⌝ }
     ensures { λ r. ⌜ now (levels .exit)
-        ≡ tab (t .sizes .n)
-        (levelOf (codeIn t (now (heads .entry)) (now (starts .entry)) (now (bodies .entry))) (setIn (t .sizes .n) (now (set .entry))))
-        ++ drop (t .sizes .n) (now (levels .entry)) ⌝ }
+        ≡ tab (atomsIn (now (table .entry))) (levelOf (codeIn (now (table .entry))) (setIn (atomsIn (now (table .entry))) (now (set .entry))))
+        ++ drop (atomsIn (now (table .entry))) (now (levels .entry)) ⌝ }
 {
+    let t = totals(table);
     let mut i: u8 = 0;
     while (i as u16) < t.sizes.n {
-        if !round(
-            t,
-            heads,
-            starts,
-            bodies,
-            before,
-            partners,
-            owners,
-            i + 1,
-            set,
-            &mut *levels,
-        ) {
+        if !round(table, i + 1, set, &mut *levels) {
             return;
         }
         i += 1;
@@ -355,36 +202,15 @@ fn rounds<'a>(
 }
 
 // Writes the level of each atom of 1 to n, 0 where no stage holds it.
-pub fn stage_levels<'a>(
-    t: Totals,
-    heads: &'a [u16],
-    starts: &'a [u16],
-    bodies: &'a [u16],
-    before: &'a [u16],
-    partners: &'a [u16],
-    owners: &'a [u16],
-    set: &'a [u8],
-    levels: &mut [u8],
-)
-    requires { ⌜ (Ready t (now heads) (now starts) (now bodies) (now before) (now partners) (now owners)) × (t .sizes .n ≤ length (now set))
-        × (t .sizes .n ≤ length (now levels)) ⌝ }
+pub fn stage_levels<'a>(table: &'a [u16], set: &'a [u8], levels: &mut [u8])
+    requires { ⌜ (Ready (now table)) × (atomsIn (now table) ≤ length (now set)) × (atomsIn (now table) ≤ length (now levels)) ⌝ }
     ensures { λ r. ⌜ now (levels .exit)
-        ≡ tab (t .sizes .n)
-        (levelOf (codeIn t (now (heads .entry)) (now (starts .entry)) (now (bodies .entry))) (setIn (t .sizes .n) (now (set .entry))))
-        ++ drop (t .sizes .n) (now (levels .entry)) ⌝ }
+        ≡ tab (atomsIn (now (table .entry))) (levelOf (codeIn (now (table .entry))) (setIn (atomsIn (now (table .entry))) (now (set .entry))))
+        ++ drop (atomsIn (now (table .entry))) (now (levels .entry)) ⌝ }
 {
+    let t = totals(table);
     zero_bytes(t.sizes.n, &mut *levels);
-    rounds(
-        t,
-        heads,
-        starts,
-        bodies,
-        before,
-        partners,
-        owners,
-        set,
-        &mut *levels,
-    );
+    rounds(table, set, &mut *levels);
 }
 
 // Whether one of the bytes x and y alone is 0.

@@ -24,6 +24,9 @@ pub struct Atom(pub u16);
 // A rule's place in text order.
 pub struct Rule(pub u16);
 
+// A pair's place in text order (document 01, "Variables").
+pub struct Pair(pub u16);
+
 // A variable of the clauses.
 pub struct Var(pub u16);
 

@@ -2,7 +2,6 @@
 --   block-of                     a block by the literals in its slots
 --   bit-block, next-block, zero-block, rule-block  the blocks of groups 5, 4, 3 and 6
 --   bit-in, next-asks, zero-asks, rule-asks        their variables have bytes
---   count-asks, head-asks, before-asks             group 6: what is read from the tables
 --   passes-five, passes-four, passes-three, passes-six, passes-none    by the tests of the group
 -- Assumes nothing.
 use Prim.Native.Nat.{ℕ, zero, suc, _+_, _-_, _*_, _≤_, _<_}
@@ -28,10 +27,10 @@ use Rattle.clause_slots.specs.declared.Chain.{Chain}
 use Rattle.clause_slots.specs.Signed.{slotLiteral}
 use Rattle.clause_tables.specs.declared.Totals.{Totals}
 use Rattle.clause_tables.specs.Tables.{Tabled}
-use Rattle.clause_table_laws.proofs.Elements.{inner-positives, vars-are, rules-are, heads-length, starts-length, before-length, head-atom, head-is, before-is, before-fits, pairs-fit}
+use Rattle.clause_table_laws.proofs.Elements.{inner-positives, vars-are, rules-are, head-atom, head-is, before-is, before-fits, pairs-fit}
 use Rattle.clause_table_laws.proofs.Bounds.{slot-in}
 use Rattle.clause_layout.specs.BlockChain.{chainOfBlock}
-use Rattle.clause_layout.proofs.Groups.{sizes-are, bounded, atom3, atom4, block4, bits4, size-zero, size-next, size-pair, size-rule, slots-zero, slots-next, slots-pair, slots-rule, slot-zero, slot-next, slot-rule, rule6, rule-fits, first-middle, span1}
+use Rattle.clause_layout.proofs.Groups.{sizes-are, bounded, atom3, atom4, block4, bits4, size-zero, size-next, size-pair, size-rule, slots-zero, slots-next, slots-pair, slots-rule, slot-zero, slot-next, slot-rule, rule6, span1}
 use Rattle.clause_layout.proofs.BlockChains.{literal-pair}
 use Rattle.truth_blocks.specs.Blocks.{Has, BitIn, bitTrue, nextTrue, zeroTrue, ruleTrue, blockTrue, isWhole, blockPasses}
 use Rattle.truth_blocks.proofs.RuleLaws.{rule-is}
@@ -246,25 +245,12 @@ module _ {G : Code} {t : Totals} {hs ss bs ks xs ys : List ℕ} (T : Tabled G t 
     rule : a ≤ length (G .rules)
     rule = rule6 T R e
 
-    span : getD ss (2 * (a - 1) + 1) 0 - getD ss (2 * (a - 1)) 0 ≡ getD ss (2 * (a - 1) + 1) 0 - getD ss (2 * (a - 1) + 0) 0
-    span = ap (λ (n : ℕ). getD ss (2 * (a - 1) + 1) 0 - getD ss n 0) (sym (add-zero (2 * (a - 1))))
-
-    pub count-asks : (0 < a) × (a ≤ 500) × (length ss ≡ 1001) × (getD ss (2 * (a - 1)) 0 ≤ getD ss (2 * (a - 1) + 1) 0)
-    count-asks =
-        (R .item-some, rule-fits T R rule, starts-length G t hs ss bs ks xs ys T, subst (λ (n : ℕ). getD ss n 0 ≤ getD ss (2 * (a - 1) + 1) 0) (add-zero (2 * (a - 1))) (first-middle T R rule))
-
-    pub head-asks : (0 < a) × (a ≤ length hs)
-    head-asks = (R .item-some, subst (λ (k : ℕ). a ≤ k) (sym (heads-length G t hs ss bs ks xs ys T)) (rule-fits T R rule))
-
-    pub before-asks : (0 < a) × (a ≤ length ks)
-    before-asks = (R .item-some, subst (λ (k : ℕ). a ≤ k) (sym (before-length G t hs ss bs ks xs ys T)) (le-trans (rule-fits T R rule) (omega arith)))
-
-    module _ {h k b : ℕ} (p : h ≡ getD hs (a - 1) 0) (q : k ≡ getD ks (a - 1) 0) (s : b ≡ getD ss (2 * (a - 1) + 1) 0 - getD ss (2 * (a - 1)) 0) where
+    module _ {h k b : ℕ} (p : h ≡ getD hs (a - 1) 0) (q : k ≡ getD ks (a - 1) 0) (s : b ≡ getD ss (2 * (a - 1) + 1) 0 - getD ss (2 * (a - 1) + 0) 0) where
       pub rule-block : (A : Assignment) → ruleTrue A (sizesOf (t .sizes)) a h k b ≡ blockTrue G A g a i
       rule-block A =
           rule-is A (sizesOf (t .sizes)) a h k b
-          ∙ block-of A (size6 w b) (slots6 b) (slot6 (sizesOf (t .sizes)) a h k b) (size-rule T R e (s ∙ span) refl) (λ y B. slots-rule T B e (s ∙ span) refl)
-          (λ y l B. single6 G g a i y l e ∙ ap (λ (x : Literal). x ∷ []) (sym (slot-rule T B l e p q (s ∙ span) refl)))
+          ∙ block-of A (size6 w b) (slots6 b) (slot6 (sizesOf (t .sizes)) a h k b) (size-rule T R e s refl) (λ y B. slots-rule T B e s refl)
+          (λ y l B. single6 G g a i y l e ∙ ap (λ (x : Literal). x ∷ []) (sym (slot-rule T B l e p q s refl)))
 
       pub rule-asks : (vs : List ℕ) → t .vars ≤ length vs
           → (Bounded (t .sizes)) × (0 < a) × (a ≤ t .sizes .m) × (0 < h) × (h ≤ t .sizes .n) × (k + b ≤ 500) × (varCount (sizesOf (t .sizes)) (k + b) ≤ length vs)
@@ -280,5 +266,5 @@ module _ {G : Code} {t : Totals} {hs ss bs ks xs ys : List ℕ} (T : Tabled G t 
           in-pairs : k + b ≤ pairTotal G
           in-pairs =
               subst (λ (n : ℕ). n ≤ pairTotal G)
-              (sym (ap₂ (λ (k b : ℕ). k + b) (q ∙ before-is G t hs ss bs ks xs ys T a (R .item-some) (le-trans rule (omega arith))) (s ∙ span ∙ span1 T R rule ∙ sym (inner-positives G (T .limits) a))))
+              (sym (ap₂ (λ (k b : ℕ). k + b) (q ∙ before-is G t hs ss bs ks xs ys T a (R .item-some) (le-trans rule (omega arith))) (s ∙ span1 T R rule ∙ sym (inner-positives G (T .limits) a))))
               (before-fits G (T .limits) a (R .item-some) rule)

@@ -1,6 +1,9 @@
 // Truth of single literals, and of whole blocks of clauses, under an assignment (document 01, "Check and filling out").
+use clause_cells::head;
+use clause_cells::pairs_before;
+use clause_cells::totals;
 use clause_layout::chain_of_block;
-use clause_layout::entry;
+use clause_layout::span;
 use clause_literals::Sizes;
 use clause_literals::below_var;
 use clause_literals::body_var;
@@ -14,7 +17,6 @@ use clause_literals::next_below_var;
 use clause_literals::next_var;
 use clause_slots::Chain;
 use clause_slots::chain_bit;
-use clause_tables::Totals;
 use numbers::Atom;
 use numbers::Rule;
 use numbers::Var;
@@ -28,7 +30,7 @@ ghost use Rattle.encoding.specs.Literal.{literalTrue};
 ghost use Rattle.encoding.specs.Variables.{levelVar, nextVar, varCount};
 ghost use Rattle.clause_literals.specs.Sizes.{sizesOf, Bounded};
 ghost use Rattle.clause_walk.specs.Walk.{signed, BlockAt};
-ghost use Rattle.clause_tables.specs.Tables.{Ready, codeIn};
+ghost use Rattle.clause_tables.specs.Tables.{Ready, codeIn, varsIn};
 ghost use Rattle.truth_blocks.specs.Values.{valueIn, numberTrue};
 ghost use Rattle.truth_blocks.specs.Blocks.{Has, twoTrue, threeTrue, BitIn, bitTrue, nextTrue};
 ghost use Rattle.truth_blocks.specs.Blocks.{zeroTrue, foundsTrue, factTrue, boundTrue, ruleTrue, blockPasses};
@@ -249,37 +251,17 @@ fn rule_block_holds(s: Sizes, r: Rule, h: Atom, k: u16, b: u16, assignment: &[u8
     bound_holds(s, r, k, b, assignment)
 }
 
-// How many pairs rule r has: its positive body atoms.
-fn pair_count(starts: &[u16], r: u16) -> u16
-    requires { ⌜ (0 < r) × (r ≤ 500) × (length (now starts) ≡ 1001) × (getD (now starts) (2 * (r - 1)) 0 ≤ getD (now starts) (2 * (r - 1) + 1) 0) ⌝ }
-    ensures { λ x. ⌜ x ≡ getD (now (starts .entry)) (2 * (r - 1) + 1) 0 - getD (now (starts .entry)) (2 * (r - 1)) 0 ⌝ }
-{
-    let j = 2 * ((r - 1) as usize);
-    starts[j + 1] - starts[j]
-}
-
 // Whether block i of item a of group g is taken whole, as those of groups 3 to 6 are, and all its clauses are true.
-pub fn block_passes<'a>(
-    t: Totals,
-    heads: &'a [u16],
-    starts: &'a [u16],
-    bodies: &'a [u16],
-    before: &'a [u16],
-    partners: &'a [u16],
-    owners: &'a [u16],
-    g: u16,
-    a: u16,
-    i: u16,
-    assignment: &'a [u8],
-) -> bool
-    requires { ⌜ (Ready t (now heads) (now starts) (now bodies) (now before) (now partners) (now owners))
-        × (BlockAt (codeIn t (now heads) (now starts) (now bodies)) g a i) × (t .vars ≤ length (now assignment)) ⌝ }
+pub fn block_passes<'a>(table: &'a [u16], g: u16, a: u16, i: u16, assignment: &'a [u8]) -> bool
+    requires { ⌜ (Ready (now table))
+        × (BlockAt (codeIn (now table)) g a i) × (varsIn (now table) ≤ length (now assignment)) ⌝ }
     ensures { λ r. ⌜ r
-        ≡ blockPasses (codeIn t (now (heads .entry)) (now (starts .entry)) (now (bodies .entry)))
+        ≡ blockPasses (codeIn (now (table .entry)))
         (valueIn (now (assignment .entry))) g a i ⌝ }
 {
+    let t = totals(table);
     if g == 5 {
-        let c = chain_of_block(t, heads, starts, bodies, before, partners, owners, g, a, i);
+        let c = chain_of_block(table, g, a, i);
         return bit_holds(c, chain_bit(t.sizes.w, i), assignment);
     }
     if g == 4 {
@@ -289,9 +271,16 @@ pub fn block_passes<'a>(
         return zero_block_holds(t.sizes, Atom(a), assignment);
     }
     if g == 6 {
-        let b = pair_count(starts, a);
-        let h = Atom(entry(heads, a));
-        return rule_block_holds(t.sizes, Rule(a), h, entry(before, a), b, assignment);
+        let b = span(table, Rule(a), 1);
+        let h = head(table, Rule(a));
+        return rule_block_holds(
+            t.sizes,
+            Rule(a),
+            h,
+            pairs_before(table, Rule(a)),
+            b,
+            assignment,
+        );
     }
     false
 }

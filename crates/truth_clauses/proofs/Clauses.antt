@@ -28,7 +28,7 @@ use Rattle.clause_layout.specs.Numbers.{pastEmpty}
 use Rattle.clause_layout.proofs.Passed.{passed, passed-each}
 use Rattle.clause_text.specs.Lines.{literalsIn}
 use Rattle.clause_text.proofs.Held.{held-is}
-use Rattle.clause_text.proofs.Clause.{slotted, slot-asks}
+use Rattle.clause_text.proofs.Clause.{slotted, slot-in as slot-in-clause}
 use Rattle.clause_places.specs.declared.Coordinates.{Coordinates}
 use Rattle.clause_places.specs.declared.Place.{Place}
 use Rattle.clause_places.specs.Places.{placeAt}
@@ -67,7 +67,7 @@ module _ {G : Code} {t : Totals} {hs ss bs ks xs ys : List ℕ} (T : Tabled G t 
       pub none-yet : {d : Bool} {r : ℕ} → d ≡ any (literalTrue (valueIn vs)) (literalsIn x) → d ≡ false → trueIn l ≡ false
           → r ≡ pastEmpty (t .sizes .m) hs g a i (l + 1) → trueIn r ≡ false
       none-yet {d} {r} u z f p =
-          ap (λ (c : List Literal). any (literalTrue (valueIn vs)) c) (passed-each (passed T A (omega arith) (slot-asks T A e h .3) p))
+          ap (λ (c : List Literal). any (literalTrue (valueIn vs)) c) (passed-each (passed T A (omega arith) (slot-in-clause T A e h) p))
           ∙ ap trueIn (add-one l) ∙ one-more u ∙ or-false (trueIn l) d f z
 
       -- a true literal among the slots makes the clause true
@@ -87,7 +87,7 @@ module _ {G : Code} {t : Totals} {hs ss bs ks xs ys : List ℕ} (T : Tabled G t 
           v
         where
           in-slot : So (all (λ z. isAtom (variablesOf G) (variable z)) (slot G g a i y (l + 1)))
-          in-slot = slot-in G (T .limits) g a i y (l + 1) A (omega arith) (slot-asks T A e h .3)
+          in-slot = slot-in G (T .limits) g a i y (l + 1) A (omega arith) (slot-in-clause T A e h)
 
     -- all slots are passed, and none holds a true literal
     pub all-false : {k l : ℕ} → k ≡ slots G g a i y → l ≤ k → k ≤ l → trueIn l ≡ false → false ≡ clauseTrue (valueIn vs) (clauseAt G g a i y)

@@ -1,4 +1,5 @@
 // Truth of clauses under an assignment (document 01, "Check and filling out").
+use clause_cells::totals;
 use clause_layout::chain_of_block;
 use clause_layout::literal_in;
 use clause_layout::past_empty;
@@ -10,7 +11,6 @@ use clause_places::next;
 use clause_places::past_block;
 use clause_places::start;
 use clause_slots::Signed;
-use clause_tables::Totals;
 use clause_text::literal_number;
 use truth_blocks::block_passes;
 use truth_blocks::holds;
@@ -20,7 +20,7 @@ ghost use lib.ListN.{length};
 ghost use Rattle.lists.specs.Lists.{any};
 ghost use Rattle.encoding.specs.Literal.{literalTrue, clauseTrue};
 ghost use Rattle.clause_walk.specs.Walk.{clauseAt, At};
-ghost use Rattle.clause_tables.specs.Tables.{codeIn, Ready};
+ghost use Rattle.clause_tables.specs.Tables.{Ready, codeIn, totalsIn, varsIn, clausesIn};
 ghost use Rattle.clause_text.specs.Lines.{literalsIn};
 ghost use Rattle.truth_clauses.specs.Truth.{valueIn, codeFirstFalse};
 ghost use Rattle.truth_clauses.specs.Standing.{Standing};
@@ -37,82 +37,30 @@ fn slot_holds(x: Signed, assignment: &[u8]) -> bool
 }
 
 // Whether clause y of block i of item a of group g is true.
-fn clause_holds<'a>(
-    t: Totals,
-    heads: &'a [u16],
-    starts: &'a [u16],
-    bodies: &'a [u16],
-    before: &'a [u16],
-    partners: &'a [u16],
-    owners: &'a [u16],
-    g: u16,
-    a: u16,
-    i: u16,
-    y: u16,
-    assignment: &'a [u8],
-) -> bool
-    requires { ⌜ (Ready t (now heads) (now starts) (now bodies) (now before) (now partners) (now owners))
-        × (At (codeIn t (now heads) (now starts) (now bodies)) g a i y) × (t .vars ≤ length (now assignment)) ⌝ }
-    ensures { λ r. ⌜ r
-        ≡ clauseTrue (valueIn (now (assignment .entry)))
-        (clauseAt (codeIn t (now (heads .entry)) (now (starts .entry)) (now (bodies .entry))) g a i y) ⌝ }
+fn clause_holds<'a>(table: &'a [u16], g: u16, a: u16, i: u16, y: u16, assignment: &'a [u8]) -> bool
+    requires { ⌜ (Ready (now table)) × (At (codeIn (now table)) g a i y) × (varsIn (now table) ≤ length (now assignment)) ⌝ }
+    ensures { λ r. ⌜ r ≡ clauseTrue (valueIn (now (assignment .entry))) (clauseAt (codeIn (now (table .entry))) g a i y) ⌝ }
 {
-    let k = slots(
-        t,
-        heads,
-        starts,
-        bodies,
-        before,
-        partners,
-        owners,
-        g,
-        a,
-        i,
-        y,
-    );
-    let c = chain_of_block(t, heads, starts, bodies, before, partners, owners, g, a, i);
+    let t = totals(table);
+    let k = slots(table, g, a, i, y);
+    let c = chain_of_block(table, g, a, i);
     let mut l: u16 = 0;
     while l < k {
-        let x = literal_in(
-            t,
-            heads,
-            starts,
-            bodies,
-            before,
-            partners,
-            owners,
-            c,
-            g,
-            a,
-            i,
-            y,
-            l + 1,
-        );
+        let x = literal_in(table, c, g, a, i, y, l + 1);
         if slot_holds(x, assignment) {
             return true;
         }
-        l = past_empty(t.sizes.m, heads, g, a, i, l + 1);
+        l = past_empty(table, t.sizes.m, g, a, i, l + 1);
     }
     false
 }
 
 // From a place with all clauses before it true to such a place further on in the item: past blocks that are taken whole and are true.
-fn through_blocks<'a>(
-    t: Totals,
-    heads: &'a [u16],
-    starts: &'a [u16],
-    bodies: &'a [u16],
-    before: &'a [u16],
-    partners: &'a [u16],
-    owners: &'a [u16],
-    c: Place,
-    assignment: &'a [u8],
-) -> Place
-    requires { ⌜ (Ready t (now heads) (now starts) (now bodies) (now before) (now partners) (now owners))
-        × (Standing (codeIn t (now heads) (now starts) (now bodies)) t (now assignment) c) × (c .number ≤ t .clauses)
-        × (t .vars ≤ length (now assignment)) ⌝ }
-    ensures { λ r. ⌜ (Standing (codeIn t (now (heads .entry)) (now (starts .entry)) (now (bodies .entry))) t (now (assignment .entry)) r)
-        × (c .number ≤ r .number) × (r .number ≤ t .clauses) ⌝ }
+fn through_blocks<'a>(table: &'a [u16], c: Place, assignment: &'a [u8]) -> Place
+    requires { ⌜ (Ready (now table)) × (Standing (codeIn (now table)) (totalsIn (now table)) (now assignment) c) × (c .number ≤ clausesIn (now table))
+        × (varsIn (now table) ≤ length (now assignment)) ⌝ }
+    ensures { λ r. ⌜ (Standing (codeIn (now (table .entry))) (totalsIn (now (table .entry))) (now (assignment .entry)) r) × (c .number ≤ r .number)
+        × (r .number ≤ clausesIn (now (table .entry))) ⌝ }
 {
     let mut at = c;
     while 0 < at.coordinates.blocks {
@@ -120,33 +68,10 @@ fn through_blocks<'a>(
         if s.clause != 1 {
             return at;
         }
-        if !block_passes(
-            t,
-            heads,
-            starts,
-            bodies,
-            before,
-            partners,
-            owners,
-            s.group,
-            s.item,
-            s.block,
-            assignment,
-        ) {
+        if !block_passes(table, s.group, s.item, s.block, assignment) {
             return at;
         }
-        let k = size(
-            t,
-            heads,
-            starts,
-            bodies,
-            before,
-            partners,
-            owners,
-            s.group,
-            s.item,
-            s.block + 1,
-        );
+        let k = size(table, s.group, s.item, s.block + 1);
         if k == 0 {
             return at;
         }
@@ -156,77 +81,25 @@ fn through_blocks<'a>(
 }
 
 // The first clause that is false, 0 if none is.
-pub fn first_false<'a>(
-    t: Totals,
-    heads: &'a [u16],
-    starts: &'a [u16],
-    bodies: &'a [u16],
-    before: &'a [u16],
-    partners: &'a [u16],
-    owners: &'a [u16],
-    assignment: &'a [u8],
-) -> usize
-    requires { ⌜ (Ready t (now heads) (now starts) (now bodies) (now before) (now partners) (now owners)) × (t .vars ≤ length (now assignment)) ⌝ }
-    ensures { λ r. ⌜ r ≡ codeFirstFalse (codeIn t (now (heads .entry)) (now (starts .entry)) (now (bodies .entry))) (now (assignment .entry)) ⌝ }
+pub fn first_false<'a>(table: &'a [u16], assignment: &'a [u8]) -> usize
+    requires { ⌜ (Ready (now table)) × (varsIn (now table) ≤ length (now assignment)) ⌝ }
+    ensures { λ r. ⌜ r ≡ codeFirstFalse (codeIn (now (table .entry))) (now (assignment .entry)) ⌝ }
 {
-    let mut at = next(
-        t,
-        heads,
-        starts,
-        bodies,
-        before,
-        partners,
-        owners,
-        start(t, heads, starts, bodies, before, partners, owners),
-    );
+    let t = totals(table);
+    let mut at = next(table, start(table));
     while at.number <= t.clauses {
-        let c = through_blocks(
-            t,
-            heads,
-            starts,
-            bodies,
-            before,
-            partners,
-            owners,
-            at,
-            assignment,
-        );
+        let c = through_blocks(table, at, assignment);
         let s = c.coordinates;
         if s.clause == 1 {
-            if block_passes(
-                t,
-                heads,
-                starts,
-                bodies,
-                before,
-                partners,
-                owners,
-                s.group,
-                s.item,
-                s.block,
-                assignment,
-            ) {
-                at = past_block(t, heads, starts, bodies, before, partners, owners, c);
+            if block_passes(table, s.group, s.item, s.block, assignment) {
+                at = past_block(table, c);
                 continue;
             }
         }
-        if !clause_holds(
-            t,
-            heads,
-            starts,
-            bodies,
-            before,
-            partners,
-            owners,
-            s.group,
-            s.item,
-            s.block,
-            s.clause,
-            assignment,
-        ) {
+        if !clause_holds(table, s.group, s.item, s.block, s.clause, assignment) {
             return c.number;
         }
-        at = next(t, heads, starts, bodies, before, partners, owners, c);
+        at = next(table, c);
     }
     0
 }

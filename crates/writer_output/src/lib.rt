@@ -1,13 +1,11 @@
 // The writer: reads a program text and prints its clause file, or why the text is refused (document 01, "Programs"). What is printed is handed to the
 // output in parts; each function that hands over returns how many bytes it handed.
+use clause_cells::totals;
 use clause_places::Place;
 use clause_places::start;
 use clause_runs::RunPart;
 use clause_runs::put_lines;
-use clause_tables::Pairs;
-use clause_tables::Totals;
-use clause_tabling::pairs_of;
-use clause_tabling::totals_of;
+use clause_tabling::prepare;
 use clause_text::put_refusal;
 use files::read_open;
 use program::Program;
@@ -19,10 +17,9 @@ use refusals::text_spot;
 ghost use Prim.Native.Nat.{_≤_};
 ghost use mathlib.Core.Path.{_≡_};
 ghost use lib.ListN.{length};
-ghost use Rattle.encoding.specs.Code.{codeOf};
 ghost use Rattle.program.specs.Arrays.{decoded};
 ghost use Rattle.refusals.specs.Numbers.{textNumber, textSpot};
-ghost use Rattle.clause_tables.specs.Tables.{Stored, pairTable, totalsOf};
+ghost use Rattle.clause_tables.specs.Tables.{Stored, Ready, codeIn, clausesIn};
 ghost use Rattle.clause_text.specs.Lines.{refusedText};
 ghost use Rattle.writer_output.specs.Output.{clauseFile, writerRefusalLine, writerOutput, Stands, PartPut};
 
@@ -46,39 +43,21 @@ fn say_refused(v: ReadVerdict) -> usize
     }
 }
 
-// The place before the first clause, of a program with its table of pairs and its totals.
-fn first_place(p: Program, k: Pairs, t: Totals) -> Place
-    requires { ⌜ (Stored p) × (k ≡ pairTable (decoded p)) × (t ≡ totalsOf (codeOf (decoded p))) ⌝ }
-    ensures { λ r. ⌜ Stands (decoded p) t r 0 ⌝ }
+// The place before the first clause.
+fn first_place(table: &[u16]) -> Place
+    requires { ⌜ Ready (now table) ⌝ }
+    ensures { λ r. ⌜ Stands (codeIn (now (table .entry))) r 0 ⌝ }
 {
-    start(
-        t,
-        &p.heads,
-        &p.starts,
-        &p.bodies,
-        &k.before,
-        &k.bodies,
-        &k.heads,
-    )
+    start(table)
 }
 
 // Puts the lines from place c on at the front of the buffer, as many as fit. `said` bytes of the clause file stand before them.
-fn next_part(p: Program, k: Pairs, t: Totals, c: Place, said: usize, out: &mut [u8]) -> RunPart
-    requires { ⌜ (Stored p) × (k ≡ pairTable (decoded p)) × (t ≡ totalsOf (codeOf (decoded p))) ⌝ }
-    requires { ⌜ (Stands (decoded p) t c said) × (c .number ≤ t .clauses) × (3008 ≤ length (now out)) × (length (now out) ≤ 65536) ⌝ }
-    ensures { λ r. ⌜ PartPut (decoded p) t c said (now (out .entry)) r (now (out .exit)) ⌝ }
+fn next_part(table: &[u16], c: Place, said: usize, out: &mut [u8]) -> RunPart
+    requires { ⌜ (Ready (now table)) × (Stands (codeIn (now table)) c said) × (c .number ≤ clausesIn (now table)) × (3008 ≤ length (now out))
+        × (length (now out) ≤ 65536) ⌝ }
+    ensures { λ r. ⌜ PartPut (codeIn (now (table .entry))) c said (now (out .entry)) r (now (out .exit)) ⌝ }
 {
-    put_lines(
-        t,
-        &p.heads,
-        &p.starts,
-        &p.bodies,
-        &k.before,
-        &k.bodies,
-        &k.heads,
-        c,
-        &mut *out,
-    )
+    put_lines(table, c, &mut *out)
 }
 
 // Hands over all lines of a program, part after part.
@@ -86,13 +65,14 @@ fn say_lines(p: Program) -> usize
     requires { ⌜ Stored p ⌝ }
     ensures { λ r. ⌜ r ≡ length (clauseFile (decoded p)) ⌝ }
 {
-    let k = pairs_of(p);
-    let t = totals_of(p, k.count, k.empty);
+    let mut table = [0u16; 3518];
+    prepare(p, &mut table);
+    let t = totals(&table);
     let mut out = io::large_buffer();
-    let mut c = first_place(p, k, t);
+    let mut c = first_place(&table);
     let mut said: usize = 0;
     while c.number <= t.clauses {
-        let part = next_part(p, k, t, c, said, &mut out);
+        let part = next_part(&table, c, said, &mut out);
         io::write_all(1, &out[..part.bytes]);
         c = part.place;
         said += part.bytes;

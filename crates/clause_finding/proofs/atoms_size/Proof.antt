@@ -1,18 +1,24 @@
-use Rattle.clause_finding.proofs.Coded.{count-front}
-use Rattle.clause_layout.proofs.Parts.{front-fits}
-use denote.Ref.{now}
-use lib.Seq.{length-take-le}
-use mathlib.Core.Path.{sym, _∙_, ap₂}
-use Prim.Native.Nat.{_+_}
 use borrow.Author.Needs.{needs}
+use Prim.Native.Nat.{ℕ, _+_}
+use native.Mathlib.Omega.{arith}
+use mathlib.Core.Path.{_∙_, ap, ap₂}
+use mathlib.Core.List.{List}
+use lib.ListN.{length}
+use denote.Ref.{now}
+use Rattle.clause_layout.proofs.Parts.{front-fits}
+use Rattle.clause_finding.proofs.Coded.{count-front}
+use Rattle.clause_finding.specs.Sizes.{lowCount}
+use Rattle.clause_tables.specs.Tables.{headsIn}
+use Rattle.clause_table_laws.proofs.Elements.{heads-length}
+use Rattle.clause_table_laws.proofs.Cells.{arrays}
 use Rattle.clause_finding.proofs.atoms_size.Statement.{statement}
 use Rattle.clause_finding.proofs.atoms_size.Tie as tie
 
-slice-aggregate-low-count : tie.Need-slice-aggregate-low-count
-slice-aggregate-low-count c = sym (length-take-le (c .before .before .args .m) (now (c .before .before .args .heads)) (c .before .before .pre .1))
+heads-requires : tie.Need-heads-requires
+heads-requires c κs = search needs
 
 low-count-requires : tie.Need-low-count-requires
-low-count-requires c κs = front-fits (now (c .before .before .args .heads)) (c .before .before .args .m) (c .before .before .pre .1) (c .before .before .pre .0)
+low-count-requires c κs = front-fits (headsIn (now (c .before .before .args .table))) (heads-length _ _ _ _ _ _ _ _ (arrays (c .before .before .pre .0))) (c .before .before .args .m) (c .heads .ensures) (c .before .before .pre .1)
 
 wide-requires : tie.Need-wide-requires
 wide-requires c κs = search needs
@@ -24,13 +30,13 @@ add-result : tie.Need-add-result
 add-result c = search needs
 
 returns : tie.Need-returns
-returns c = ap₂ _+_ (c .before .wide .ensures ∙ c .before .before .low-count .ensures ∙ count-front (c .before .before .before .before .before .args .m) (now (c .before .before .before .before .before .args .heads)) (c .before .before .before .before .before .args .a) (c .before .before .before .before .before .pre .1)) (c .wide2 .ensures)
+returns c = ap₂ _+_ (c .before .wide .ensures ∙ c .before .before .low-count .ensures ∙ ap (λ (hs : List ℕ). lowCount (length hs) hs (c .before .before .before .before .before .args .a)) (c .before .before .before .heads .ensures) ∙ count-front (c .before .before .before .before .before .args .m) (headsIn (now (c .before .before .before .before .before .args .table))) (c .before .before .before .before .before .args .a) (omega (arith, c .before .before .before .before .before .pre .1, heads-length _ _ _ _ _ _ _ _ (arrays (c .before .before .before .before .before .pre .0))))) (c .wide2 .ensures)
 
 pub atoms-size-spec : {M : Type 1} → statement M
 atoms-size-spec =
     tie.close
     (tie.spec
-    slice-aggregate-low-count
+    heads-requires
     low-count-requires
     wide-requires
     wide-requires-2

@@ -1,46 +1,38 @@
-use Rattle.clause_finding.proofs.Coded.{element-fits}
-use denote.Ref.{now}
-use lib.ListN.{getD}
-use Prim.Native.Nat.{ℕ, _+_, _*_}
-use mathlib.Core.Path.{_∙_, ap, ap₂}
-use native.Mathlib.Omega.{arith}
 use borrow.Author.Needs.{needs}
+use mathlib.Core.Path.{_∙_, ap, ap₂}
+use Prim.Native.Nat.{ℕ, _+_}
+use lib.ListN.{getD}
+use denote.Ref.{now}
+use Rattle.clause_finding.proofs.Coded.{last-start}
+use Rattle.clause_tables.specs.Tables.{startsIn}
 use Rattle.clause_finding.proofs.bodies_size.Statement.{statement}
 use Rattle.clause_finding.proofs.bodies_size.Tie as tie
+
+add-t5 : tie.Need-add-t5
+add-t5 c = search needs
+
+list-start-requires : tie.Need-list-start-requires
+list-start-requires c κs = search needs
 
 wide-requires : tie.Need-wide-requires
 wide-requires c κs = search needs
 
-mul-end : tie.Need-mul-end
-mul-end c = search needs
-
-mul-wide : tie.Need-mul-wide
-mul-wide c = search needs
-
-shared-slice-read-wide : tie.Need-shared-slice-read-wide
-shared-slice-read-wide c = search needs
-
 wide-requires-2 : tie.Need-wide-requires-2
 wide-requires-2 c κs = search needs
 
-wide-requires-3 : tie.Need-wide-requires-3
-wide-requires-3 c κs = search needs
-
 add-result : tie.Need-add-result
-add-result c = omega (arith, element-fits (now (c .before .before .before .before .before .args .starts)) _ (c .before .before .shared-slice-known2 .given) (c .before .wide2 .ensures), c .wide3 .ensures)
+add-result c = search needs
 
 returns : tie.Need-returns
-returns c = ap₂ _+_ (c .before .wide2 .ensures ∙ ap (λ (k : ℕ). getD (now (c .before .before .before .before .before .args .starts)) (2 * k) 0) (c .before .before .before .wide .ensures)) (c .wide3 .ensures)
+returns c = ap₂ _+_ (c .before .wide .ensures ∙ c .before .before .list-start .ensures ∙ ap (λ (j : ℕ). getD (startsIn (now (c .before .before .before .before .args .table))) j 0) (last-start (c .before .before .before .before .args .m))) (c .wide2 .ensures)
 
 pub bodies-size-spec : {M : Type 1} → statement M
 bodies-size-spec =
     tie.close
     (tie.spec
+    add-t5
+    list-start-requires
     wide-requires
-    mul-end
-    mul-wide
-    shared-slice-read-wide
     wide-requires-2
-    wide-requires-3
     add-result
     returns)

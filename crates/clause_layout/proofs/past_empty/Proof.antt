@@ -1,25 +1,32 @@
--- `clause_layout::past_empty` meets its contract, group by group.
--- Assumes nothing.
 use borrow.Author.Tests.{eq-eqb, ne-eqb, lt-ltb, le-ltb}
 use borrow.Author.Needs.{needs}
 use Rattle.clause_layout.proofs.past_empty.Statement.{statement}
 use Rattle.clause_layout.proofs.past_empty.Tie as tie
+use Rattle.clause_layout.proofs.past_empty.Reads as reads
+use Rattle.clause_layout.proofs.past_empty.Lts as lts
+use Rattle.clause_layout.proofs.past_others.Reads as past-others-reads
 
+-- src/lib.rt:308:9
 past-others-requires : tie.Need-past-others-requires
 past-others-requires c κs = search needs
 
+-- src/lib.rt:308:9
 returns : tie.Need-returns
 returns c = simp (eq-eqb _ _ (c .before .if1 .taken)) (c .past-others .ensures)
 
+-- src/lib.rt:312:13
 past-others-requires-2 : tie.Need-past-others-requires-2
 past-others-requires-2 c κs = search needs
 
+-- src/lib.rt:312:13
 returns-2 : tie.Need-returns-2
 returns-2 c = simp (ne-eqb _ _ (c .before .before .before .if1 .left), eq-eqb _ _ (c .before .before .if2 .taken), lt-ltb _ _ (c .before .if3 .taken)) (c .past-others2 .ensures)
 
+-- src/lib.rt:303:1
 returns-3 : tie.Need-returns-3
 returns-3 c = simp (ne-eqb _ _ (c .before .before .if1 .left), eq-eqb _ _ (c .before .if2 .taken), le-ltb _ _ (c .if3 .left))
 
+-- src/lib.rt:303:1
 returns-4 : tie.Need-returns-4
 returns-4 c = simp (ne-eqb _ _ (c .before .if1 .left), ne-eqb _ _ (c .if2 .left))
 

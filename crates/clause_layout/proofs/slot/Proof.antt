@@ -1,97 +1,144 @@
-use denote.Ref.{now}
-use native.Mathlib.Omega.{arith}
-use Rattle.clause_table_laws.proofs.Elements.{partners-length, owners-length}
+use Rattle.clause_layout.proofs.Groups.{rule1, rule6, bounded, pair-fits, pair-asks, body-asks, supported-asks, implied-asks, zero-asks, next-asks, rule-asks, founded-asks, rule-fits, first-middle}
+use Rattle.clause_layout.proofs.Groups.{rule1, rule6, bounded, pair-fits, pair-asks, body-asks, supported-asks, implied-asks, zero-asks, next-asks, rule-asks, founded-asks}
 use Rattle.clause_layout.proofs.Groups.{slot-pair, slot-body, slot-supported, slot-implied, slot-zero, slot-next, slot-rule, slot-last}
-use Rattle.clause_layout.proofs.Groups.{rule1, rule6, bounded, start-asks, span-asks1, entry-asks5, pair-asks, body-asks, supported-asks, implied-asks, zero-asks, next-asks, head-asks, before-asks, rule-asks, founded-asks}
+use native.Mathlib.Omega.{arith}
+use Rattle.clause_table_laws.proofs.Cells.{told, arrays}
+use borrow.Author.Needs.{needs}
 use Rattle.clause_layout.proofs.slot.Statement.{statement}
 use Rattle.clause_layout.proofs.slot.Tie as tie
+use Rattle.clause_layout.proofs.slot.Reads as reads
+use Rattle.clause_layout.proofs.slot.Lts as lts
+use Rattle.clause_cells.proofs.head.Reads as head-reads
+use Rattle.clause_cells.proofs.pair_body.Reads as pair-body-reads
+use Rattle.clause_cells.proofs.pair_head.Reads as pair-head-reads
+use Rattle.clause_cells.proofs.pairs_before.Reads as pairs-before-reads
+use Rattle.clause_cells.proofs.list_start.Reads as list-start-reads
+use Rattle.clause_cells.proofs.totals.Reads as totals-reads
+use Rattle.clause_layout.proofs.body_part.Reads as body-part-reads
+use Rattle.clause_layout.proofs.heads_part.Reads as heads-part-reads
+use Rattle.clause_layout.proofs.span.Reads as span-reads
+use Rattle.clause_slots.proofs.implied_slot.Reads as implied-slot-reads
+use Rattle.clause_slots.proofs.next_slot.Reads as next-slot-reads
+use Rattle.clause_slots.proofs.pair_slot.Reads as pair-slot-reads
+use Rattle.clause_slots.proofs.rule_slot.Reads as rule-slot-reads
+use Rattle.clause_slots.proofs.zero_slot.Reads as zero-slot-reads
 
-entry-requires : tie.Need-entry-requires
-entry-requires c κs = entry-asks5 (c .before .before .before .before .before .before .before .before .pre .0) (c .before .before .before .before .before .before .before .before .pre .1 .block-at) (now (c .before .before .before .before .before .before .before .before .args .partners)) (partners-length _ _ _ _ _ _ _ _ (c .before .before .before .before .before .before .before .before .pre .0)) (c .if1 .taken)
+-- src/lib.rt:207:9
+totals-requires : tie.Need-totals-requires
+totals-requires c κs = search needs
 
-entry-requires-2 : tie.Need-entry-requires-2
-entry-requires-2 c κs = entry-asks5 (c .before .before .before .before .before .before .before .before .before .pre .0) (c .before .before .before .before .before .before .before .before .before .pre .1 .block-at) (now (c .before .before .before .before .before .before .before .before .before .args .owners)) (owners-length _ _ _ _ _ _ _ _ (c .before .before .before .before .before .before .before .before .before .pre .0)) (c .before .if1 .taken)
+-- src/lib.rt:210:13
+pair-body-requires : tie.Need-pair-body-requires
+pair-body-requires c κs = (c .before .before .before .before .pre .0, c .before .before .before .before .pre .1 .block-at .item-some, pair-fits (arrays (c .before .before .before .before .pre .0)) (c .before .before .before .before .pre .1 .block-at) (c .if1 .taken))
 
+-- src/lib.rt:211:13
+pair-head-requires : tie.Need-pair-head-requires
+pair-head-requires c κs = (c .before .before .before .before .before .pre .0, c .before .before .before .before .before .pre .1 .block-at .item-some, pair-fits (arrays (c .before .before .before .before .before .pre .0)) (c .before .before .before .before .before .pre .1 .block-at) (c .before .if1 .taken))
+
+-- src/lib.rt:212:9
 pair-slot-requires : tie.Need-pair-slot-requires
-pair-slot-requires c κs = pair-asks (c .before .before .before .before .before .before .before .before .before .before .pre .0) (c .before .before .before .before .before .before .before .before .before .before .pre .1 .block-at) (c .before .before .if1 .taken) (c .before .entry .ensures) (c .entry2 .ensures)
+pair-slot-requires c κs = pair-asks (told (c .before .before .before .before .before .before .pre .0) (c .before .before .before .before .totals .ensures)) (c .before .before .before .before .before .before .pre .1 .block-at) (c .before .before .if1 .taken) (c .before .pair-body .ensures) (c .pair-head .ensures)
 
+-- src/lib.rt:212:9
 returns : tie.Need-returns
-returns c = slot-pair (c .before .before .before .before .before .before .before .before .before .before .before .pre .0) (c .before .before .before .before .before .before .before .before .before .before .before .pre .1) (c .before .before .before .before .before .before .before .before .before .before .before .args .l) (c .before .before .before .if1 .taken) (c .before .before .entry .ensures) (c .before .entry2 .ensures) (c .pair-slot .ensures)
+returns c = slot-pair (told (c .before .before .before .before .before .before .before .pre .0) (c .before .before .before .before .before .totals .ensures)) (c .before .before .before .before .before .before .before .pre .1) (c .before .before .before .before .before .before .before .args .l) (c .before .before .before .if1 .taken) (c .before .before .pair-body .ensures) (c .before .pair-head .ensures) (c .pair-slot .ensures)
 
-start-requires : tie.Need-start-requires
-start-requires c κs = start-asks (c .before .before .before .before .before .before .before .before .before .pre .0) (c .before .before .before .before .before .before .before .before .before .pre .1 .block-at) (rule1 (c .before .before .before .before .before .before .before .before .before .pre .0) (c .before .before .before .before .before .before .before .before .before .pre .1 .block-at) (c .if2 .taken)) 0 (omega arith)
+-- src/lib.rt:216:13
+list-start-requires : tie.Need-list-start-requires
+list-start-requires c κs = (c .before .before .before .before .before .pre .0, c .before .before .before .before .before .pre .1 .block-at .item-some, omega (arith, rule-fits (arrays (c .before .before .before .before .before .pre .0)) (c .before .before .before .before .before .pre .1 .block-at) (rule1 (arrays (c .before .before .before .before .before .pre .0)) (c .before .before .before .before .before .pre .1 .block-at) (c .if2 .taken))))
 
-start-requires-2 : tie.Need-start-requires-2
-start-requires-2 c κs = start-asks (c .before .before .before .before .before .before .before .before .before .before .pre .0) (c .before .before .before .before .before .before .before .before .before .before .pre .1 .block-at) (rule1 (c .before .before .before .before .before .before .before .before .before .before .pre .0) (c .before .before .before .before .before .before .before .before .before .before .pre .1 .block-at) (c .before .if2 .taken)) 1 (omega arith)
+-- src/lib.rt:217:13
+list-start-requires-2 : tie.Need-list-start-requires-2
+list-start-requires-2 c κs = (c .before .before .before .before .before .before .pre .0, c .before .before .before .before .before .before .pre .1 .block-at .item-some, omega (arith, rule-fits (arrays (c .before .before .before .before .before .before .pre .0)) (c .before .before .before .before .before .before .pre .1 .block-at) (rule1 (arrays (c .before .before .before .before .before .before .pre .0)) (c .before .before .before .before .before .before .pre .1 .block-at) (c .before .if2 .taken))))
 
-start-requires-3 : tie.Need-start-requires-3
-start-requires-3 c κs = start-asks (c .before .before .before .before .before .before .before .before .before .before .before .pre .0) (c .before .before .before .before .before .before .before .before .before .before .before .pre .1 .block-at) (rule1 (c .before .before .before .before .before .before .before .before .before .before .before .pre .0) (c .before .before .before .before .before .before .before .before .before .before .before .pre .1 .block-at) (c .before .before .if2 .taken)) 2 (omega arith)
+-- src/lib.rt:218:13
+list-start-requires-3 : tie.Need-list-start-requires-3
+list-start-requires-3 c κs = (c .before .before .before .before .before .before .before .pre .0, c .before .before .before .before .before .before .before .pre .1 .block-at .item-some, omega (arith, rule-fits (arrays (c .before .before .before .before .before .before .before .pre .0)) (c .before .before .before .before .before .before .before .pre .1 .block-at) (rule1 (arrays (c .before .before .before .before .before .before .before .pre .0)) (c .before .before .before .before .before .before .before .pre .1 .block-at) (c .before .before .if2 .taken))))
 
+-- src/lib.rt:219:9
 body-part-requires : tie.Need-body-part-requires
-body-part-requires c κs = body-asks (c .before .before .before .before .before .before .before .before .before .before .before .before .pre .0) (c .before .before .before .before .before .before .before .before .before .before .before .before .pre .1) (c .before .before .before .before .before .before .before .before .before .before .before .before .args .l) (c .before .before .before .if2 .taken) (c .before .before .start .ensures) (c .before .start2 .ensures) (c .start3 .ensures) (c .before .before .before .before .before .before .before .before .before .before .before .before .pre .2) (c .before .before .before .before .before .before .before .before .before .before .before .before .pre .3)
+body-part-requires c κs = let q = body-asks (arrays (c .before .before .before .before .before .before .before .before .pre .0)) (c .before .before .before .before .before .before .before .before .pre .1) (c .before .before .before .before .before .before .before .before .args .l) (c .before .before .before .if2 .taken) (c .before .before .list-start .ensures) (c .before .list-start2 .ensures) (c .list-start3 .ensures) (c .before .before .before .before .before .before .before .before .pre .2) (c .before .before .before .before .before .before .before .before .pre .3) in (c .before .before .before .before .before .before .before .before .pre .0, q .0, q .1, q .2, q .3, q .4, q .5, q .6)
 
+-- src/lib.rt:219:9
 returns-2 : tie.Need-returns-2
-returns-2 c = slot-body (c .before .before .before .before .before .before .before .before .before .before .before .before .before .pre .0) (c .before .before .before .before .before .before .before .before .before .before .before .before .before .pre .1) (c .before .before .before .before .before .before .before .before .before .before .before .before .before .args .l) (c .before .before .before .before .if2 .taken) (c .before .before .before .start .ensures) (c .before .before .start2 .ensures) (c .before .start3 .ensures) (c .body-part .ensures)
+returns-2 c = slot-body (arrays (c .before .before .before .before .before .before .before .before .before .pre .0)) (c .before .before .before .before .before .before .before .before .before .pre .1) (c .before .before .before .before .before .before .before .before .before .args .l) (c .before .before .before .before .if2 .taken) (c .before .before .before .list-start .ensures) (c .before .before .list-start2 .ensures) (c .before .list-start3 .ensures) (c .body-part .ensures)
 
+-- src/lib.rt:223:13
 heads-part-requires : tie.Need-heads-part-requires
-heads-part-requires c κs = supported-asks (c .before .before .before .before .before .before .before .before .before .before .before .before .pre .0) (c .before .before .before .before .before .before .before .before .before .before .before .before .pre .1) (c .before .before .before .before .before .before .before .before .before .before .before .before .args .l) (c .before .before .if3 .taken) (c .if4 .taken) (c .before .before .before .before .before .before .before .before .before .before .before .before .pre .2) (c .before .before .before .before .before .before .before .before .before .before .before .before .pre .3)
+heads-part-requires c κs = let q = supported-asks (told (c .before .before .before .before .before .before .before .before .pre .0) (c .before .before .before .before .before .before .totals .ensures)) (c .before .before .before .before .before .before .before .before .pre .1) (c .before .before .before .before .before .before .before .before .args .l) (c .before .before .if3 .taken) (c .if4 .taken) (c .before .before .before .before .before .before .before .before .pre .2) (c .before .before .before .before .before .before .before .before .pre .3) in (c .before .before .before .before .before .before .before .before .pre .0, q .0, q .1, q .2, q .3)
 
+-- src/lib.rt:223:13
 returns-3 : tie.Need-returns-3
-returns-3 c = slot-supported (c .before .before .before .before .before .before .before .before .before .before .before .before .before .pre .0) (c .before .before .before .before .before .before .before .before .before .before .before .before .before .pre .1) (c .before .before .before .before .before .before .before .before .before .before .before .before .before .args .l) (c .before .before .before .if3 .taken) (c .before .if4 .taken) (c .heads-part .ensures)
+returns-3 c = slot-supported (told (c .before .before .before .before .before .before .before .before .before .pre .0) (c .before .before .before .before .before .before .before .totals .ensures)) (c .before .before .before .before .before .before .before .before .before .pre .1) (c .before .before .before .before .before .before .before .before .before .args .l) (c .before .before .before .if3 .taken) (c .before .if4 .taken) (c .heads-part .ensures)
 
+-- src/lib.rt:225:9
 implied-slot-requires : tie.Need-implied-slot-requires
-implied-slot-requires c κs = implied-asks (c .before .before .before .before .before .before .before .before .before .before .before .before .pre .0) (c .before .before .before .before .before .before .before .before .before .before .before .before .pre .1) (c .before .before .before .before .before .before .before .before .before .before .before .before .args .l) (c .if4 .left)
+implied-slot-requires c κs = implied-asks (told (c .before .before .before .before .before .before .before .before .pre .0) (c .before .before .before .before .before .before .totals .ensures)) (c .before .before .before .before .before .before .before .before .pre .1) (c .before .before .before .before .before .before .before .before .args .l) (c .if4 .left)
 
+-- src/lib.rt:225:9
 returns-4 : tie.Need-returns-4
-returns-4 c = slot-implied (c .before .before .before .before .before .before .before .before .before .before .before .before .before .pre .0) (c .before .before .before .before .before .before .before .before .before .before .before .before .before .pre .1) (c .before .before .before .before .before .before .before .before .before .before .before .before .before .args .l) (c .before .before .before .if3 .taken) (c .before .if4 .left) (c .implied-slot .ensures)
+returns-4 c = slot-implied (told (c .before .before .before .before .before .before .before .before .before .pre .0) (c .before .before .before .before .before .before .before .totals .ensures)) (c .before .before .before .before .before .before .before .before .before .pre .1) (c .before .before .before .before .before .before .before .before .before .args .l) (c .before .before .before .if3 .taken) (c .before .if4 .left) (c .implied-slot .ensures)
 
+-- src/lib.rt:228:9
 zero-slot-requires : tie.Need-zero-slot-requires
-zero-slot-requires c κs = zero-asks (c .before .before .before .before .before .before .before .before .before .before .before .pre .0) (c .before .before .before .before .before .before .before .before .before .before .before .pre .1) (c .before .before .before .before .before .before .before .before .before .before .before .args .l) (c .if5 .taken)
+zero-slot-requires c κs = zero-asks (told (c .before .before .before .before .before .before .before .pre .0) (c .before .before .before .before .before .totals .ensures)) (c .before .before .before .before .before .before .before .pre .1) (c .before .before .before .before .before .before .before .args .l) (c .if5 .taken)
 
+-- src/lib.rt:228:9
 returns-5 : tie.Need-returns-5
-returns-5 c = slot-zero (c .before .before .before .before .before .before .before .before .before .before .before .before .pre .0) (c .before .before .before .before .before .before .before .before .before .before .before .before .pre .1) (c .before .before .before .before .before .before .before .before .before .before .before .before .args .l) (c .before .if5 .taken) (c .zero-slot .ensures)
+returns-5 c = slot-zero (told (c .before .before .before .before .before .before .before .before .pre .0) (c .before .before .before .before .before .before .totals .ensures)) (c .before .before .before .before .before .before .before .before .pre .1) (c .before .before .before .before .before .before .before .before .args .l) (c .before .if5 .taken) (c .zero-slot .ensures)
 
+-- src/lib.rt:231:9
 next-slot-requires : tie.Need-next-slot-requires
-next-slot-requires c κs = next-asks (c .before .before .before .before .before .before .before .before .before .before .before .before .pre .0) (c .before .before .before .before .before .before .before .before .before .before .before .before .pre .1) (c .before .before .before .before .before .before .before .before .before .before .before .before .args .l) (c .if6 .taken) (c .before .before .before .before .before .before .before .before .before .before .before .before .pre .3)
+next-slot-requires c κs = next-asks (told (c .before .before .before .before .before .before .before .before .pre .0) (c .before .before .before .before .before .before .totals .ensures)) (c .before .before .before .before .before .before .before .before .pre .1) (c .before .before .before .before .before .before .before .before .args .l) (c .if6 .taken) (c .before .before .before .before .before .before .before .before .pre .3)
 
+-- src/lib.rt:231:9
 returns-6 : tie.Need-returns-6
-returns-6 c = slot-next (c .before .before .before .before .before .before .before .before .before .before .before .before .before .pre .0) (c .before .before .before .before .before .before .before .before .before .before .before .before .before .pre .1) (c .before .before .before .before .before .before .before .before .before .before .before .before .before .args .l) (c .before .if6 .taken) (c .next-slot .ensures)
+returns-6 c = slot-next (told (c .before .before .before .before .before .before .before .before .before .pre .0) (c .before .before .before .before .before .before .before .totals .ensures)) (c .before .before .before .before .before .before .before .before .before .pre .1) (c .before .before .before .before .before .before .before .before .before .args .l) (c .before .if6 .taken) (c .next-slot .ensures)
 
+-- src/lib.rt:235:13
 span-requires : tie.Need-span-requires
-span-requires c κs = span-asks1 (c .before .before .before .before .before .before .before .before .before .before .before .before .before .pre .0) (c .before .before .before .before .before .before .before .before .before .before .before .before .before .pre .1 .block-at) (rule6 (c .before .before .before .before .before .before .before .before .before .before .before .before .before .pre .0) (c .before .before .before .before .before .before .before .before .before .before .before .before .before .pre .1 .block-at) (c .if7 .taken))
+span-requires c κs = (c .before .before .before .before .before .before .before .before .before .pre .0, c .before .before .before .before .before .before .before .before .before .pre .1 .block-at .item-some, rule-fits (arrays (c .before .before .before .before .before .before .before .before .before .pre .0)) (c .before .before .before .before .before .before .before .before .before .pre .1 .block-at) (rule6 (arrays (c .before .before .before .before .before .before .before .before .before .pre .0)) (c .before .before .before .before .before .before .before .before .before .pre .1 .block-at) (c .if7 .taken)), omega arith, first-middle (arrays (c .before .before .before .before .before .before .before .before .before .pre .0)) (c .before .before .before .before .before .before .before .before .before .pre .1 .block-at) (rule6 (arrays (c .before .before .before .before .before .before .before .before .before .pre .0)) (c .before .before .before .before .before .before .before .before .before .pre .1 .block-at) (c .if7 .taken)))
 
+-- src/lib.rt:236:32
 head-requires : tie.Need-head-requires
-head-requires c κs = head-asks (c .before .before .before .before .before .before .before .before .before .before .before .before .before .before .pre .0) (c .before .before .before .before .before .before .before .before .before .before .before .before .before .before .pre .1) (c .before .before .before .before .before .before .before .before .before .before .before .before .before .before .args .l) (c .before .if7 .taken)
+head-requires c κs = (c .before .before .before .before .before .before .before .before .before .before .pre .0, c .before .before .before .before .before .before .before .before .before .before .pre .1 .block-at .item-some, rule-fits (arrays (c .before .before .before .before .before .before .before .before .before .before .pre .0)) (c .before .before .before .before .before .before .before .before .before .before .pre .1 .block-at) (rule6 (arrays (c .before .before .before .before .before .before .before .before .before .before .pre .0)) (c .before .before .before .before .before .before .before .before .before .before .pre .1 .block-at) (c .before .if7 .taken)))
 
-entry-requires-3 : tie.Need-entry-requires-3
-entry-requires-3 c κs = before-asks (c .before .before .before .before .before .before .before .before .before .before .before .before .before .before .before .pre .0) (c .before .before .before .before .before .before .before .before .before .before .before .before .before .before .before .pre .1) (c .before .before .before .before .before .before .before .before .before .before .before .before .before .before .before .args .l) (c .before .before .if7 .taken)
+-- src/lib.rt:236:48
+pairs-before-requires : tie.Need-pairs-before-requires
+pairs-before-requires c κs = (c .before .before .before .before .before .before .before .before .before .before .before .pre .0, c .before .before .before .before .before .before .before .before .before .before .before .pre .1 .block-at .item-some, omega (arith, rule-fits (arrays (c .before .before .before .before .before .before .before .before .before .before .before .pre .0)) (c .before .before .before .before .before .before .before .before .before .before .before .pre .1 .block-at) (rule6 (arrays (c .before .before .before .before .before .before .before .before .before .before .before .pre .0)) (c .before .before .before .before .before .before .before .before .before .before .before .pre .1 .block-at) (c .before .before .if7 .taken))))
 
+-- src/lib.rt:236:9
 rule-slot-requires : tie.Need-rule-slot-requires
-rule-slot-requires c κs = rule-asks (c .before .before .before .before .before .before .before .before .before .before .before .before .before .before .before .before .pre .0) (c .before .before .before .before .before .before .before .before .before .before .before .before .before .before .before .before .pre .1) (c .before .before .before .before .before .before .before .before .before .before .before .before .before .before .before .before .args .l) (c .before .before .before .if7 .taken) (c .before .head .ensures) (c .entry3 .ensures) (c .before .before .span .ensures) (c .before .before .before .before .before .before .before .before .before .before .before .before .before .before .before .before .pre .2) (c .before .before .before .before .before .before .before .before .before .before .before .before .before .before .before .before .pre .3)
+rule-slot-requires c κs = rule-asks (told (c .before .before .before .before .before .before .before .before .before .before .before .before .pre .0) (c .before .before .before .before .before .before .before .before .before .before .totals .ensures)) (c .before .before .before .before .before .before .before .before .before .before .before .before .pre .1) (c .before .before .before .before .before .before .before .before .before .before .before .before .args .l) (c .before .before .before .if7 .taken) (c .before .head .ensures) (c .pairs-before .ensures) (c .before .before .span .ensures) (c .before .before .before .before .before .before .before .before .before .before .before .before .pre .2) (c .before .before .before .before .before .before .before .before .before .before .before .before .pre .3)
 
+-- src/lib.rt:236:9
 returns-7 : tie.Need-returns-7
-returns-7 c = slot-rule (c .before .before .before .before .before .before .before .before .before .before .before .before .before .before .before .before .before .pre .0) (c .before .before .before .before .before .before .before .before .before .before .before .before .before .before .before .before .before .pre .1) (c .before .before .before .before .before .before .before .before .before .before .before .before .before .before .before .before .before .args .l) (c .before .before .before .before .if7 .taken) (c .before .before .head .ensures) (c .before .entry3 .ensures) (c .before .before .before .span .ensures) (c .rule-slot .ensures)
+returns-7 c = slot-rule (told (c .before .before .before .before .before .before .before .before .before .before .before .before .before .pre .0) (c .before .before .before .before .before .before .before .before .before .before .before .totals .ensures)) (c .before .before .before .before .before .before .before .before .before .before .before .before .before .pre .1) (c .before .before .before .before .before .before .before .before .before .before .before .before .before .args .l) (c .before .before .before .before .if7 .taken) (c .before .before .head .ensures) (c .before .pairs-before .ensures) (c .before .before .before .span .ensures) (c .rule-slot .ensures)
 
+-- src/lib.rt:238:37
 add-heads-part : tie.Need-add-heads-part
-add-heads-part c = omega (arith, bounded (c .before .before .before .before .before .before .before .before .before .before .before .before .before .before .pre .0) .atoms, bounded (c .before .before .before .before .before .before .before .before .before .before .before .before .before .before .pre .0) .rules)
+add-heads-part c = omega (arith, bounded (told (c .before .before .before .before .before .before .before .before .before .before .pre .0) (c .before .before .before .before .before .before .before .before .totals .ensures)) .atoms, bounded (told (c .before .before .before .before .before .before .before .before .before .before .pre .0) (c .before .before .before .before .before .before .before .before .totals .ensures)) .rules)
 
+-- src/lib.rt:238:5
 heads-part-requires-2 : tie.Need-heads-part-requires-2
-heads-part-requires-2 c κs = founded-asks (c .before .before .before .before .before .before .before .before .before .before .before .before .before .before .pre .0) (c .before .before .before .before .before .before .before .before .before .before .before .before .before .before .pre .1) (c .before .before .before .before .before .before .before .before .before .before .before .before .before .before .args .l) (record { not1 = c .before .before .before .before .before .if2 .left; not2 = c .before .before .before .before .if3 .left; not3 = c .before .before .before .if5 .left; not4 = c .before .before .if6 .left; not5 = c .before .before .before .before .before .before .if1 .left; not6 = c .before .if7 .left }) (c .before .before .before .before .before .before .before .before .before .before .before .before .before .before .pre .2) (c .before .before .before .before .before .before .before .before .before .before .before .before .before .before .pre .3)
+heads-part-requires-2 c κs = let q = founded-asks (told (c .before .before .before .before .before .before .before .before .before .before .pre .0) (c .before .before .before .before .before .before .before .before .totals .ensures)) (c .before .before .before .before .before .before .before .before .before .before .pre .1) (c .before .before .before .before .before .before .before .before .before .before .args .l) (record { not1 = c .before .before .before .before .before .if2 .left; not2 = c .before .before .before .before .if3 .left; not3 = c .before .before .before .if5 .left; not4 = c .before .before .if6 .left; not5 = c .before .before .before .before .before .before .if1 .left; not6 = c .before .if7 .left }) (c .before .before .before .before .before .before .before .before .before .before .pre .2) (c .before .before .before .before .before .before .before .before .before .before .pre .3) in (c .before .before .before .before .before .before .before .before .before .before .pre .0, q .0, q .1, q .2, q .3)
 
+-- src/lib.rt:193:1
 returns-8 : tie.Need-returns-8
-returns-8 c = slot-last (c .before .before .before .before .before .before .before .before .before .before .before .before .before .before .before .pre .0) (c .before .before .before .before .before .before .before .before .before .before .before .before .before .before .before .pre .1) (c .before .before .before .before .before .before .before .before .before .before .before .before .before .before .before .args .l) (record { not1 = c .before .before .before .before .before .before .if2 .left; not2 = c .before .before .before .before .before .if3 .left; not3 = c .before .before .before .before .if5 .left; not4 = c .before .before .before .if6 .left; not5 = c .before .before .before .before .before .before .before .if1 .left; not6 = c .before .before .if7 .left }) (c .heads-part2 .ensures)
+returns-8 c = slot-last (told (c .before .before .before .before .before .before .before .before .before .before .before .pre .0) (c .before .before .before .before .before .before .before .before .before .totals .ensures)) (c .before .before .before .before .before .before .before .before .before .before .before .pre .1) (c .before .before .before .before .before .before .before .before .before .before .before .args .l) (record { not1 = c .before .before .before .before .before .before .if2 .left; not2 = c .before .before .before .before .before .if3 .left; not3 = c .before .before .before .before .if5 .left; not4 = c .before .before .before .if6 .left; not5 = c .before .before .before .before .before .before .before .if1 .left; not6 = c .before .before .if7 .left }) (c .heads-part2 .ensures)
 
 pub slot-spec : {M : Type 1} → statement M
 slot-spec =
     tie.close
     (tie.spec
-    entry-requires
-    entry-requires-2
+    totals-requires
+    pair-body-requires
+    pair-head-requires
     pair-slot-requires
     returns
-    start-requires
-    start-requires-2
-    start-requires-3
+    list-start-requires
+    list-start-requires-2
+    list-start-requires-3
     body-part-requires
     returns-2
     heads-part-requires
@@ -104,7 +151,7 @@ slot-spec =
     returns-6
     span-requires
     head-requires
-    entry-requires-3
+    pairs-before-requires
     rule-slot-requires
     returns-7
     add-heads-part

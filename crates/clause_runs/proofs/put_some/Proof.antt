@@ -1,5 +1,5 @@
-use mathlib.Core.Path.{sym, _∙_}
 use borrow.Author.Needs.{needs}
+use mathlib.Core.Path.{sym, _∙_}
 use Rattle.clause_runs.proofs.put_some.Statement.{statement}
 use Rattle.clause_runs.proofs.put_some.Tie as tie
 
@@ -7,7 +7,7 @@ is-blockwise-requires : tie.Need-is-blockwise-requires
 is-blockwise-requires c κs = search needs
 
 put-whole-block-requires : tie.Need-put-whole-block-requires
-put-whole-block-requires c κs = (c .before .before .before .before .before .before .before .before .before .before .before .before .before .pre .0, c .before .before .before .before .before .before .before .before .before .before .before .before .before .pre .1, c .before .before .before .before .before .before .before .before .before .before .before .before .before .pre .2, sym (c .before .before .is-blockwise .ensures) ∙ c .before .if3 .taken, c .before .before .before .if2 .taken, c .before .before .before .before .before .if1 .taken)
+put-whole-block-requires c κs = (c .before .before .before .before .before .before .before .before .pre .0, c .before .before .before .before .before .before .before .before .pre .1, c .before .before .before .before .before .before .before .before .pre .2, sym (c .before .before .is-blockwise .ensures) ∙ c .before .if3 .taken, c .before .before .before .if2 .taken, c .before .before .before .before .before .if1 .taken)
 
 same-length : tie.Need-same-length
 same-length c = search needs

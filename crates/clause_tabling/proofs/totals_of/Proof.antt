@@ -1,53 +1,125 @@
-use Rattle.clause_tabling.proofs.Totals.{pairs-few, sizes-bounded, counts-bounded, totals-are}
+use Prim.Native.Nat.{_-_, _≤_}
+use mathlib.Core.Path.{_≡_, sym, _∙_}
+use lib.ListN.{length}
+use native.Mathlib.Omega.{arith}
 use borrow.Author.Needs.{needs}
+use Rattle.program.specs.Arrays.{decoded}
+use Rattle.clause_tabling.proofs.Held.{rules-many}
+use Rattle.clause_tabling.proofs.Totals.{counts-bounded, totals-made}
+use Rattle.clause_tabling.proofs.Sums.{Summed, summed-start, starts-fit, count-fits, empty-fits, summed-next, summed-end}
 use Rattle.clause_tabling.proofs.totals_of.Statement.{statement}
 use Rattle.clause_tabling.proofs.totals_of.Tie as tie
+use Rattle.clause_tabling.proofs.totals_of.Reads as reads
+use Rattle.clause_tabling.proofs.totals_of.Lts as lts
+use Rattle.clause_tabling.proofs.counts.Reads as counts-reads
+use Rattle.clause_tabling.proofs.size_at.Reads as size-at-reads
+use Rattle.clause_tabling.proofs.when_none.Reads as when-none-reads
+use Rattle.numbers.proofs.wide.Reads as wide-reads
 
-width-of-requires : tie.Need-width-of-requires
-width-of-requires c κs = search needs
+abbrev Inv-loop : tie.InvT-loop
+Inv-loop p m count₀ empty₀ r₀ count empty r = (r ≤ m) × (m ≡ length (decoded p .rules)) × Summed p r count empty
 
-var-count-requires : tie.Need-var-count-requires
-var-count-requires c κs = (sizes-bounded _ (c .before .pre .0) _ _ _ (c .before .pre .1) (c .before .pre .2) (c .width-of .ensures), pairs-few _ (c .before .pre .0) _ _ _ (c .before .pre .1) (c .before .pre .2) (c .width-of .ensures))
+abbrev μ-loop : tie.MeasureT-loop
+μ-loop p m count₀ empty₀ r₀ count empty r = m - r
 
-wide-requires : tie.Need-wide-requires
+-- src/lib.rt:186:9
+wide-requires : tie.Need-wide-requires Inv-loop μ-loop
 wide-requires c κs = search needs
 
-wide-requires-2 : tie.Need-wide-requires-2
+-- src/lib.rt:190:5
+loop-holds : tie.Need-loop-holds Inv-loop μ-loop
+loop-holds c = (search needs, c .wide .ensures ∙ sym (rules-many _), summed-start _)
+
+-- src/lib.rt:191:13
+size-at-requires : tie.Need-size-at-requires Inv-loop μ-loop
+size-at-requires c κs = starts-fit _ (c .before .before .before .before .before .before .pre) _ _ _ (c .before .before .before .before .loop .inv .2) _ (c .before .before .before .before .loop .inv .1) (c .before .before .before .loop-test .taken)
+
+-- src/lib.rt:192:18
+when-none-requires : tie.Need-when-none-requires Inv-loop μ-loop
+when-none-requires c κs = search needs
+
+-- src/lib.rt:192:9
+add-empty : tie.Need-add-empty Inv-loop μ-loop
+add-empty c = omega (arith, empty-fits _ (c .before .before .before .before .before .before .before .before .pre) _ _ _ (c .before .before .before .before .before .before .loop .inv .2) _ (c .before .before .before .before .before .before .loop .inv .1) (c .before .before .before .before .before .loop-test .taken) _ (c .before .size-at .ensures) _ (c .when-none .ensures))
+
+-- src/lib.rt:193:9
+add-count : tie.Need-add-count Inv-loop μ-loop
+add-count c = omega (arith, count-fits _ (c .before .before .before .before .before .before .before .before .pre) _ _ _ (c .before .before .before .before .before .before .loop .inv .2) _ (c .before .before .before .before .before .before .loop .inv .1) (c .before .before .before .before .before .loop-test .taken) _ (c .before .size-at .ensures))
+
+-- src/lib.rt:194:9
+add-r : tie.Need-add-r Inv-loop μ-loop
+add-r c = search needs
+
+-- src/lib.rt:190:5
+loop-less : tie.Need-loop-less Inv-loop μ-loop
+loop-less c = search needs
+
+-- src/lib.rt:190:5
+loop-again : tie.Need-loop-again Inv-loop μ-loop
+loop-again c = (search needs, c .before .before .before .before .before .before .loop .inv .1, summed-next _ (c .before .before .before .before .before .before .before .before .pre) _ _ _ (c .before .before .before .before .before .before .loop .inv .2) _ (c .before .before .before .before .before .before .loop .inv .1) (c .before .before .before .before .before .loop-test .taken) _ (c .before .size-at .ensures) _ (c .when-none .ensures))
+
+-- src/lib.rt:196:15
+counts-requires : tie.Need-counts-requires Inv-loop μ-loop
+counts-requires c κs = let e = summed-end _ (c .before .before .before .pre) _ _ _ (c .before .loop .inv .2) _ (omega arith) (c .before .loop .inv .1) in counts-bounded _ (c .before .before .before .pre) _ _ (e .0) (e .1)
+
+-- src/lib.rt:199:16
+array-read-t9 : tie.Need-array-read-t9 Inv-loop μ-loop
+array-read-t9 c = search needs
+
+-- src/lib.rt:200:16
+array-read-t16 : tie.Need-array-read-t16 Inv-loop μ-loop
+array-read-t16 c = search needs
+
+-- src/lib.rt:201:16
+array-read-t15 : tie.Need-array-read-t15 Inv-loop μ-loop
+array-read-t15 c = search needs
+
+-- src/lib.rt:203:16
+array-read-t26 : tie.Need-array-read-t26 Inv-loop μ-loop
+array-read-t26 c = search needs
+
+-- src/lib.rt:204:20
+array-read-wide : tie.Need-array-read-wide Inv-loop μ-loop
+array-read-wide c = search needs
+
+-- src/lib.rt:204:15
+wide-requires-2 : tie.Need-wide-requires-2 Inv-loop μ-loop
 wide-requires-2 c κs = search needs
 
-wide-requires-3 : tie.Need-wide-requires-3
+-- src/lib.rt:205:23
+array-read-wide-2 : tie.Need-array-read-wide-2 Inv-loop μ-loop
+array-read-wide-2 c = search needs
+
+-- src/lib.rt:205:18
+wide-requires-3 : tie.Need-wide-requires-3 Inv-loop μ-loop
 wide-requires-3 c κs = search needs
 
-wide-requires-4 : tie.Need-wide-requires-4
-wide-requires-4 c κs = search needs
-
-wide-requires-5 : tie.Need-wide-requires-5
-wide-requires-5 c κs = search needs
-
-wide-requires-6 : tie.Need-wide-requires-6
-wide-requires-6 c κs = search needs
-
-clause-count-requires : tie.Need-clause-count-requires
-clause-count-requires c κs = counts-bounded _ (c .before .before .before .before .before .before .before .before .pre .0) _ _ _ (c .before .before .before .before .before .before .before .before .pre .1) (c .before .before .before .before .before .before .before .before .pre .2) (c .before .before .before .before .before .before .before .width-of .ensures) _ _ _ _ _ _ (c .before .before .before .before .before .wide .ensures) (c .before .before .before .before .wide2 .ensures) (c .before .before .before .wide3 .ensures) (c .before .before .wide4 .ensures) (c .before .wide5 .ensures) (c .wide6 .ensures)
-
-wide-requires-7 : tie.Need-wide-requires-7
-wide-requires-7 c κs = search needs
-
-returns : tie.Need-returns
-returns c = totals-are _ (c .before .before .before .before .before .before .before .before .before .before .pre .0) _ _ _ (c .before .before .before .before .before .before .before .before .before .before .pre .1) (c .before .before .before .before .before .before .before .before .before .before .pre .2) (c .before .before .before .before .before .before .before .before .before .width-of .ensures) _ _ _ _ _ _ _ _ _ (c .before .before .before .before .before .before .before .wide .ensures) (c .before .before .before .before .before .before .wide2 .ensures) (c .before .before .before .before .before .wide3 .ensures) (c .before .before .before .before .wide4 .ensures) (c .before .before .before .wide5 .ensures) (c .before .before .wide6 .ensures) (c .before .before .before .before .before .before .before .before .var-count .ensures) (c .wide7 .ensures) (c .before .clause-count .ensures)
+-- src/lib.rt:182:1
+returns : tie.Need-returns Inv-loop μ-loop
+returns c = let e = summed-end _ (c .before .before .before .before .before .before .pre) _ _ _ (c .before .before .before .before .loop .inv .2) _ (omega arith) (c .before .before .before .before .loop .inv .1) in totals-made _ (c .before .before .before .before .before .before .pre) _ _ (e .0) (e .1) _ (c .before .before .counts .ensures) _ _ (c .before .wide2 .ensures) (c .wide3 .ensures)
 
 pub totals-of-spec : {M : Type 1} → statement M
 totals-of-spec =
     tie.close
     (tie.spec
-    width-of-requires
-    var-count-requires
+    Inv-loop
+    μ-loop
     wide-requires
+    loop-holds
+    size-at-requires
+    when-none-requires
+    add-empty
+    add-count
+    add-r
+    loop-less
+    loop-again
+    counts-requires
+    array-read-t9
+    array-read-t16
+    array-read-t15
+    array-read-t26
+    array-read-wide
     wide-requires-2
+    array-read-wide-2
     wide-requires-3
-    wide-requires-4
-    wide-requires-5
-    wide-requires-6
-    clause-count-requires
-    wide-requires-7
     returns)

@@ -1,24 +1,29 @@
-use Prim.Native.Nat.{_≤_, _-_}
-use native.Mathlib.Omega.{arith}
-use mathlib.Core.Path.{_≡_, refl}
-use lib.ListN.{length}
-use borrow.Author.Needs.{needs}
-use Rattle.lists.specs.Lists.{each}
-use Rattle.digits.specs.Bytes.{literalsText}
-use Rattle.clause_walk.specs.Walk.{slot}
+use Rattle.clause_text.proofs.Clause.{slot-in, past-within, past-less, length-next, length-fits, length-line, line-short}
 use Rattle.clause_tables.specs.Tables.{codeIn}
-use Rattle.clause_text.proofs.Clause.{slot-asks, past-asks, past-within, past-less, length-next, length-fits, length-line, line-short}
+use Rattle.clause_walk.specs.Walk.{slot}
+use Rattle.digits.specs.Bytes.{literalsText}
+use Rattle.lists.specs.Lists.{each}
+use borrow.Author.Needs.{needs}
+use lib.ListN.{length}
+use mathlib.Core.Path.{_≡_, refl}
+use native.Mathlib.Omega.{arith}
+use Prim.Native.Nat.{_≤_, _-_}
+use Rattle.clause_table_laws.proofs.Cells.{told}
+use Rattle.clause_layout.proofs.Groups.{bounded}
 use Rattle.clause_text.proofs.clause_length.Statement.{statement}
 use Rattle.clause_text.proofs.clause_length.Tie as tie
 
 abbrev Inv-loop : tie.InvT-loop
-Inv-loop t heads starts bodies before partners owners g a i y k l₀ to₀ l to = (l ≤ k) × (to ≡ length (literalsText (each l (slot (codeIn t heads starts bodies) g a i y))))
+Inv-loop table g a i y t k l₀ to₀ l to = (l ≤ k) × (to ≡ length (literalsText (each l (slot (codeIn table) g a i y))))
 
 abbrev μ-loop : tie.MeasureT-loop
-μ-loop t heads starts bodies before partners owners g a i y k l₀ to₀ l to = k - l
+μ-loop table g a i y t k l₀ to₀ l to = k - l
+
+totals-requires : tie.Need-totals-requires Inv-loop μ-loop
+totals-requires c κs = search needs
 
 slots-requires : tie.Need-slots-requires Inv-loop μ-loop
-slots-requires c κs = (c .before .before .before .before .before .before .pre .0, c .before .before .before .before .before .before .pre .1)
+slots-requires c κs = (c .before .before .pre .0, c .before .before .pre .1)
 
 loop-holds : tie.Need-loop-holds Inv-loop μ-loop
 loop-holds c = (search needs, refl)
@@ -27,31 +32,31 @@ add-slot : tie.Need-add-slot Inv-loop μ-loop
 add-slot c = search needs
 
 slot-requires : tie.Need-slot-requires Inv-loop μ-loop
-slot-requires c κs = slot-asks (c .before .before .before .before .before .before .before .before .before .pre .0) (c .before .before .before .before .before .before .before .before .before .pre .1) (c .before .before .slots .ensures) (c .loop-test .taken)
+slot-requires c κs = (c .before .before .before .before .before .pre .0, c .before .before .before .before .before .pre .1, omega arith, slot-in (told (c .before .before .before .before .before .pre .0) (c .before .before .before .totals .ensures)) (c .before .before .before .before .before .pre .1) (c .before .before .slots .ensures) (c .loop-test .taken))
 
 signed-length-requires : tie.Need-signed-length-requires Inv-loop μ-loop
 signed-length-requires c κs = search needs
 
 add-to : tie.Need-add-to Inv-loop μ-loop
-add-to c = omega (arith, length-fits (c .before .before .before .before .before .before .before .before .before .before .before .pre .0) (c .before .before .before .before .before .before .before .before .before .before .before .pre .1) (c .before .slot .result) (c .before .before .before .before .slots .ensures) (c .before .before .loop-test .taken) (c .before .slot .ensures) (c .before .before .before .loop .inv .1) (c .signed-length .ensures))
+add-to c = omega (arith, length-fits (told (c .before .before .before .before .before .before .before .pre .0) (c .before .before .before .before .before .totals .ensures)) (c .before .before .before .before .before .before .before .pre .1) (c .before .slot .result) (c .before .before .before .before .slots .ensures) (c .before .before .loop-test .taken) (c .before .slot .ensures) (c .before .before .before .loop .inv .1) (c .signed-length .ensures))
 
 add-past-empty : tie.Need-add-past-empty Inv-loop μ-loop
 add-past-empty c = search needs
 
 past-empty-requires : tie.Need-past-empty-requires Inv-loop μ-loop
-past-empty-requires c κs = past-asks (c .before .before .before .before .before .before .before .before .before .before .before .pre .0) (c .before .before .before .before .before .before .before .before .before .before .before .pre .1) (c .before .before .before .loop .l)
+past-empty-requires c κs = (c .before .before .before .before .before .before .before .pre .0, bounded (told (c .before .before .before .before .before .before .before .pre .0) (c .before .before .before .before .before .totals .ensures)) .rules, omega arith)
 
 loop-less : tie.Need-loop-less Inv-loop μ-loop
-loop-less c = past-less (c .before .before .before .before .before .before .before .before .before .before .before .before .pre .0) (c .before .before .before .before .before .before .before .before .before .before .before .before .pre .1) (c .before .before .before .before .before .slots .ensures) (c .before .before .before .loop-test .taken) (c .past-empty .ensures)
+loop-less c = past-less (told (c .before .before .before .before .before .before .before .before .pre .0) (c .before .before .before .before .before .before .totals .ensures)) (c .before .before .before .before .before .before .before .before .pre .1) (c .before .before .before .before .before .slots .ensures) (c .before .before .before .loop-test .taken) (c .past-empty .ensures)
 
 loop-again : tie.Need-loop-again Inv-loop μ-loop
-loop-again c = (past-within (c .before .before .before .before .before .before .before .before .before .before .before .before .pre .0) (c .before .before .before .before .before .before .before .before .before .before .before .before .pre .1) (c .before .before .before .before .before .slots .ensures) (c .before .before .before .loop-test .taken) (c .past-empty .ensures), length-next (c .before .before .before .before .before .before .before .before .before .before .before .before .pre .0) (c .before .before .before .before .before .before .before .before .before .before .before .before .pre .1) (c .before .before .slot .result) (c .before .before .before .before .before .slots .ensures) (c .before .before .before .loop-test .taken) (c .before .before .slot .ensures) (c .past-empty .ensures) (c .before .before .before .before .loop .inv .1) (c .before .signed-length .ensures))
+loop-again c = (past-within (told (c .before .before .before .before .before .before .before .before .pre .0) (c .before .before .before .before .before .before .totals .ensures)) (c .before .before .before .before .before .before .before .before .pre .1) (c .before .before .before .before .before .slots .ensures) (c .before .before .before .loop-test .taken) (c .past-empty .ensures), length-next (told (c .before .before .before .before .before .before .before .before .pre .0) (c .before .before .before .before .before .before .totals .ensures)) (c .before .before .before .before .before .before .before .before .pre .1) (c .before .before .slot .result) (c .before .before .before .before .before .slots .ensures) (c .before .before .before .loop-test .taken) (c .before .before .slot .ensures) (c .past-empty .ensures) (c .before .before .before .before .loop .inv .1) (c .before .signed-length .ensures))
 
 add-result : tie.Need-add-result Inv-loop μ-loop
-add-result c = omega (arith, length-line (c .before .before .before .before .before .before .before .before .before .pre .0) (c .before .before .before .before .before .before .before .before .before .pre .1) (c .before .before .slots .ensures) (c .before .loop .inv .0) (c .loop-test .left) (c .before .loop .inv .1), line-short (c .before .before .before .before .before .before .before .before .before .pre .0) (c .before .before .before .before .before .before .before .before .before .pre .1))
+add-result c = omega (arith, length-line (told (c .before .before .before .before .before .pre .0) (c .before .before .before .totals .ensures)) (c .before .before .before .before .before .pre .1) (c .before .before .slots .ensures) (c .before .loop .inv .0) (c .loop-test .left) (c .before .loop .inv .1), line-short (told (c .before .before .before .before .before .pre .0) (c .before .before .before .totals .ensures)) (c .before .before .before .before .before .pre .1))
 
 returns : tie.Need-returns Inv-loop μ-loop
-returns c = length-line (c .before .before .before .before .before .before .before .before .before .pre .0) (c .before .before .before .before .before .before .before .before .before .pre .1) (c .before .before .slots .ensures) (c .before .loop .inv .0) (c .loop-test .left) (c .before .loop .inv .1)
+returns c = length-line (told (c .before .before .before .before .before .pre .0) (c .before .before .before .totals .ensures)) (c .before .before .before .before .before .pre .1) (c .before .before .slots .ensures) (c .before .loop .inv .0) (c .loop-test .left) (c .before .loop .inv .1)
 
 pub clause-length-spec : {M : Type 1} → statement M
 clause-length-spec =
@@ -59,6 +64,7 @@ clause-length-spec =
     (tie.spec
     Inv-loop
     μ-loop
+    totals-requires
     slots-requires
     loop-holds
     add-slot

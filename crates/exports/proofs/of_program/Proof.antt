@@ -1,14 +1,10 @@
-use Rattle.exports.proofs.Told.{totalled}
-use Rattle.call_laws.proofs.Tabled.{totals-asks}
 use borrow.Author.Needs.{needs}
+use Rattle.exports.proofs.Told.{totalled}
 use Rattle.exports.proofs.of_program.Statement.{statement}
 use Rattle.exports.proofs.of_program.Tie as tie
 
-pairs-of-requires : tie.Need-pairs-of-requires
-pairs-of-requires c κs = search needs
-
 totals-of-requires : tie.Need-totals-of-requires
-totals-of-requires c κs = totals-asks (c .before .pre) (c .pairs-of .ensures)
+totals-of-requires c κs = search needs
 
 accepted-requires : tie.Need-accepted-requires
 accepted-requires c κs = search needs
@@ -18,4 +14,8 @@ returns c = totalled _ (c .before .totals-of .ensures) (c .accepted .ensures)
 
 pub of-program-spec : {M : Type 1} → statement M
 of-program-spec =
-    tie.close (tie.spec pairs-of-requires totals-of-requires accepted-requires returns)
+    tie.close
+    (tie.spec
+    totals-of-requires
+    accepted-requires
+    returns)

@@ -1,25 +1,32 @@
-use Prim.Native.Nat.{_-_}
-use denote.Ref.{now}
-use borrow.Author.Needs.{needs}
-use Rattle.clause_tables.specs.Tables.{codeIn}
 use Rattle.level_stages.proofs.Turns.{Turned, begins, asks, goes, ends}
+use Rattle.clause_tables.specs.Tables.{codeIn, totalsIn, rulesIn}
+use borrow.Author.Needs.{needs}
+use denote.Ref.{now}
+use Prim.Native.Nat.{_-_}
+use Rattle.clause_table_laws.proofs.Cells.{arrays}
+use Rattle.clause_tables.specs.declared.Totals.{Totals}
+use native.Mathlib.Omega.{arith}
+use mathlib.Core.Path.{ap}
 use Rattle.level_stages.proofs.round.Statement.{statement}
 use Rattle.level_stages.proofs.round.Tie as tie
 
 abbrev Inv-loop : tie.InvT-loop
-Inv-loop t heads starts bodies before partners owners i set levels₀ given₀ r₀ levels given r = Turned (codeIn t heads starts bodies) t set levels₀ i r levels given
+Inv-loop table i set levels₀ t given₀ r₀ levels given r = Turned (codeIn table) (totalsIn table) set levels₀ i r levels given
 
 abbrev μ-loop : tie.MeasureT-loop
-μ-loop t heads starts bodies before partners owners i set levels₀ given₀ r₀ levels given r = t .sizes .m - r
+μ-loop table i set levels₀ t given₀ r₀ levels given r = rulesIn table - r
+
+totals-requires : tie.Need-totals-requires Inv-loop μ-loop
+totals-requires c κs = search needs
 
 loop-holds : tie.Need-loop-holds Inv-loop μ-loop
-loop-holds c = begins (c .before .before .before .before .before .before .before .before .pre .0) (now (c .before .before .before .before .before .before .before .before .args .set)) (now (c .before .before .before .before .before .before .before .before .args .levels)) (c .before .before .before .before .before .before .before .before .args .i) (c .before .before .before .before .before .before .before .before .pre .3)
+loop-holds c = begins (arrays (c .before .before .before .before .pre .0)) (now (c .before .before .before .before .args .set)) (now (c .before .before .before .before .args .levels)) (c .before .before .before .before .args .i) (c .before .before .before .before .pre .3)
 
 add-put-rule : tie.Need-add-put-rule Inv-loop μ-loop
 add-put-rule c = search needs
 
 put-rule-requires : tie.Need-put-rule-requires Inv-loop μ-loop
-put-rule-requires c κs = let q = asks (c .before .before .before .before .before .before .before .before .before .before .before .before .pre .0) (now (c .before .before .before .before .before .before .before .before .before .before .before .before .args .set)) (now (c .before .before .before .before .before .before .before .before .before .before .before .before .args .levels)) (c .before .before .before .before .before .before .before .before .before .before .before .before .args .i) (c .before .before .before .loop .inv) (c .before .if1 .taken) (c .before .before .before .before .before .before .before .before .before .before .before .before .pre .3) in (c .before .before .before .before .before .before .before .before .before .before .before .before .pre .0, q .0, q .1, c .before .before .before .before .before .before .before .before .before .before .before .before .pre .2, q .2)
+put-rule-requires c κs = let q = asks (arrays (c .before .before .before .before .before .before .before .before .pre .0)) (now (c .before .before .before .before .before .before .before .before .args .set)) (now (c .before .before .before .before .before .before .before .before .args .levels)) (c .before .before .before .before .before .before .before .before .args .i) (c .before .before .before .loop .inv) (omega (arith, c .before .if1 .taken, ap (λ (t : Totals). t .sizes .m) (c .before .before .before .before .totals .ensures))) (c .before .before .before .before .before .before .before .before .pre .3) in (c .before .before .before .before .before .before .before .before .pre .0, q .0, q .1, c .before .before .before .before .before .before .before .before .pre .2, q .2)
 
 disjunction-requires : tie.Need-disjunction-requires Inv-loop μ-loop
 disjunction-requires c κs = search needs
@@ -28,16 +35,16 @@ add-r : tie.Need-add-r Inv-loop μ-loop
 add-r c = search needs
 
 loop-less : tie.Need-loop-less Inv-loop μ-loop
-loop-less c = search needs
+loop-less c = omega (arith, c .before .before .before .before .before .if1 .taken, ap (λ (t : Totals). t .sizes .m) (c .before .before .before .before .before .before .before .before .totals .ensures))
 
 loop-again : tie.Need-loop-again Inv-loop μ-loop
-loop-again c = goes (c .before .before .before .before .before .before .before .before .before .before .before .before .before .before .before .before .pre .0) (now (c .before .before .before .before .before .before .before .before .before .before .before .before .before .before .before .before .args .set)) (now (c .before .before .before .before .before .before .before .before .before .before .before .before .before .before .before .before .args .levels)) (c .before .before .before .before .before .before .before .before .before .before .before .before .before .before .before .before .args .i) (c .before .before .before .before .before .before .before .loop .inv) (c .before .before .before .before .before .before .before .before .before .before .before .before .before .before .before .before .pre .1) (c .before .before .before .before .before .if1 .taken) (c .before .before .before .put-rule .kept .1 .1 .1 .1 .1 .1 .1 .1 .1 .1 .0) (c .before .before .before .put-rule .ensures) (c .disjunction .ensures)
+loop-again c = goes (arrays (c .before .before .before .before .before .before .before .before .before .before .before .before .pre .0)) (now (c .before .before .before .before .before .before .before .before .before .before .before .before .args .set)) (now (c .before .before .before .before .before .before .before .before .before .before .before .before .args .levels)) (c .before .before .before .before .before .before .before .before .before .before .before .before .args .i) (c .before .before .before .before .before .before .before .loop .inv) (c .before .before .before .before .before .before .before .before .before .before .before .before .pre .1) (omega (arith, c .before .before .before .before .before .if1 .taken, ap (λ (t : Totals). t .sizes .m) (c .before .before .before .before .before .before .before .before .totals .ensures))) (c .before .before .before .put-rule .kept .1 .1 .1 .1 .0) (c .before .before .before .put-rule .ensures) (c .disjunction .ensures)
 
 same-length : tie.Need-same-length Inv-loop μ-loop
 same-length c = c .before .before .loop .inv .same
 
 returns : tie.Need-returns Inv-loop μ-loop
-returns c = ends (c .before .before .before .before .before .before .before .before .before .before .before .pre .0) (now (c .before .before .before .before .before .before .before .before .before .before .before .args .set)) (now (c .before .before .before .before .before .before .before .before .before .before .before .args .levels)) (c .before .before .before .before .before .before .before .before .before .before .before .args .i) (c .before .before .loop .inv) (c .if1 .left)
+returns c = ends (arrays (c .before .before .before .before .before .before .before .pre .0)) (now (c .before .before .before .before .before .before .before .args .set)) (now (c .before .before .before .before .before .before .before .args .levels)) (c .before .before .before .before .before .before .before .args .i) (c .before .before .loop .inv) (omega (arith, c .if1 .left, ap (λ (t : Totals). t .sizes .m) (c .before .before .before .totals .ensures)))
 
 pub round-spec : {M : Type 1} → statement M
 round-spec =
@@ -45,6 +52,7 @@ round-spec =
     (tie.spec
     Inv-loop
     μ-loop
+    totals-requires
     loop-holds
     add-put-rule
     put-rule-requires

@@ -1,10 +1,17 @@
-use denote.Ref.{now}
-use mathlib.Core.Path.{_∙_}
-use Rattle.truth_blocks.specs.Values.{valueIn}
-use Rattle.truth_blocks.proofs.WholeBlocks.{bit-in, bit-block, next-asks, next-block, zero-asks, zero-block, passes-five, passes-four, passes-three, passes-six, passes-none, count-asks, head-asks, before-asks, rule-block, rule-asks}
 use borrow.Author.Needs.{needs}
+use Rattle.truth_blocks.proofs.WholeBlocks.{bit-in, bit-block, next-asks, next-block, zero-asks, zero-block, passes-five, passes-four, passes-three, passes-six, passes-none, rule-block, rule-asks}
+use Rattle.truth_blocks.specs.Values.{valueIn}
+use mathlib.Core.Path.{_∙_, ap}
+use denote.Ref.{now}
+use Rattle.clause_table_laws.proofs.Cells.{told, arrays}
+use native.Mathlib.Omega.{arith}
+use Rattle.clause_layout.proofs.Groups.{rule6, rule-fits, first-middle}
+use Rattle.clause_tables.specs.declared.Totals.{Totals}
 use Rattle.truth_blocks.proofs.block_passes.Statement.{statement}
 use Rattle.truth_blocks.proofs.block_passes.Tie as tie
+
+totals-requires : tie.Need-totals-requires
+totals-requires c κs = search needs
 
 chain-of-block-requires : tie.Need-chain-of-block-requires
 chain-of-block-requires c κs = search needs
@@ -13,37 +20,37 @@ chain-bit-requires : tie.Need-chain-bit-requires
 chain-bit-requires c κs = search needs
 
 bit-holds-requires : tie.Need-bit-holds-requires
-bit-holds-requires c κs = bit-in (c .before .before .before .before .before .before .before .before .before .before .pre .0) (c .before .before .before .before .before .before .before .before .before .before .pre .1) (c .before .before .if1 .taken) (c .before .chain-of-block .ensures) (c .chain-bit .ensures) (now (c .before .before .before .before .before .before .before .before .before .before .args .assignment)) (c .before .before .before .before .before .before .before .before .before .before .pre .2)
+bit-holds-requires c κs = bit-in (told (c .before .before .before .before .before .before .pre .0) (c .before .before .before .totals .ensures)) (c .before .before .before .before .before .before .pre .1) (c .before .before .if1 .taken) (c .before .chain-of-block .ensures) (c .chain-bit .ensures) (now (c .before .before .before .before .before .before .args .assignment)) (omega (arith, c .before .before .before .before .before .before .pre .2, ap (λ (t : Totals). t .vars) (c .before .before .before .totals .ensures)))
 
 returns : tie.Need-returns
-returns c = passes-five _ _ _ _ _ (c .before .before .before .if1 .taken) (c .bit-holds .ensures ∙ bit-block (c .before .before .before .before .before .before .before .before .before .before .before .pre .0) (c .before .before .before .before .before .before .before .before .before .before .before .pre .1) (c .before .before .before .if1 .taken) (c .before .before .chain-of-block .ensures) (c .before .chain-bit .ensures) (valueIn (now (c .before .before .before .before .before .before .before .before .before .before .before .args .assignment))))
+returns c = passes-five _ _ _ _ _ (c .before .before .before .if1 .taken) (c .bit-holds .ensures ∙ bit-block (told (c .before .before .before .before .before .before .before .pre .0) (c .before .before .before .before .totals .ensures)) (c .before .before .before .before .before .before .before .pre .1) (c .before .before .before .if1 .taken) (c .before .before .chain-of-block .ensures) (c .before .chain-bit .ensures) (valueIn (now (c .before .before .before .before .before .before .before .args .assignment))))
 
 next-block-holds-requires : tie.Need-next-block-holds-requires
-next-block-holds-requires c κs = next-asks (c .before .before .before .before .before .before .before .before .before .pre .0) (c .before .before .before .before .before .before .before .before .before .pre .1) (c .if2 .taken) (now (c .before .before .before .before .before .before .before .before .before .args .assignment)) (c .before .before .before .before .before .before .before .before .before .pre .2)
+next-block-holds-requires c κs = next-asks (told (c .before .before .before .before .before .pre .0) (c .before .before .totals .ensures)) (c .before .before .before .before .before .pre .1) (c .if2 .taken) (now (c .before .before .before .before .before .args .assignment)) (omega (arith, c .before .before .before .before .before .pre .2, ap (λ (t : Totals). t .vars) (c .before .before .totals .ensures)))
 
 returns-2 : tie.Need-returns-2
-returns-2 c = passes-four _ _ _ _ _ (c .before .if2 .taken) (c .next-block-holds .ensures ∙ next-block (c .before .before .before .before .before .before .before .before .before .before .pre .0) (c .before .before .before .before .before .before .before .before .before .before .pre .1) (c .before .if2 .taken) (valueIn (now (c .before .before .before .before .before .before .before .before .before .before .args .assignment))))
+returns-2 c = passes-four _ _ _ _ _ (c .before .if2 .taken) (c .next-block-holds .ensures ∙ next-block (told (c .before .before .before .before .before .before .pre .0) (c .before .before .before .totals .ensures)) (c .before .before .before .before .before .before .pre .1) (c .before .if2 .taken) (valueIn (now (c .before .before .before .before .before .before .args .assignment))))
 
 zero-block-holds-requires : tie.Need-zero-block-holds-requires
-zero-block-holds-requires c κs = zero-asks (c .before .before .before .before .before .before .before .before .before .before .pre .0) (c .before .before .before .before .before .before .before .before .before .before .pre .1) (c .if3 .taken) (now (c .before .before .before .before .before .before .before .before .before .before .args .assignment)) (c .before .before .before .before .before .before .before .before .before .before .pre .2)
+zero-block-holds-requires c κs = zero-asks (told (c .before .before .before .before .before .before .pre .0) (c .before .before .before .totals .ensures)) (c .before .before .before .before .before .before .pre .1) (c .if3 .taken) (now (c .before .before .before .before .before .before .args .assignment)) (omega (arith, c .before .before .before .before .before .before .pre .2, ap (λ (t : Totals). t .vars) (c .before .before .before .totals .ensures)))
 
 returns-3 : tie.Need-returns-3
-returns-3 c = passes-three _ _ _ _ _ (c .before .if3 .taken) (c .zero-block-holds .ensures ∙ zero-block (c .before .before .before .before .before .before .before .before .before .before .before .pre .0) (c .before .before .before .before .before .before .before .before .before .before .before .pre .1) (c .before .if3 .taken) (valueIn (now (c .before .before .before .before .before .before .before .before .before .before .before .args .assignment))))
+returns-3 c = passes-three _ _ _ _ _ (c .before .if3 .taken) (c .zero-block-holds .ensures ∙ zero-block (told (c .before .before .before .before .before .before .before .pre .0) (c .before .before .before .before .totals .ensures)) (c .before .before .before .before .before .before .before .pre .1) (c .before .if3 .taken) (valueIn (now (c .before .before .before .before .before .before .before .args .assignment))))
 
-pair-count-requires : tie.Need-pair-count-requires
-pair-count-requires c κs = count-asks (c .before .before .before .before .before .before .before .before .before .before .before .pre .0) (c .before .before .before .before .before .before .before .before .before .before .before .pre .1) (c .if4 .taken)
+span-requires : tie.Need-span-requires
+span-requires c κs = (c .before .before .before .before .before .before .before .pre .0, c .before .before .before .before .before .before .before .pre .1 .item-some, rule-fits (arrays (c .before .before .before .before .before .before .before .pre .0)) (c .before .before .before .before .before .before .before .pre .1) (rule6 (arrays (c .before .before .before .before .before .before .before .pre .0)) (c .before .before .before .before .before .before .before .pre .1) (c .if4 .taken)), omega arith, first-middle (arrays (c .before .before .before .before .before .before .before .pre .0)) (c .before .before .before .before .before .before .before .pre .1) (rule6 (arrays (c .before .before .before .before .before .before .before .pre .0)) (c .before .before .before .before .before .before .before .pre .1) (c .if4 .taken)))
 
-entry-requires : tie.Need-entry-requires
-entry-requires c κs = head-asks (c .before .before .before .before .before .before .before .before .before .before .before .before .pre .0) (c .before .before .before .before .before .before .before .before .before .before .before .before .pre .1) (c .before .if4 .taken)
+head-requires : tie.Need-head-requires
+head-requires c κs = (c .before .before .before .before .before .before .before .before .pre .0, c .before .before .before .before .before .before .before .before .pre .1 .item-some, rule-fits (arrays (c .before .before .before .before .before .before .before .before .pre .0)) (c .before .before .before .before .before .before .before .before .pre .1) (rule6 (arrays (c .before .before .before .before .before .before .before .before .pre .0)) (c .before .before .before .before .before .before .before .before .pre .1) (c .before .if4 .taken)))
 
-entry-requires-2 : tie.Need-entry-requires-2
-entry-requires-2 c κs = before-asks (c .before .before .before .before .before .before .before .before .before .before .before .before .before .pre .0) (c .before .before .before .before .before .before .before .before .before .before .before .before .before .pre .1) (c .before .before .if4 .taken)
+pairs-before-requires : tie.Need-pairs-before-requires
+pairs-before-requires c κs = (c .before .before .before .before .before .before .before .before .before .pre .0, c .before .before .before .before .before .before .before .before .before .pre .1 .item-some, omega (arith, rule-fits (arrays (c .before .before .before .before .before .before .before .before .before .pre .0)) (c .before .before .before .before .before .before .before .before .before .pre .1) (rule6 (arrays (c .before .before .before .before .before .before .before .before .before .pre .0)) (c .before .before .before .before .before .before .before .before .before .pre .1) (c .before .before .if4 .taken))))
 
 rule-block-holds-requires : tie.Need-rule-block-holds-requires
-rule-block-holds-requires c κs = rule-asks (c .before .before .before .before .before .before .before .before .before .before .before .before .before .before .pre .0) (c .before .before .before .before .before .before .before .before .before .before .before .before .before .before .pre .1) (c .before .before .before .if4 .taken) (c .before .entry .ensures) (c .entry2 .ensures) (c .before .before .pair-count .ensures) (now (c .before .before .before .before .before .before .before .before .before .before .before .before .before .before .args .assignment)) (c .before .before .before .before .before .before .before .before .before .before .before .before .before .before .pre .2)
+rule-block-holds-requires c κs = rule-asks (told (c .before .before .before .before .before .before .before .before .before .before .pre .0) (c .before .before .before .before .before .before .before .totals .ensures)) (c .before .before .before .before .before .before .before .before .before .before .pre .1) (c .before .before .before .if4 .taken) (c .before .head .ensures) (c .pairs-before .ensures) (c .before .before .span .ensures) (now (c .before .before .before .before .before .before .before .before .before .before .args .assignment)) (omega (arith, c .before .before .before .before .before .before .before .before .before .before .pre .2, ap (λ (t : Totals). t .vars) (c .before .before .before .before .before .before .before .totals .ensures)))
 
 returns-4 : tie.Need-returns-4
-returns-4 c = passes-six _ _ _ _ _ (c .before .before .before .before .if4 .taken) (c .rule-block-holds .ensures ∙ rule-block (c .before .before .before .before .before .before .before .before .before .before .before .before .before .before .before .pre .0) (c .before .before .before .before .before .before .before .before .before .before .before .before .before .before .before .pre .1) (c .before .before .before .before .if4 .taken) (c .before .before .entry .ensures) (c .before .entry2 .ensures) (c .before .before .before .pair-count .ensures) (valueIn (now (c .before .before .before .before .before .before .before .before .before .before .before .before .before .before .before .args .assignment))))
+returns-4 c = passes-six _ _ _ _ _ (c .before .before .before .before .if4 .taken) (c .rule-block-holds .ensures ∙ rule-block (told (c .before .before .before .before .before .before .before .before .before .before .before .pre .0) (c .before .before .before .before .before .before .before .before .totals .ensures)) (c .before .before .before .before .before .before .before .before .before .before .before .pre .1) (c .before .before .before .before .if4 .taken) (c .before .before .head .ensures) (c .before .pairs-before .ensures) (c .before .before .before .span .ensures) (valueIn (now (c .before .before .before .before .before .before .before .before .before .before .before .args .assignment))))
 
 returns-5 : tie.Need-returns-5
 returns-5 c = passes-none _ _ _ _ _ (c .before .before .before .if1 .left) (c .before .before .if2 .left) (c .before .if3 .left) (c .if4 .left)
@@ -52,6 +59,7 @@ pub block-passes-spec : {M : Type 1} → statement M
 block-passes-spec =
     tie.close
     (tie.spec
+    totals-requires
     chain-of-block-requires
     chain-bit-requires
     bit-holds-requires
@@ -60,9 +68,9 @@ block-passes-spec =
     returns-2
     zero-block-holds-requires
     returns-3
-    pair-count-requires
-    entry-requires
-    entry-requires-2
+    span-requires
+    head-requires
+    pairs-before-requires
     rule-block-holds-requires
     returns-4
     returns-5)

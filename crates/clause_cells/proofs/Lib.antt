@@ -1,0 +1,2 @@
+-- Parts: a cell and a part of a region
+pub mod Parts

@@ -1,0 +1,33 @@
+-- The arrays of a program, and what the table holds while it is made.
+--   arraysOf n m o hs ss bs          the arrays of a program, from its fields
+--   copied t m o hs ss bs            the table t with the elements in use of the arrays written into it
+--   laid A ks xs ys                  the arrays A, what is said of the pairs, and 0 for the counts
+--   withArrays A                     the arrays A alone
+--   withPairs A                      the arrays A and the pairs of the program that they hold: all but the counts
+-- Assumes nothing.
+use Prim.Native.Nat.{ℕ, suc, _+_, _*_}
+use mathlib.Core.List.{List, [], _∷_, map}
+use lib.ListN.{take, replicate}
+use lib.Seq.{sets}
+use Rattle.lists.specs.Lists.{tab, joined}
+use Rattle.encoding.specs.Code.{codeOf, m, pairList, before}
+use Rattle.program.specs.declared.Program.{Program as Arrays}
+use Rattle.program.specs.Arrays.{pad, decoded}
+
+abbrev pub arraysOf : ℕ → ℕ → ℕ → List ℕ → List ℕ → List ℕ → Arrays
+arraysOf n m o hs ss bs = record { atoms = n; rules = m; held = o; heads = hs; starts = ss; bodies = bs }
+
+abbrev pub copied : List ℕ → ℕ → ℕ → List ℕ → List ℕ → List ℕ → List ℕ
+copied t m o hs ss bs = sets (sets (sets t 16 (take m hs)) 516 (take o bs)) 2517 (take (2 * m + 1) ss)
+
+-- ks how many pairs are before each rule, xs their body atoms, ys their heads
+abbrev pub laid : Arrays → List ℕ → List ℕ → List ℕ → List ℕ
+laid A ks xs ys = joined (replicate 16 0 ∷ A .heads ∷ A .bodies ∷ ks ∷ xs ∷ ys ∷ A .starts ∷ [])
+
+unfoldable pub withArrays : Arrays → List ℕ
+withArrays A = laid A (replicate 501 0) (replicate 500 0) (replicate 500 0)
+
+unfoldable pub withPairs : Arrays → List ℕ
+withPairs A =
+    let G = codeOf (decoded A) in
+    laid A (pad 501 (tab (suc (m G)) (before G))) (pad 500 (map (λ p. p .body) (pairList G))) (pad 500 (map (λ p. p .head) (pairList G)))
