@@ -4,6 +4,7 @@ use answer_values::read_form;
 use call_check_judge::assigned;
 use call_check_rows::CheckVerdict;
 use clause_cells::totals;
+use clause_tables::CELLS;
 use clause_tabling::prepare;
 use program::Program;
 use reader::MAX_TEXT;
@@ -69,7 +70,7 @@ fn check_program(
         (checkResult (codeOf (decoded p)) (now (answer .entry)) total (length (now (assignment .entry))) (length (now (levels .entry)))) r
         (now (assignment .entry)) (now (assignment .exit)) (now (levels .entry)) (now (levels .exit)) ⌝ }
 {
-    let mut table = [0u16; 3518];
+    let mut table = [0u16; CELLS];
     prepare(p, &mut table);
     check_in(&table, answer, total, &mut *assignment, &mut *levels)
 }

@@ -3,6 +3,7 @@ use call_fill_found::fill_founded;
 use call_fill_found::first_bad;
 use call_fill_rows::FillVerdict;
 use clause_cells::totals;
+use clause_tables::CELLS;
 use clause_tabling::prepare;
 use program::Program;
 use reader::ReadVerdict;
@@ -53,7 +54,7 @@ fn fill_program(p: Program, set: &[u8], assignment: &mut [u8], levels: &mut [u8]
         (fillResult (codeOf (decoded p)) (now (set .entry)) (length (now (assignment .entry))) (length (now (levels .entry)))) r
         (now (assignment .entry)) (now (assignment .exit)) (now (levels .entry)) (now (levels .exit)) ⌝ }
 {
-    let mut table = [0u16; 3518];
+    let mut table = [0u16; CELLS];
     prepare(p, &mut table);
     fill_in(&table, set, &mut *assignment, &mut *levels)
 }

@@ -6,6 +6,7 @@ use clause_finding::place_of;
 use clause_runs::line_length;
 use clause_runs::put_line;
 use clause_runs::put_lines;
+use clause_tables::CELLS;
 use clause_tabling::prepare;
 use program::Program;
 use reader::ReadVerdict;
@@ -66,7 +67,7 @@ fn line_of(p: Program, j: usize, from: usize, buf: &mut [u8]) -> LineVerdict
     ensures { λ r. ⌜ (r ≡ answerIn (codeOf (decoded p)) j (length (now (buf .entry)) - from))
         × (now (buf .exit) ≡ lineBytesIn (codeOf (decoded p)) j from (now (buf .entry))) ⌝ }
 {
-    let mut table = [0u16; 3518];
+    let mut table = [0u16; CELLS];
     prepare(p, &mut table);
     line_in(&table, j, from, &mut *buf)
 }
@@ -77,7 +78,7 @@ fn run_of(p: Program, j: usize, buf: &mut [u8]) -> RunVerdict
     ensures { λ r. ⌜ (r ≡ runAnswerIn (codeOf (decoded p)) j (length (now (buf .entry))))
         × (now (buf .exit) ≡ codeRunBytes (codeOf (decoded p)) j (now (buf .entry))) ⌝ }
 {
-    let mut table = [0u16; 3518];
+    let mut table = [0u16; CELLS];
     prepare(p, &mut table);
     run_in(&table, j, &mut *buf)
 }

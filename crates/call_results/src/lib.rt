@@ -2,7 +2,7 @@
 use clause_literals::Sizes;
 use clause_literals::level_var;
 use numbers::Atom;
-use truth_blocks::is_true;
+use truth_literals::is_true;
 ghost use Prim.Native.Nat.{_+_, _*_, _≤_, _<_, max};
 ghost use mathlib.Core.Path.{_≡_};
 ghost use mathlib.Core.Bool.{cond};

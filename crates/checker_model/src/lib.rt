@@ -1,7 +1,7 @@
 // The lines of a model, written into a lent buffer (document 01, "Programs"; document 02, Q-3).
 use clause_text::put_word;
 use digits::put_decimal;
-use truth_blocks::is_true;
+use truth_literals::is_true;
 ghost use Prim.Native.Nat.{_≤_, _<_};
 ghost use mathlib.Core.Path.{_≡_};
 ghost use mathlib.Core.List.{map};

@@ -12,7 +12,7 @@ use numbers::Pair;
 use numbers::Rule;
 ghost use Prim.Native.Nat.{_+_, _-_, _*_, _≤_, _<_};
 ghost use mathlib.Core.Path.{_≡_};
-ghost use lib.ListN.{length, getD, take, drop};
+ghost use lib.ListN.{getD, take, drop};
 ghost use Rattle.clause_tables.specs.Tables.{Ready, region, totalsIn, headsIn, bodiesIn, beforeIn, partnersIn, ownersIn, startsIn};
 
 // The sizes, the number of pairs, V and C.

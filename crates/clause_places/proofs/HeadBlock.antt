@@ -9,7 +9,7 @@ use native.Mathlib.Omega.{arith}
 use mathlib.Core.Path.{_≡_, refl, sym, _∙_, ap, subst}
 use mathlib.Core.Logic.{_⊎_, inl, inr}
 use mathlib.Core.List.{List, [], _++_}
-use lib.ListN.{length, getD, take}
+use lib.ListN.{getD, take}
 use lib.Seq.{getD-take, length-take-le}
 use Rattle.encoding.specs.Code.{Code}
 use Rattle.lists.specs.Lists.{tab}

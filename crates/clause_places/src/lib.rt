@@ -9,7 +9,6 @@ use numbers::Atom;
 ghost use Prim.Native.Nat.{suc, _+_, _≤_, _<_};
 ghost use mathlib.Core.Path.{_≡_};
 ghost use mathlib.Core.Bool.{false};
-ghost use lib.ListN.{length};
 ghost use Rattle.clause_tables.specs.Tables.{Ready, codeIn, clausesIn, headsIn};
 ghost use Rattle.clause_places.specs.Places.{placeAt, furtherBlock};
 ghost use Rattle.clause_places.specs.Ahead.{ahead, firstOf, In, isOver, headBlock, Onward};

@@ -6,15 +6,14 @@
 --   code-held    the table of a limited code holds that code
 --   ready        and is ready
 -- Assumes nothing.
-use Prim.Native.Nat.{ℕ, suc, _≤_, _<_}
+use Prim.Native.Nat.{ℕ, suc, _<_}
 use native.Mathlib.Omega.{arith}
 use mathlib.Core.Path.{_≡_, refl, sym, _∙_, ap, ap₂, subst}
 use mathlib.Core.List.{List, [], _∷_, map}
 use lib.ListN.{length, getD, take}
-use Rattle.lists.specs.Lists.{tab, joined}
+use Rattle.lists.specs.Lists.{tab}
 use Rattle.encoding.specs.Code.{Code, whole, programOf, m, pairList, before}
 use Rattle.program.specs.Arrays.{pad, kept}
-use Rattle.clause_literals.specs.declared.Sizes.{Sizes}
 use Rattle.clause_tables.specs.declared.Totals.{Totals}
 use Rattle.clause_tables.specs.Tables.{Limited, Tabled, TableOf, Ready, totalsOf, regionsOf, tableOf, region, totalsIn, headsIn, bodiesIn, beforeIn, partnersIn, ownersIn, startsIn, programIn, codeIn}
 use Rattle.clause_tables.proofs.Regions.{lengths, total, region-at, joined-length}

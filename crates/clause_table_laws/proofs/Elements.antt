@@ -34,13 +34,11 @@ use Rattle.lists.proofs.Bools.{and-left}
 use Rattle.lists.proofs.Tests.{all-at}
 use Rattle.lists.proofs.Tables.{sum-mono, length-tab, getD-tab, getD-map, keep-all}
 use Rattle.meaning.specs.Program.{Rule, Program, noRule, isAtom, ruleFits, wellFormed}
-use Rattle.encoding.specs.Width.{width}
-use Rattle.encoding.specs.Clauses.{Pair, noPair}
+use Rattle.encoding.specs.Clauses.{noPair}
 use Rattle.encoding.specs.Code.{Code, whole, codeOf, programOf, rl, inner, pairList, pairTotal, pairBody, pairHead, before, variablesOf, clauseTotalOf}
 use Rattle.theory.proofs.Atoms.{atom-pos, atom-le, rule-in}
 use Rattle.theory.proofs.Numbered.{Ranges}
 use Rattle.theory.proofs.Pairs.{pair-count, pairs-few, body-in, head-in as owner-range}
-use Rattle.theory.proofs.Whole.{pairs-whole, before-whole}
 use Rattle.theory.proofs.Widths.{width-is, width-some}
 use Rattle.clause_literals.specs.Sizes.{Bounded}
 use Rattle.clause_literals.proofs.Products.{one-before}

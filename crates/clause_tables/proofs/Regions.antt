@@ -3,12 +3,11 @@
 --   region-at     the cells of list i of joined lists, whose lengths are known
 --   joined-length their length in all
 -- Assumes nothing.
-use Prim.Native.Nat.{ℕ, zero, suc, _+_, _≤_, _<_}
-use native.Mathlib.Nat.{not-suc-le-zero, le-of-suc-le-suc, zero-add}
-use native.Mathlib.Omega.{arith}
-use mathlib.Core.Path.{_≡_, refl, sym, _∙_, ap, ap₂}
-use mathlib.Core.List.{List, [], _∷_, _++_, map}
-use lib.ListN.{length, getD, take, drop, length-append}
+use Prim.Native.Nat.{ℕ, zero, suc, _+_, _<_}
+use native.Mathlib.Nat.{not-suc-le-zero, le-of-suc-le-suc}
+use mathlib.Core.Path.{_≡_, refl, sym, _∙_, ap}
+use mathlib.Core.List.{List, [], _∷_, map}
+use lib.ListN.{length, getD, take, length-append}
 use lib.Seq.{take-at, drop-append-add}
 use Rattle.lists.specs.Lists.{joined}
 use Rattle.clause_tables.specs.Tables.{region}

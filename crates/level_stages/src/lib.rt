@@ -11,7 +11,7 @@ ghost use mathlib.Core.Path.{_≡_};
 ghost use mathlib.Core.Bool.{So, not, _||_, Bool·beq};
 ghost use mathlib.Core.List.{_++_};
 ghost use lib.Dec.{eqb, ltb};
-ghost use lib.ListN.{length, getD, drop, set as put};
+ghost use lib.ListN.{length, drop, set as put};
 ghost use Rattle.lists.specs.Lists.{all, any, tab};
 ghost use Rattle.meaning.specs.Program.{isAtom, noneIn};
 ghost use Rattle.encoding.specs.Code.{rl, levelOf};

@@ -1,6 +1,5 @@
 -- Truth of the clauses of blocks, over an assignment and plain numbers.
 --   all-more, not-all                one more of the numbers 1 to n, and one that fails
---   first-bit, next-bit, bit-by      the clauses of a chain's bit
 --   lowTo k                          some of the lowest k bits of a level has 0
 --   lower-more, lower-fails, long-is group 4: the two clauses of a lower bit, and the long ones
 --   zero-more, zero-fails, zero-all  group 3
@@ -12,7 +11,6 @@ use native.Mathlib.Omega.{arith}
 use mathlib.Core.Path.{_≡_, refl, sym, _∙_, ap, ap₂}
 use mathlib.Core.Bool.{Bool, true, false, _&&_, _||_, cond}
 use mathlib.Core.Logic.{_⊎_, inl, inr}
-use mathlib.Core.List.{List}
 use lib.Dec.{eqb, ltb}
 use borrow.Author.Tests.{eq-eqb, ne-eqb, lt-ltb, le-ltb}
 use Rattle.lists.specs.Lists.{allTo, anyTo}
@@ -20,9 +18,9 @@ use Rattle.lists.proofs.Bools.{or-assoc, not-So, false-of}
 use Rattle.lists.proofs.Tests.{allTo-at, anyTo-ext}
 use Rattle.encoding.specs.Literal.{Assignment, Literal, var, −_, literalTrue}
 use Rattle.encoding.specs.Variables.{Sizes, levelVar, nextVar}
-use Rattle.clause_walk.specs.Walk.{signed, three, chainFirst, chainNext}
-use Rattle.clause_slots.specs.declared.Chain.{Chain}
-use Rattle.truth_blocks.specs.Blocks.{twoTrue, threeTrue, BitIn, bitTrue, nextClause, nextTrue, zeroClause, zeroTrue}
+use Rattle.clause_walk.specs.Walk.{signed, three}
+use Rattle.truth_literals.specs.Clauses.{twoTrue, threeTrue}
+use Rattle.truth_blocks.specs.Blocks.{nextClause, nextTrue, zeroClause, zeroTrue}
 
 -- ---- tests of the numbers 1 to n
 
@@ -35,34 +33,6 @@ not-all n g k h e = false-of (allTo n g) (λ s. not-So (g (suc k)) e (allTo-at n
 and-cases : (a b : Bool) → (a && b) ≡ false → (a ≡ false) ⊎ (b ≡ false)
 and-cases false b e = inl refl
 and-cases true b e = inr e
-
--- ---- a chain's bit
-
-module _ (A : Assignment) (c : Chain) where
-  pub first-bit : {p q r : Bool} → p ≡ twoTrue A false (c .z .0) false (c .x .0) → q ≡ twoTrue A false (c .z .0) true (c .y .0)
-      → r ≡ threeTrue A true (c .z .0) true (c .x .0) false (c .y .0) → ((p && q) && r) ≡ bitTrue A c 1
-  unfolding bitTrue
-  first-bit e f h = ap₂ _&&_ (ap₂ _&&_ e f) h
-
-  pub next-bit : {p q r s t u : Bool} → p ≡ threeTrue A false (c .z .0) false (c .x .0) true (c .y .0) → q ≡ threeTrue A false (c .z .0) false (c .x .0) true (c .g .0)
-      → r ≡ threeTrue A false (c .z .0) true (c .y .0) true (c .g .0) → s ≡ threeTrue A true (c .z .0) true (c .x .0) false (c .y .0)
-      → t ≡ threeTrue A true (c .z .0) true (c .x .0) false (c .g .0) → u ≡ threeTrue A true (c .z .0) false (c .y .0) false (c .g .0)
-      → (((((p && q) && r) && s) && t) && u) ≡ bitTrue A c 2
-  unfolding bitTrue
-  next-bit e f h i j k = ap₂ _&&_ (ap₂ _&&_ (ap₂ _&&_ (ap₂ _&&_ (ap₂ _&&_ e f) h) i) j) k
-
-  -- by the test for the first bit
-  abbrev bit-by : Bool → Bool
-  bit-by d =
-      allTo (cond d 3 6)
-      (λ y. anyTo (cond d (cond (eqb y 3) 3 2) 3) (λ l. literalTrue A (cond d (chainFirst (c .z .0) (c .x .0) (c .y .0) y l) (chainNext (c .z .0) (c .x .0) (c .y .0) (c .g .0) y l))))
-
-  pub further-bit : {i : ℕ} {r : Bool} → (i ≡ 1 → ⊥) → r ≡ bitTrue A c 2 → r ≡ bitTrue A c i
-  unfolding bitTrue
-  further-bit {i} q e = e ∙ sym (ap bit-by (ne-eqb i 1 q))
-
-pub further-in : {bs : List ℕ} {c : Chain} {i : ℕ} → BitIn bs c i → (i ≡ 1 → ⊥) → BitIn bs c 2
-further-in B q = record { z-in = B .z-in; x-in = B .x-in; y-in = B .y-in; g-in = λ n. B .g-in q }
 
 -- ---- group 4
 

@@ -20,7 +20,8 @@ use Rattle.lists.proofs.Tests.{allTo-ext}
 use Rattle.encoding.specs.Literal.{Assignment, Literal, var, −_, literalTrue}
 use Rattle.encoding.specs.Variables.{Sizes, bodyVar, foundsVar, levelVar, belowVar, nextBelowVar, varCount}
 use Rattle.clause_walk.specs.Walk.{signed, two, three, size6, slots6, slot6}
-use Rattle.truth_blocks.specs.Blocks.{twoTrue, foundsTrue, factTrue, boundTrue, ruleTrue}
+use Rattle.truth_literals.specs.Clauses.{twoTrue}
+use Rattle.truth_blocks.specs.Blocks.{foundsTrue, factTrue, boundTrue, ruleTrue}
 use Rattle.truth_blocks.proofs.BlockLaws.{all-more, not-all}
 
 -- ---- variables

@@ -5,7 +5,7 @@
 --   passes-five, passes-four, passes-three, passes-six, passes-none    by the tests of the group
 -- Assumes nothing.
 use Prim.Native.Nat.{ℕ, zero, suc, _+_, _-_, _*_, _≤_, _<_}
-use native.Mathlib.Nat.{le-trans, le-refl, add-zero, mul-le-mul-right, mul-assoc}
+use native.Mathlib.Nat.{le-trans, le-refl, mul-le-mul-right, mul-assoc}
 use native.Mathlib.Omega.{arith}
 use mathlib.Core.Path.{_≡_, refl, sym, _∙_, ap, ap₂, subst}
 use mathlib.Core.Bool.{Bool, true, false, cond, So, or-false}
@@ -32,7 +32,8 @@ use Rattle.clause_table_laws.proofs.Bounds.{slot-in}
 use Rattle.clause_layout.specs.BlockChain.{chainOfBlock}
 use Rattle.clause_layout.proofs.Groups.{sizes-are, bounded, atom3, atom4, block4, bits4, size-zero, size-next, size-pair, size-rule, slots-zero, slots-next, slots-pair, slots-rule, slot-zero, slot-next, slot-rule, rule6, span1}
 use Rattle.clause_layout.proofs.BlockChains.{literal-pair}
-use Rattle.truth_blocks.specs.Blocks.{Has, BitIn, bitTrue, nextTrue, zeroTrue, ruleTrue, blockTrue, isWhole, blockPasses}
+use Rattle.truth_literals.specs.Clauses.{Has, BitIn, bitTrue}
+use Rattle.truth_blocks.specs.Blocks.{nextTrue, zeroTrue, ruleTrue, blockTrue, isWhole, blockPasses}
 use Rattle.truth_blocks.proofs.RuleLaws.{rule-is}
 
 -- ---- the variables of counters

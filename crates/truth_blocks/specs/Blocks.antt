@@ -1,8 +1,4 @@
--- Truth of whole blocks of the walk: group 3, the next levels, group 4, the chains' bits, group 5, and the rules, group 6.
---   Has bs v                    variable v has a byte in bs
---   twoTrue, threeTrue          a clause of two literals is true, of three, each by its sign and its variable
---   BitIn bs c i                the variables of bit i of the chain c have bytes in bs
---   bitTrue A c i               every clause of that bit is true
+-- Truth of whole blocks of the walk: group 3, the next levels, group 4, the chains' bits, group 5 (bitTrue of crate truth_literals), and the rules, group 6.
 --   nextTrue A S a i            group 4: every clause of block i of atom a is true
 --   zeroTrue A S a              group 3: every clause of atom a is true
 --   foundsTrue A S r k b        group 6, rule r with b pairs after k others: the clauses of s(r) are true
@@ -12,41 +8,15 @@
 --   blockTrue G A g a i       every clause of block i of item a of group g is true
 --   blockPasses G A g a i     group g is 3, 4, 5 or 6, and every clause of that block is true
 -- Assumes nothing.
-use Prim.Native.Nat.{ℕ, _+_, _*_, _≤_, _<_}
-use mathlib.Core.Path.{_≡_}
+use Prim.Native.Nat.{ℕ, _+_, _*_}
 use mathlib.Core.Bool.{Bool, true, false, _&&_, _||_, cond}
-use mathlib.Core.List.{List}
 use lib.Dec.{eqb}
-use lib.ListN.{length}
 use Rattle.lists.specs.Lists.{allTo, anyTo}
 use Rattle.encoding.specs.Code.{Code}
 use Rattle.encoding.specs.Literal.{Assignment, −_, literalTrue, clauseTrue}
 use Rattle.encoding.specs.Variables.{Sizes, bodyVar, foundsVar, levelVar, belowVar, nextBelowVar}
-use Rattle.clause_walk.specs.Walk.{signed, slot3, slots4, slot4, chainSize, chainSlots, chainSlot, size, clauseAt}
-use Rattle.clause_slots.specs.declared.Chain.{Chain}
-
-abbrev pub Has : List ℕ → ℕ → Type 0
-Has bs v = (0 < v) × (v ≤ length bs)
-
-abbrev pub twoTrue : Assignment → Bool → ℕ → Bool → ℕ → Bool
-twoTrue A p x q y = literalTrue A (signed p x) || literalTrue A (signed q y)
-
-abbrev pub threeTrue : Assignment → Bool → ℕ → Bool → ℕ → Bool → ℕ → Bool
-threeTrue A p x q y s z = (literalTrue A (signed p x) || literalTrue A (signed q y)) || literalTrue A (signed s z)
-
-pub record BitIn (bs : List ℕ) (c : Chain) (i : ℕ) : Type 0 where
-  pub z-in : Has bs (c .z .0)
-  pub x-in : Has bs (c .x .0)
-  pub y-in : Has bs (c .y .0)
-  -- the first bit has no bit before it
-  pub g-in : (i ≡ 1 → ⊥) → Has bs (c .g .0)
-
--- clause y of the bit
-abbrev pub bitClause : Assignment → Chain → ℕ → ℕ → Bool
-bitClause A c i y = anyTo (chainSlots i y) (λ l. literalTrue A (chainSlot (c .z .0) (c .x .0) (c .y .0) (c .g .0) i y l))
-
-unfoldable pub bitTrue : Assignment → Chain → ℕ → Bool
-bitTrue A c i = allTo (chainSize i) (bitClause A c i)
+use Rattle.clause_walk.specs.Walk.{slot3, slots4, slot4, size, clauseAt}
+use Rattle.truth_literals.specs.Clauses.{twoTrue}
 
 -- clause y of the block
 abbrev pub nextClause : Assignment → Sizes → ℕ → ℕ → ℕ → Bool

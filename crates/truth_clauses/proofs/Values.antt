@@ -13,7 +13,7 @@ use Rattle.encoding.specs.Literal.{var, −_, literalNumber, literalTrue, varia
 use Rattle.clause_slots.specs.declared.Signed.{Signed}
 use Rattle.clause_slots.specs.Signed.{literalIn}
 use Rattle.clause_text.specs.Lines.{literalsIn}
-use Rattle.truth_blocks.proofs.Values.{literal-asks, literal-true}
+use Rattle.truth_literals.proofs.Values.{literal-asks, literal-true}
 use Rattle.truth_clauses.specs.Truth.{valueIn, numberTrue}
 
 pub variable-in : (x : Signed) → variable (literalIn x) ≡ x .var .0

@@ -1,5 +1,5 @@
 -- Truth of clauses under an assignment of bytes (document 01, "Check and filling out").
---   valueIn bs v, numberTrue bs x    those of crate truth_blocks
+--   valueIn bs v, numberTrue bs x    those of crate truth_literals
 --   codeFirstFalse G bs   the first clause that is false, 0 if none is
 -- Assumes nothing.
 use Prim.Native.Nat.{ℕ, pred}
@@ -9,7 +9,7 @@ use lib.ListN.{length, getD}
 use Rattle.lists.specs.Lists.{first}
 use Rattle.encoding.specs.Code.{Code, clausesOf}
 use Rattle.encoding.specs.Literal.{clauseTrue}
-pub use Rattle.truth_blocks.specs.Values.{valueIn, numberTrue}
+pub use Rattle.truth_literals.specs.Values.{valueIn, numberTrue}
 
 -- clause j is false
 abbrev pub codeFalse : Code → List ℕ → ℕ → Bool

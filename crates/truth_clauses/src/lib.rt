@@ -13,7 +13,7 @@ use clause_places::start;
 use clause_slots::Signed;
 use clause_text::literal_number;
 use truth_blocks::block_passes;
-use truth_blocks::holds;
+use truth_literals::holds;
 ghost use Prim.Native.Nat.{_+_, _≤_, _<_};
 ghost use mathlib.Core.Path.{_≡_};
 ghost use lib.ListN.{length};

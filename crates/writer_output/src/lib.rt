@@ -5,6 +5,7 @@ use clause_places::Place;
 use clause_places::start;
 use clause_runs::RunPart;
 use clause_runs::put_lines;
+use clause_tables::CELLS;
 use clause_tabling::prepare;
 use clause_text::put_refusal;
 use files::read_open;
@@ -65,7 +66,7 @@ fn say_lines(p: Program) -> usize
     requires { ⌜ Stored p ⌝ }
     ensures { λ r. ⌜ r ≡ length (clauseFile (decoded p)) ⌝ }
 {
-    let mut table = [0u16; 3518];
+    let mut table = [0u16; CELLS];
     prepare(p, &mut table);
     let t = totals(&table);
     let mut out = io::large_buffer();

@@ -5,8 +5,6 @@ use denote.Ref.{now}
 use borrow.Author.Needs.{needs}
 use Rattle.clause_cells.proofs.body.Statement.{statement}
 use Rattle.clause_cells.proofs.body.Tie as tie
-use Rattle.clause_cells.proofs.body.Reads as reads
-use Rattle.clause_cells.proofs.body.Lts as lts
 
 -- src/lib.rt:96:12
 add-result : tie.Need-add-result

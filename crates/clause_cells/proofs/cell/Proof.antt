@@ -5,8 +5,6 @@ use denote.Ref.{now}
 use borrow.Author.Needs.{needs}
 use Rattle.clause_cells.proofs.cell.Statement.{statement}
 use Rattle.clause_cells.proofs.cell.Tie as tie
-use Rattle.clause_cells.proofs.cell.Reads as reads
-use Rattle.clause_cells.proofs.cell.Lts as lts
 
 -- src/lib.rt:40:11
 add-result : tie.Need-add-result

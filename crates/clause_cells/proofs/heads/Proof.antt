@@ -5,8 +5,6 @@ use denote.Ref.{now}
 use borrow.Author.Needs.{needs}
 use Rattle.clause_cells.proofs.heads.Statement.{statement}
 use Rattle.clause_cells.proofs.heads.Tie as tie
-use Rattle.clause_cells.proofs.heads.Reads as reads
-use Rattle.clause_cells.proofs.heads.Lts as lts
 
 -- src/lib.rt:88:22
 add-result : tie.Need-add-result

@@ -1,9 +1,6 @@
 use borrow.Author.Needs.{needs}
 use Rattle.clause_cells.proofs.totals.Statement.{statement}
 use Rattle.clause_cells.proofs.totals.Tie as tie
-use Rattle.clause_cells.proofs.totals.Reads as reads
-use Rattle.clause_cells.proofs.totals.Lts as lts
-use Rattle.clause_cells.proofs.cell.Reads as cell-reads
 
 -- src/lib.rt:25:16
 cell-requires : tie.Need-cell-requires

@@ -13,11 +13,6 @@ use Rattle.clause_tables.specs.declared.Totals.{Totals}
 use borrow.Author.Needs.{needs}
 use Rattle.clause_layout.proofs.body_part.Statement.{statement}
 use Rattle.clause_layout.proofs.body_part.Tie as tie
-use Rattle.clause_layout.proofs.body_part.Reads as reads
-use Rattle.clause_layout.proofs.body_part.Lts as lts
-use Rattle.clause_cells.proofs.body.Reads as body-reads
-use Rattle.clause_cells.proofs.totals.Reads as totals-reads
-use Rattle.clause_slots.proofs.body_slot.Reads as body-slot-reads
 
 -- src/lib.rt:95:15
 totals-requires : tie.Need-totals-requires

@@ -4,12 +4,6 @@ use Rattle.clause_table_laws.proofs.Cells.{told, arrays}
 use borrow.Author.Needs.{needs}
 use Rattle.clause_layout.proofs.chain_of_block.Statement.{statement}
 use Rattle.clause_layout.proofs.chain_of_block.Tie as tie
-use Rattle.clause_layout.proofs.chain_of_block.Reads as reads
-use Rattle.clause_layout.proofs.chain_of_block.Lts as lts
-use Rattle.clause_cells.proofs.pair_body.Reads as pair-body-reads
-use Rattle.clause_cells.proofs.pair_head.Reads as pair-head-reads
-use Rattle.clause_cells.proofs.totals.Reads as totals-reads
-use Rattle.clause_slots.proofs.chain_of.Reads as chain-of-reads
 
 -- src/lib.rt:329:9
 totals-requires : tie.Need-totals-requires

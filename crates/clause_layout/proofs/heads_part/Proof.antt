@@ -11,10 +11,6 @@ use Rattle.clause_table_laws.proofs.Cells.{arrays}
 use borrow.Author.Needs.{needs}
 use Rattle.clause_layout.proofs.heads_part.Statement.{statement}
 use Rattle.clause_layout.proofs.heads_part.Tie as tie
-use Rattle.clause_layout.proofs.heads_part.Reads as reads
-use Rattle.clause_layout.proofs.heads_part.Lts as lts
-use Rattle.clause_cells.proofs.heads.Reads as heads-reads
-use Rattle.clause_slots.proofs.head_slot.Reads as head-slot-reads
 
 -- src/lib.rt:103:15
 heads-requires : tie.Need-heads-requires

@@ -4,9 +4,6 @@ use Rattle.clause_tables.specs.Tables.{headsIn}
 use borrow.Author.Needs.{needs}
 use Rattle.clause_layout.proofs.implied_size.Statement.{statement}
 use Rattle.clause_layout.proofs.implied_size.Tie as tie
-use Rattle.clause_layout.proofs.implied_size.Reads as reads
-use Rattle.clause_layout.proofs.implied_size.Lts as lts
-use Rattle.clause_cells.proofs.head.Reads as head-reads
 
 -- src/lib.rt:112:9
 returns : tie.Need-returns

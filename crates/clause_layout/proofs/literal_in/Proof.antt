@@ -3,12 +3,6 @@ use Rattle.clause_table_laws.proofs.Cells.{told}
 use borrow.Author.Needs.{needs}
 use Rattle.clause_layout.proofs.literal_in.Statement.{statement}
 use Rattle.clause_layout.proofs.literal_in.Tie as tie
-use Rattle.clause_layout.proofs.literal_in.Reads as reads
-use Rattle.clause_layout.proofs.literal_in.Lts as lts
-use Rattle.clause_cells.proofs.totals.Reads as totals-reads
-use Rattle.clause_layout.proofs.slot.Reads as slot-reads
-use Rattle.clause_slots.proofs.chain_bit.Reads as chain-bit-reads
-use Rattle.clause_slots.proofs.chain_literal.Reads as chain-literal-reads
 
 -- src/lib.rt:360:9
 totals-requires : tie.Need-totals-requires

@@ -2,9 +2,6 @@ use borrow.Author.Tests.{eq-eqb, ne-eqb, lt-ltb, le-ltb}
 use borrow.Author.Needs.{needs}
 use Rattle.clause_layout.proofs.past_empty.Statement.{statement}
 use Rattle.clause_layout.proofs.past_empty.Tie as tie
-use Rattle.clause_layout.proofs.past_empty.Reads as reads
-use Rattle.clause_layout.proofs.past_empty.Lts as lts
-use Rattle.clause_layout.proofs.past_others.Reads as past-others-reads
 
 -- src/lib.rt:308:9
 past-others-requires : tie.Need-past-others-requires

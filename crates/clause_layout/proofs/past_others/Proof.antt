@@ -12,10 +12,6 @@ use Rattle.clause_table_laws.proofs.Cells.{arrays}
 use borrow.Author.Needs.{needs}
 use Rattle.clause_layout.proofs.past_others.Statement.{statement}
 use Rattle.clause_layout.proofs.past_others.Tie as tie
-use Rattle.clause_layout.proofs.past_others.Reads as reads
-use Rattle.clause_layout.proofs.past_others.Lts as lts
-use Rattle.clause_cells.proofs.heads.Reads as heads-reads
-use Rattle.clause_layout.proofs.next_head.Reads as next-head-reads
 
 -- src/lib.rt:299:15
 heads-requires : tie.Need-heads-requires

@@ -6,14 +6,6 @@ use Rattle.clause_table_laws.proofs.Cells.{told}
 use borrow.Author.Needs.{needs}
 use Rattle.clause_layout.proofs.size.Statement.{statement}
 use Rattle.clause_layout.proofs.size.Tie as tie
-use Rattle.clause_layout.proofs.size.Reads as reads
-use Rattle.clause_layout.proofs.size.Lts as lts
-use Rattle.clause_cells.proofs.totals.Reads as totals-reads
-use Rattle.clause_layout.proofs.implied_size.Reads as implied-size-reads
-use Rattle.clause_layout.proofs.span.Reads as span-reads
-use Rattle.clause_slots.proofs.chain_bit.Reads as chain-bit-reads
-use Rattle.clause_slots.proofs.chain_size.Reads as chain-size-reads
-use Rattle.clause_slots.proofs.rule_size.Reads as rule-size-reads
 
 -- src/lib.rt:131:9
 totals-requires : tie.Need-totals-requires

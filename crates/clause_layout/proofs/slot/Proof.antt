@@ -6,22 +6,6 @@ use Rattle.clause_table_laws.proofs.Cells.{told, arrays}
 use borrow.Author.Needs.{needs}
 use Rattle.clause_layout.proofs.slot.Statement.{statement}
 use Rattle.clause_layout.proofs.slot.Tie as tie
-use Rattle.clause_layout.proofs.slot.Reads as reads
-use Rattle.clause_layout.proofs.slot.Lts as lts
-use Rattle.clause_cells.proofs.head.Reads as head-reads
-use Rattle.clause_cells.proofs.pair_body.Reads as pair-body-reads
-use Rattle.clause_cells.proofs.pair_head.Reads as pair-head-reads
-use Rattle.clause_cells.proofs.pairs_before.Reads as pairs-before-reads
-use Rattle.clause_cells.proofs.list_start.Reads as list-start-reads
-use Rattle.clause_cells.proofs.totals.Reads as totals-reads
-use Rattle.clause_layout.proofs.body_part.Reads as body-part-reads
-use Rattle.clause_layout.proofs.heads_part.Reads as heads-part-reads
-use Rattle.clause_layout.proofs.span.Reads as span-reads
-use Rattle.clause_slots.proofs.implied_slot.Reads as implied-slot-reads
-use Rattle.clause_slots.proofs.next_slot.Reads as next-slot-reads
-use Rattle.clause_slots.proofs.pair_slot.Reads as pair-slot-reads
-use Rattle.clause_slots.proofs.rule_slot.Reads as rule-slot-reads
-use Rattle.clause_slots.proofs.zero_slot.Reads as zero-slot-reads
 
 -- src/lib.rt:207:9
 totals-requires : tie.Need-totals-requires

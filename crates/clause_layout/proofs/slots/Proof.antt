@@ -6,15 +6,6 @@ use Rattle.clause_table_laws.proofs.Cells.{told}
 use borrow.Author.Needs.{needs}
 use Rattle.clause_layout.proofs.slots.Statement.{statement}
 use Rattle.clause_layout.proofs.slots.Tie as tie
-use Rattle.clause_layout.proofs.slots.Reads as reads
-use Rattle.clause_layout.proofs.slots.Lts as lts
-use Rattle.clause_cells.proofs.totals.Reads as totals-reads
-use Rattle.clause_layout.proofs.span.Reads as span-reads
-use Rattle.clause_slots.proofs.body_slots.Reads as body-slots-reads
-use Rattle.clause_slots.proofs.chain_bit.Reads as chain-bit-reads
-use Rattle.clause_slots.proofs.chain_slots.Reads as chain-slots-reads
-use Rattle.clause_slots.proofs.next_slots.Reads as next-slots-reads
-use Rattle.clause_slots.proofs.rule_slots.Reads as rule-slots-reads
 
 -- src/lib.rt:166:9
 totals-requires : tie.Need-totals-requires

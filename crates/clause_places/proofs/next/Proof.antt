@@ -1,4 +1,3 @@
-use borrow.Author.Needs.{needs}
 use Rattle.clause_table_laws.proofs.Bounds.{clauses-short}
 use Rattle.clause_places.proofs.Numbers.{place-in, follows}
 use native.Mathlib.Omega.{arith}

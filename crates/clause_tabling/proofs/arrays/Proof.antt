@@ -2,10 +2,6 @@ use Rattle.clause_tabling.proofs.Laid.{arrays-copied}
 use borrow.Author.Needs.{needs}
 use Rattle.clause_tabling.proofs.arrays.Statement.{statement}
 use Rattle.clause_tabling.proofs.arrays.Tie as tie
-use Rattle.clause_tabling.proofs.arrays.Reads as reads
-use Rattle.clause_tabling.proofs.arrays.Lts as lts
-use Rattle.clause_tabling.proofs.copy.Reads as copy-reads
-use Rattle.numbers.proofs.wide.Reads as wide-reads
 
 -- src/lib.rt:97:9
 wide-requires : tie.Need-wide-requires

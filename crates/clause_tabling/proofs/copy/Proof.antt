@@ -6,10 +6,6 @@ use borrow.Author.Needs.{needs}
 use Rattle.clause_tabling.proofs.Stores.{taken-goes, taken-starts, taken-ends}
 use Rattle.clause_tabling.proofs.copy.Statement.{statement}
 use Rattle.clause_tabling.proofs.copy.Tie as tie
-use Rattle.clause_tabling.proofs.copy.Reads as reads
-use Rattle.clause_tabling.proofs.copy.Lts as lts
-use Rattle.clause_tabling.proofs.element.Reads as element-reads
-use Rattle.clause_tabling.proofs.put.Reads as put-reads
 
 abbrev Inv-loop : tie.InvT-loop
 Inv-loop from a size at table₀ i₀ table i = (i ≤ size) × (sets table (at + i) (take (size - i) (drop (a + i) from)) ≡ sets table₀ at (take size (drop a from)))

@@ -2,11 +2,6 @@ use Rattle.clause_tabling.proofs.Totals.{sizes-bounded, width-bounded, 
 use borrow.Author.Needs.{needs}
 use Rattle.clause_tabling.proofs.counts.Statement.{statement}
 use Rattle.clause_tabling.proofs.counts.Tie as tie
-use Rattle.clause_tabling.proofs.counts.Reads as reads
-use Rattle.clause_tabling.proofs.counts.Lts as lts
-use Rattle.clause_literals.proofs.var_count.Reads as var-count-reads
-use Rattle.clause_literals.proofs.width_of.Reads as width-of-reads
-use Rattle.clause_tabling.proofs.clause_count.Reads as clause-count-reads
 
 -- src/lib.rt:124:9
 width-of-requires : tie.Need-width-of-requires

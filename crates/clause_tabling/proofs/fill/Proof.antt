@@ -6,9 +6,6 @@ use borrow.Author.Needs.{needs}
 use Rattle.clause_tabling.proofs.Stores.{copies-goes, copies-starts, copies-ends}
 use Rattle.clause_tabling.proofs.fill.Statement.{statement}
 use Rattle.clause_tabling.proofs.fill.Tie as tie
-use Rattle.clause_tabling.proofs.fill.Reads as reads
-use Rattle.clause_tabling.proofs.fill.Lts as lts
-use Rattle.clause_tabling.proofs.put.Reads as put-reads
 
 abbrev Inv-loop : tie.InvT-loop
 Inv-loop h size at table₀ i₀ table i = (i ≤ size) × (sets table (at + i) (replicate (size - i) h) ≡ sets table₀ at (replicate size h))

@@ -11,16 +11,6 @@ use Rattle.clause_tabling.proofs.Turns.{Filled, filled-start, filled-ne
 use Rattle.clause_tabling.proofs.Sums.{head-fits, starts-fit, within, count-fits, empty-fits, summed-end}
 use Rattle.clause_tabling.proofs.finish.Statement.{statement}
 use Rattle.clause_tabling.proofs.finish.Tie as tie
-use Rattle.clause_tabling.proofs.finish.Reads as reads
-use Rattle.clause_tabling.proofs.finish.Lts as lts
-use Rattle.clause_tabling.proofs.copy.Reads as copy-reads
-use Rattle.clause_tabling.proofs.counts.Reads as counts-reads
-use Rattle.clause_tabling.proofs.element.Reads as element-reads
-use Rattle.clause_tabling.proofs.put.Reads as put-reads
-use Rattle.clause_tabling.proofs.size_at.Reads as size-at-reads
-use Rattle.clause_tabling.proofs.store.Reads as store-reads
-use Rattle.clause_tabling.proofs.when_none.Reads as when-none-reads
-use Rattle.numbers.proofs.wide.Reads as wide-reads
 
 abbrev Inv-loop : tie.InvT-loop
 Inv-loop n m held heads starts bodies table₀ rules count₀ empty₀ r₀ table count empty r = (r ≤ rules) × (rules ≡ length (decoded (arraysOf n m held heads starts bodies) .rules)) × Filled (arraysOf n m held heads starts bodies) r table count empty

@@ -2,10 +2,6 @@ use Rattle.clause_tabling.proofs.Laid.{arrays-fit, arrays-laid}
 use borrow.Author.Needs.{needs}
 use Rattle.clause_tabling.proofs.prepare.Statement.{statement}
 use Rattle.clause_tabling.proofs.prepare.Tie as tie
-use Rattle.clause_tabling.proofs.prepare.Reads as reads
-use Rattle.clause_tabling.proofs.prepare.Lts as lts
-use Rattle.clause_tabling.proofs.arrays.Reads as arrays-reads
-use Rattle.clause_tabling.proofs.finish.Reads as finish-reads
 
 -- src/lib.rt:169:5
 arrays-requires : tie.Need-arrays-requires

@@ -3,10 +3,6 @@ use Rattle.clause_tabling.proofs.Stores.{sets-twice}
 use borrow.Author.Needs.{needs}
 use Rattle.clause_tabling.proofs.store.Statement.{statement}
 use Rattle.clause_tabling.proofs.store.Tie as tie
-use Rattle.clause_tabling.proofs.store.Reads as reads
-use Rattle.clause_tabling.proofs.store.Lts as lts
-use Rattle.clause_tabling.proofs.copy.Reads as copy-reads
-use Rattle.clause_tabling.proofs.fill.Reads as fill-reads
 
 -- src/lib.rt:71:25
 add-copy : tie.Need-add-copy

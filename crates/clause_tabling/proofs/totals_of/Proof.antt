@@ -9,12 +9,6 @@ use Rattle.clause_tabling.proofs.Totals.{counts-bounded, totals-made}
 use Rattle.clause_tabling.proofs.Sums.{Summed, summed-start, starts-fit, count-fits, empty-fits, summed-next, summed-end}
 use Rattle.clause_tabling.proofs.totals_of.Statement.{statement}
 use Rattle.clause_tabling.proofs.totals_of.Tie as tie
-use Rattle.clause_tabling.proofs.totals_of.Reads as reads
-use Rattle.clause_tabling.proofs.totals_of.Lts as lts
-use Rattle.clause_tabling.proofs.counts.Reads as counts-reads
-use Rattle.clause_tabling.proofs.size_at.Reads as size-at-reads
-use Rattle.clause_tabling.proofs.when_none.Reads as when-none-reads
-use Rattle.numbers.proofs.wide.Reads as wide-reads
 
 abbrev Inv-loop : tie.InvT-loop
 Inv-loop p m count₀ empty₀ r₀ count empty r = (r ≤ m) × (m ≡ length (decoded p .rules)) × Summed p r count empty

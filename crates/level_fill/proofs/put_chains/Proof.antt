@@ -2,7 +2,7 @@ use Rattle.level_fill.proofs.Writes.{rows-fit, rows-next, rows-all}
 use Rattle.level_fill.proofs.Families.{inside, pair-fits, partner-fits, owner-fits, pair-row, pairs-done}
 use Rattle.level_fill.specs.Values.{pairBytes, pairAtBytes}
 use Rattle.level_stages.specs.Levels.{levelByte}
-use Rattle.clause_tables.specs.Tables.{codeIn, totalsIn, atomsIn, rulesIn}
+use Rattle.clause_tables.specs.Tables.{codeIn, totalsIn}
 use Rattle.encoding.specs.Code.{pairTotal}
 use Rattle.lists.specs.Lists.{each}
 use Rattle.digits.proofs.Begins.{Begins, begins-none, begins-more, begins-room, begins-tail, begins-sum}

@@ -1,4 +1,3 @@
-use borrow.Author.Needs.{needs}
 use borrow.Author.Tests.{not-true, not-false}
 use mathlib.Core.Path.{refl}
 use denote.Ref.{now}

@@ -1,4 +1,3 @@
-use borrow.Author.Needs.{needs}
 use Rattle.level_stages.proofs.Rules.{rule-atoms, enters-not-kept, enters-unmet, enters-is}
 use borrow.Author.Tests.{not-true, not-false}
 use denote.Ref.{now}

@@ -1,6 +1,6 @@
 use borrow.Author.Needs.{needs}
 use Rattle.truth_blocks.proofs.WholeBlocks.{bit-in, bit-block, next-asks, next-block, zero-asks, zero-block, passes-five, passes-four, passes-three, passes-six, passes-none, rule-block, rule-asks}
-use Rattle.truth_blocks.specs.Values.{valueIn}
+use Rattle.truth_literals.specs.Values.{valueIn}
 use mathlib.Core.Path.{_∙_, ap}
 use denote.Ref.{now}
 use Rattle.clause_table_laws.proofs.Cells.{told, arrays}

@@ -5,7 +5,7 @@ use mathlib.Core.Path.{_≡_}
 use borrow.Author.Needs.{needs}
 use Rattle.lists.specs.Lists.{anyTo}
 use Rattle.clause_literals.specs.Sizes.{sizesOf}
-use Rattle.truth_blocks.specs.Values.{valueIn}
+use Rattle.truth_literals.specs.Values.{valueIn}
 use Rattle.truth_blocks.proofs.RuleLaws.{body-in, next-in, notNext, bound-none, bound-more, bound-all}
 use Rattle.truth_blocks.proofs.bound_holds.Statement.{statement}
 use Rattle.truth_blocks.proofs.bound_holds.Tie as tie

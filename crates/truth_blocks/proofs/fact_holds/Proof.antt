@@ -7,7 +7,7 @@ use borrow.Author.Tests.{not-true, not-false}
 use borrow.Author.Needs.{needs}
 use Rattle.lists.specs.Lists.{allTo}
 use Rattle.clause_literals.specs.Sizes.{sizesOf}
-use Rattle.truth_blocks.specs.Values.{valueIn}
+use Rattle.truth_literals.specs.Values.{valueIn}
 use Rattle.truth_blocks.proofs.WholeBlocks.{level-in}
 use Rattle.truth_blocks.proofs.RuleLaws.{body-in, factClause, fact-fails, fact-more, fact-all}
 use Rattle.truth_blocks.proofs.fact_holds.Statement.{statement}

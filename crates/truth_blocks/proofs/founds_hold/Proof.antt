@@ -6,7 +6,7 @@ use borrow.Author.Tests.{not-true, not-false}
 use borrow.Author.Needs.{needs}
 use Rattle.lists.specs.Lists.{allTo, anyTo}
 use Rattle.clause_literals.specs.Sizes.{sizesOf}
-use Rattle.truth_blocks.specs.Values.{valueIn}
+use Rattle.truth_literals.specs.Values.{valueIn}
 use Rattle.truth_blocks.proofs.RuleLaws.{body-in, founds-in, below-in, belowTrue, notBelow, body-fails, below-fails, below-more, not-more, founds-all}
 use Rattle.truth_blocks.proofs.founds_hold.Statement.{statement}
 use Rattle.truth_blocks.proofs.founds_hold.Tie as tie

@@ -1,7 +1,7 @@
 use denote.Ref.{now}
 use borrow.Author.Tests.{not-true, not-false}
 use Rattle.clause_literals.specs.Sizes.{sizesOf}
-use Rattle.truth_blocks.specs.Values.{valueIn}
+use Rattle.truth_literals.specs.Values.{valueIn}
 use Rattle.truth_blocks.proofs.RuleLaws.{rule-fails, rule-fact, rule-bound, fact-asks}
 use borrow.Author.Needs.{needs}
 use Rattle.truth_blocks.proofs.rule_block_holds.Statement.{statement}

@@ -1,4 +1,3 @@
-use borrow.Author.Needs.{needs}
 use Rattle.truth_clauses.specs.Standing.{Standing}
 use Rattle.truth_clauses.proofs.Clauses.{clause-asks, furthered}
 use Rattle.clause_places.proofs.Behind.{behind-sum, behind-adds, behind-at}

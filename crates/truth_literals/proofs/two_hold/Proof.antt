@@ -1,6 +1,6 @@
 use borrow.Author.Needs.{needs}
-use Rattle.truth_blocks.proofs.two_hold.Statement.{statement}
-use Rattle.truth_blocks.proofs.two_hold.Tie as tie
+use Rattle.truth_literals.proofs.two_hold.Statement.{statement}
+use Rattle.truth_literals.proofs.two_hold.Tie as tie
 
 signed-holds-requires : tie.Need-signed-holds-requires
 signed-holds-requires c κs = search needs

@@ -1,9 +1,9 @@
-use Rattle.truth_blocks.proofs.Values.{true-negative, true-positive, place-asks}
+use Rattle.truth_literals.proofs.Values.{true-negative, true-positive, place-asks}
 use mir.Facts.{toZ-ofZ}
 use denote.Ref.{now}
 use borrow.Author.Needs.{needs}
-use Rattle.truth_blocks.proofs.holds.Statement.{statement}
-use Rattle.truth_blocks.proofs.holds.Tie as tie
+use Rattle.truth_literals.proofs.holds.Statement.{statement}
+use Rattle.truth_literals.proofs.holds.Tie as tie
 
 magnitude-requires : tie.Need-magnitude-requires
 magnitude-requires c κs = search needs

@@ -12,7 +12,7 @@ use Rattle.encoding.specs.Literal.{Literal, var, −_, literalNumber, literalTr
 use Rattle.encoding.proofs.Literals.{number-size}
 use Rattle.clause_literals.specs.Signed.{isNegative}
 use Rattle.clause_literals.proofs.Products.{one-before}
-use Rattle.truth_blocks.specs.Values.{valueIn, numberTrue}
+use Rattle.truth_literals.specs.Values.{valueIn, numberTrue}
 
 pub value-is : (bs : List ℕ) (v : ℕ) → not (eqb (getD bs (v - 1) 0) 0) ≡ valueIn bs v
 value-is bs v = ap (λ (k : ℕ). not (eqb (getD bs k 0) 0)) (one-before v)

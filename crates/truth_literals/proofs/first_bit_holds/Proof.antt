@@ -1,9 +1,9 @@
 use denote.Ref.{now}
-use Rattle.truth_blocks.specs.Values.{valueIn}
-use Rattle.truth_blocks.proofs.BlockLaws.{first-bit}
+use Rattle.truth_literals.specs.Values.{valueIn}
+use Rattle.truth_literals.proofs.BitLaws.{first-bit}
 use borrow.Author.Needs.{needs}
-use Rattle.truth_blocks.proofs.first_bit_holds.Statement.{statement}
-use Rattle.truth_blocks.proofs.first_bit_holds.Tie as tie
+use Rattle.truth_literals.proofs.first_bit_holds.Statement.{statement}
+use Rattle.truth_literals.proofs.first_bit_holds.Tie as tie
 
 two-hold-requires : tie.Need-two-hold-requires
 two-hold-requires c κs = search needs

@@ -1,11 +1,11 @@
 use denote.Ref.{now}
 use mathlib.Core.Path.{sym, _∙_, ap}
-use Rattle.truth_blocks.specs.Blocks.{bitTrue}
-use Rattle.truth_blocks.specs.Values.{valueIn}
-use Rattle.truth_blocks.proofs.BlockLaws.{further-bit, further-in}
+use Rattle.truth_literals.specs.Clauses.{bitTrue}
+use Rattle.truth_literals.specs.Values.{valueIn}
+use Rattle.truth_literals.proofs.BitLaws.{further-bit, further-in}
 use borrow.Author.Needs.{needs}
-use Rattle.truth_blocks.proofs.bit_holds.Statement.{statement}
-use Rattle.truth_blocks.proofs.bit_holds.Tie as tie
+use Rattle.truth_literals.proofs.bit_holds.Statement.{statement}
+use Rattle.truth_literals.proofs.bit_holds.Tie as tie
 
 first-bit-holds-requires : tie.Need-first-bit-holds-requires
 first-bit-holds-requires c κs = search needs

@@ -1,10 +1,10 @@
 use denote.Ref.{now}
 use native.Mathlib.Omega.{arith}
-use Rattle.truth_blocks.specs.Values.{valueIn}
-use Rattle.truth_blocks.proofs.BlockLaws.{next-bit}
+use Rattle.truth_literals.specs.Values.{valueIn}
+use Rattle.truth_literals.proofs.BitLaws.{next-bit}
 use borrow.Author.Needs.{needs}
-use Rattle.truth_blocks.proofs.next_bit_holds.Statement.{statement}
-use Rattle.truth_blocks.proofs.next_bit_holds.Tie as tie
+use Rattle.truth_literals.proofs.next_bit_holds.Statement.{statement}
+use Rattle.truth_literals.proofs.next_bit_holds.Tie as tie
 
 three-hold-requires : tie.Need-three-hold-requires
 three-hold-requires c κs = search needs

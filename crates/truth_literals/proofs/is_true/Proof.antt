@@ -1,8 +1,8 @@
-use Rattle.truth_blocks.proofs.Values.{value-is}
+use Rattle.truth_literals.proofs.Values.{value-is}
 use denote.Ref.{now}
 use borrow.Author.Needs.{needs}
-use Rattle.truth_blocks.proofs.is_true.Statement.{statement}
-use Rattle.truth_blocks.proofs.is_true.Tie as tie
+use Rattle.truth_literals.proofs.is_true.Statement.{statement}
+use Rattle.truth_literals.proofs.is_true.Tie as tie
 
 sub-result : tie.Need-sub-result
 sub-result c = search needs

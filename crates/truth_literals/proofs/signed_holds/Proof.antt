@@ -6,11 +6,11 @@ use mir.Syntax.{w32}
 use borrow.Author.Needs.{sfits-of}
 use Rattle.clause_walk.specs.Walk.{signed}
 use Rattle.encoding.specs.Literal.{var, −_, literalTrue}
-use Rattle.truth_blocks.specs.Values.{valueIn}
-use Rattle.truth_blocks.proofs.Values.{literal-asks, literal-true}
+use Rattle.truth_literals.specs.Values.{valueIn}
+use Rattle.truth_literals.proofs.Values.{literal-asks, literal-true}
 use borrow.Author.Needs.{needs}
-use Rattle.truth_blocks.proofs.signed_holds.Statement.{statement}
-use Rattle.truth_blocks.proofs.signed_holds.Tie as tie
+use Rattle.truth_literals.proofs.signed_holds.Statement.{statement}
+use Rattle.truth_literals.proofs.signed_holds.Tie as tie
 
 literal-requires : tie.Need-literal-requires
 literal-requires c κs = search needs
