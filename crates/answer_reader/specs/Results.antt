@@ -1,27 +1,24 @@
 -- What the code answers, from the definitions of the crate answer_form.
---   mostNumber        the largest magnitude of a literal that is handed out
 --   capped l          l as a signed number, of no larger magnitude
 --   foundFor, nextFor, closeFor   the answers about the status, the next literal and the end
---   spaceFrom q i t   the index after the next space of t, whose first byte has index i, from state q on; or the spot
---   spaceThen t x     the next literal of t, by that
---   noComment, commentState       before the status: byte b begins a line that is no c line; the state after byte b otherwise
+--   spaceThen t x     the next literal of t, by the next space
 --   closedForm e c    the form of an answer whose literals begin at e, by what follows literal 0
 --   modelFrom e p t   the same, by what stands in t from position p on
 --   formFor t x       the form of the whole text t, whose status is x
 --   formOf t          the answer about the form of the whole text t
 -- Assumes nothing.
 use Prim.Native.Nat.{ℕ, _+_, min}
-use mathlib.Core.Bool.{Bool, not, _&&_, cond}
-use mathlib.Core.List.{List, [], _∷_}
-use lib.Dec.{eqb}
+use mathlib.Core.Bool.{cond}
+use mathlib.Core.List.{List}
 use lib.IntN.{ℤ}
 use lib.ListN.{drop}
 use Rattle.encoding.specs.Literal.{Literal, literalNumber}
 use Literal.{var, −_}
-use Rattle.answer_form.specs.Automaton.{seekStep, answerAccepts, answerLeaves}
+use Rattle.answer_form.specs.Automaton.{answerAccepts, answerLeaves}
 use Rattle.answer_form.specs.Pieces.{Found, Next, Close, statusOf, literalFrom}
-use Rattle.answer_reader.specs.declared.Space.{Space}
-use Rattle.answer_reader.specs.declared.Space.the-variants.{Behind, Left as SpaceLeft}
+use Rattle.answer_words.specs.declared.Space.{Space}
+use Rattle.answer_words.specs.declared.Space.the-variants.{Behind, Left as SpaceLeft}
+use Rattle.answer_words.specs.Words.{mostNumber}
 use Rattle.answer_reader.specs.declared.Found.{Found as FoundAnswer}
 use Rattle.answer_reader.specs.declared.Found.the-variants.{Satisfiable, Other, Left as FoundLeft}
 use Rattle.answer_reader.specs.declared.Next.{Next as NextAnswer}
@@ -30,10 +27,6 @@ use Rattle.answer_reader.specs.declared.Closed.{Closed}
 use Rattle.answer_reader.specs.declared.Closed.the-variants.{Fine, Left as CloseLeft}
 use Rattle.answer_reader.specs.declared.Formed.{Formed}
 use Rattle.answer_reader.specs.declared.Formed.the-variants.{Model, NoModel, Malformed}
-
--- 2^31 - 1
-abbrev pub mostNumber : ℕ
-mostNumber = 2147483647
 
 abbrev pub capped : Literal → ℤ
 capped (var v) = literalNumber (var (min mostNumber v))
@@ -49,11 +42,6 @@ nextFor (Next.literal l first behind) = NextLiteral (capped l) first behind
 nextFor (Next.last behind) = Last behind
 nextFor (Next.left s) = NextLeft s
 
-unfoldable pub spaceFrom : ℕ → ℕ → List ℕ → Space
-spaceFrom q i [] = SpaceLeft i
-spaceFrom q i (b ∷ t) =
-    cond (eqb (seekStep q b) 36) (Behind (i + 1)) (cond (eqb (seekStep q b) 43) (SpaceLeft i) (spaceFrom (seekStep q b) (i + 1) t))
-
 abbrev pub spaceThen : List ℕ → Space → Next
 spaceThen t (Behind i) = literalFrom i (drop i t)
 spaceThen t (SpaceLeft s) = Next.left s
@@ -61,12 +49,6 @@ spaceThen t (SpaceLeft s) = Next.left s
 abbrev pub closeFor : Close → Closed
 closeFor Close.fine = Fine
 closeFor (Close.left s) = CloseLeft s
-
-unfoldable pub noComment : ℕ → ℕ → Bool
-noComment q b = eqb q 0 && not (eqb b 99)
-
-unfoldable pub commentState : ℕ → ℕ → ℕ
-commentState q b = cond (eqb q 0) 32 (cond (eqb b 10) 0 32)
 
 abbrev pub closedForm : ℕ → Closed → Formed
 closedForm e Fine = Model e

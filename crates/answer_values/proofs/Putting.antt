@@ -1,6 +1,7 @@
 -- One literal, by its number.
 --   value-negative, value-positive      the value that a literal gives
---   put-stray, put-repeated, put-done   what `put_value` answers, and the buffer it leaves
+--   put-repeated, put-done              what `put_variable` answers, and the buffer it leaves
+--   put-stray, put-within               what `put_value` answers
 --   capped-positive, capped-small       a capped literal's magnitude
 --   capped-outcome, capped-bytes        where n is at most 9890, a capped literal does what the literal does
 --   put-stops                           a literal that is stray or repeated leaves the buffer
@@ -20,7 +21,9 @@ use Rattle.encoding.specs.Literal.{Literal, variable}
 use Literal.{var, −_}
 use Rattle.clause_literals.specs.Signed.{isNegative}
 use Rattle.clause_literals.proofs.Signed.{abs-negated}
-use Rattle.answer_reader.specs.Results.{mostNumber, capped}
+use Rattle.answer_words.specs.Words.{mostNumber}
+use Rattle.answer_reader.specs.Results.{capped}
+use Rattle.answer_values.specs.declared.Assigned.{Assigned}
 use Rattle.answer_values.specs.declared.Assigned.the-variants.{Done, Stray, Repeated}
 use Rattle.answer_values.specs.Assign.{literalValue, Outcome, putOutcome, putBytes, numberValue, assignedFor}
 
@@ -41,19 +44,12 @@ module _ (n v s x : ℕ) (b : List ℕ) where
         let above = lt-ltb n v (subst (λ (j : ℕ). n < j) same h) in
         (rw above, rw above)
 
-    pub put-repeated : k ≤ n → (getD b (k - 1) 0 ≡ 2 → ⊥) → (Repeated s ≡ assignedFor (putOutcome n v s b)) × (b ≡ putBytes n v x b)
+    -- what variable k's own function answers, y its value
+    pub put-within : k ≤ n → {y : ℕ} → y ≡ x → {r : Assigned} {c : List ℕ} → (r ≡ assignedFor (putOutcome k k s b)) × (c ≡ putBytes k k y b)
+        → (r ≡ assignedFor (putOutcome n v s b)) × (c ≡ putBytes n v x b)
     unfolding putOutcome putBytes
-    put-repeated h e =
-        let below = le-ltb n v (subst (λ (j : ℕ). j ≤ n) same h) in
-        let other = ne-eqb (getD b (v - 1) 0) 2 (subst (λ (j : ℕ). getD b (j - 1) 0 ≡ 2 → ⊥) same e) in
-        (rw (below, other), rw (below, other))
-
-    pub put-done : k ≤ n → getD b (k - 1) 0 ≡ 2 → (y : ℕ) → y ≡ x → (Done ≡ assignedFor (putOutcome n v s b)) × (set b (k - 1) y ≡ putBytes n v x b)
-    unfolding putOutcome putBytes
-    put-done h e y g =
-        let below = le-ltb n v (subst (λ (j : ℕ). j ≤ n) same h) in
-        let here = eq-eqb (getD b (v - 1) 0) 2 (subst (λ (j : ℕ). getD b (j - 1) 0 ≡ 2) same e) in
-        (rw (below, here), ap₂ (λ (j z : ℕ). set b (j - 1) z) same g ∙ rw (below, here))
+    put-within h {y} g q =
+        (q .0 ∙ rw (le-ltb k k (omega arith), le-ltb n v (subst (λ (j : ℕ). j ≤ n) same h), same), q .1 ∙ rw (le-ltb k k (omega arith), le-ltb n v (subst (λ (j : ℕ). j ≤ n) same h), same, g))
 
   -- ---- a literal that is not assigned
 
@@ -65,6 +61,23 @@ module _ (n v s x : ℕ) (b : List ℕ) where
       go true d h = refl
       go false true h = absurd (h refl)
       go false false h = refl
+
+-- ---- a variable v that stands in the buffer
+
+module _ (v s x : ℕ) (b : List ℕ) where
+  pub put-repeated : (getD b (v - 1) 0 ≡ 2 → ⊥) → (Repeated s ≡ assignedFor (putOutcome v v s b)) × (b ≡ putBytes v v x b)
+  unfolding putOutcome putBytes
+  put-repeated e =
+      let below = le-ltb v v (omega arith) in
+      let other = ne-eqb (getD b (v - 1) 0) 2 e in
+      (rw (below, other), rw (below, other))
+
+  pub put-done : getD b (v - 1) 0 ≡ 2 → (Done ≡ assignedFor (putOutcome v v s b)) × (set b (v - 1) x ≡ putBytes v v x b)
+  unfolding putOutcome putBytes
+  put-done e =
+      let below = le-ltb v v (omega arith) in
+      let here = eq-eqb (getD b (v - 1) 0) 2 e in
+      (rw (below, here), rw (below, here))
 
 -- ---- capped
 

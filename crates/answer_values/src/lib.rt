@@ -10,6 +10,7 @@ use answer_reader::next_from;
 use answer_reader::status;
 use clause_literals::is_negative;
 use clause_literals::magnitude;
+use numbers::Var;
 ghost use Prim.Native.Nat.{_^_, _≤_, _<_};
 ghost use mathlib.Core.Path.{_≡_};
 ghost use lib.IntN.{natAbs};
@@ -119,9 +120,23 @@ fn literal_value(x: i32) -> u8
     0
 }
 
+// Gives variable k a value, unless it has one; the first byte of its literal has the index `first`.
+fn put_variable(k: Var, value: u8, first: usize, assignment: &mut [u8]) -> Assigned
+    requires { ⌜ (0 < k .0) × (k .0 ≤ length (now assignment)) ⌝ }
+    ensures { λ r. ⌜ (r ≡ assignedFor (putOutcome (k .0) (k .0) first (now (assignment .entry))))
+        × (now (assignment .exit) ≡ putBytes (k .0) (k .0) value (now (assignment .entry))) ⌝ }
+{
+    let i = k.0 as usize - 1;
+    if assignment[i] != 2 {
+        return Assigned::Repeated(first);
+    }
+    assignment[i] = value;
+    Assigned::Done
+}
+
 // Assigns one literal, whose first byte has the index `first`.
 fn put_value(x: i32, first: usize, v: usize, assignment: &mut [u8]) -> Assigned
-    requires { ⌜ (0 < natAbs x) × (natAbs x < 2 ^ 31) × (v ≤ length (now assignment)) ⌝ }
+    requires { ⌜ (0 < natAbs x) × (natAbs x < 2 ^ 31) × (v ≤ length (now assignment)) × (v ≤ 9890) ⌝ }
     ensures { λ r. ⌜ (r ≡ assignedFor (putOutcome v (natAbs x) first (now (assignment .entry))))
         × (now (assignment .exit) ≡ putBytes v (natAbs x) (numberValue x) (now (assignment .entry))) ⌝ }
 {
@@ -129,16 +144,12 @@ fn put_value(x: i32, first: usize, v: usize, assignment: &mut [u8]) -> Assigned
     if v < k {
         return Assigned::Stray(first);
     }
-    if assignment[k - 1] != 2 {
-        return Assigned::Repeated(first);
-    }
-    assignment[k - 1] = literal_value(x);
-    Assigned::Done
+    put_variable(Var(k as u16), literal_value(x), first, &mut *assignment)
 }
 
 // Assigns one literal if each literal before it was assigned, as `o` says; else the assignment stays.
 fn put_next_value(o: Assigned, x: i32, first: usize, v: usize, assignment: &mut [u8]) -> Assigned
-    requires { ⌜ (0 < natAbs x) × (natAbs x < 2 ^ 31) × (v ≤ length (now assignment)) ⌝ }
+    requires { ⌜ (0 < natAbs x) × (natAbs x < 2 ^ 31) × (v ≤ length (now assignment)) × (v ≤ 9890) ⌝ }
     ensures { λ r. ⌜ (r ≡ nextAnswer o (putOutcome v (natAbs x) first (now (assignment .entry))))
         × (now (assignment .exit) ≡ nextBytes o (putBytes v (natAbs x) (numberValue x) (now (assignment .entry))) (now (assignment .entry))) ⌝ }
 {

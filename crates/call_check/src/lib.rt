@@ -3,28 +3,21 @@ use answer_reader::Formed;
 use answer_values::read_form;
 use call_check_judge::assigned;
 use call_check_rows::CheckVerdict;
+use call_table::load;
 use clause_cells::totals;
 use clause_tables::CELLS;
-use clause_tabling::prepare;
-use program::Program;
 use reader::MAX_TEXT;
-use reader::ReadResult;
 use reader::ReadVerdict;
-use reader::read;
 use refusals::CheckRefusal;
 ghost use mathlib.Core.Path.{_≡_};
 ghost use lib.ListN.{length};
-ghost use Rattle.encoding.specs.Code.{codeOf};
-ghost use Rattle.program.specs.Arrays.{decoded};
-ghost use Rattle.reader.specs.declared.ReadVerdict.the-variants.{Accepted};
-ghost use Rattle.clause_tables.specs.Tables.{Stored, Ready, codeIn};
-ghost use Rattle.call_check_rows.specs.declared.CheckVerdict.the-variants.{Refused};
-ghost use Rattle.call_results.specs.Results.{programRead, called};
-ghost use Rattle.call_check_rows.specs.Check.{CheckGives, checkResult, callResult, checkCall};
+ghost use Rattle.clause_tables.specs.Tables.{Ready, codeIn};
+ghost use Rattle.call_results.specs.Results.{called};
+ghost use Rattle.call_check_rows.specs.Check.{CheckGives, checkResult, checkCall};
 
-// Rows 8 and 10 to 16. The answer has `total` bytes; of one that is not overlong, `answer` is all. Its values are read into an
-// array of the call's own, of the largest V, since refusal 11 writes nothing.
-fn check_in<'a>(
+// The check against the program of a table: rows 8 and 10 to 16. The answer has `total` bytes; of one that is not overlong, `answer` is all. Its
+// values are read into an array of the call's own, of the largest V, since refusal 11 writes nothing.
+pub fn check_in<'a>(
     table: &'a [u16],
     answer: &'a [u8],
     total: usize,
@@ -57,52 +50,22 @@ fn check_in<'a>(
     }
 }
 
-// The check against a program that was read.
-fn check_program(
-    p: Program,
-    answer: &[u8],
-    total: usize,
-    assignment: &mut [u8],
-    levels: &mut [u8],
-) -> CheckVerdict
-    requires { ⌜ Stored p ⌝ }
-    ensures { λ r. ⌜ CheckGives (codeOf (decoded p))
-        (checkResult (codeOf (decoded p)) (now (answer .entry)) total (length (now (assignment .entry))) (length (now (levels .entry)))) r
-        (now (assignment .entry)) (now (assignment .exit)) (now (levels .entry)) (now (levels .exit)) ⌝ }
-{
-    let mut table = [0u16; CELLS];
-    prepare(p, &mut table);
-    check_in(&table, answer, total, &mut *assignment, &mut *levels)
-}
-
-// The check against what the reader gave.
-pub fn check_read(
-    x: ReadResult,
-    answer: &[u8],
-    total: usize,
-    assignment: &mut [u8],
-    levels: &mut [u8],
-) -> CheckVerdict
-    requires { ⌜ (x .verdict ≡ Accepted → Stored (x .program)) ⌝ }
-    ensures { λ r. ⌜ CheckGives (codeOf (programRead x))
-        (callResult x (now (answer .entry)) total (length (now (assignment .entry))) (length (now (levels .entry)))) r (now (assignment .entry))
-        (now (assignment .exit)) (now (levels .entry)) (now (levels .exit)) ⌝ }
-{
-    let v = x.verdict;
-    match v {
-        ReadVerdict::Accepted => {
-            check_program(x.program, answer, total, &mut *assignment, &mut *levels)
-        }
-        ReadVerdict::Refused(r) => CheckVerdict::Refused(CheckRefusal::Text(r)),
-    }
-}
-
 // Whether the answer shows a stable model of the program: how many atoms are true, the highest level, and how many variables were left out and read as
 // false; the assignment and the levels are written. Refusals 13, 14 and 16 zero the assignment; the others write nothing. Bytes past V and n stay.
 pub fn check(text: &[u8], answer: &[u8], assignment: &mut [u8], levels: &mut [u8]) -> CheckVerdict
     ensures { λ r. ⌜ called r (now (assignment .exit)) (now (levels .exit))
         ≡ checkCall (now (text .entry)) (now (answer .entry)) (now (assignment .entry)) (now (levels .entry)) ⌝ }
 {
-    let x = read(text);
-    check_read(x, answer, answer.len(), &mut *assignment, &mut *levels)
+    let mut table = [0u16; CELLS];
+    let v = load(text, &mut table);
+    match v {
+        ReadVerdict::Accepted => check_in(
+            &table,
+            answer,
+            answer.len(),
+            &mut *assignment,
+            &mut *levels,
+        ),
+        ReadVerdict::Refused(r) => CheckVerdict::Refused(CheckRefusal::Text(r)),
+    }
 }

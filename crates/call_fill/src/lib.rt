@@ -2,22 +2,18 @@
 use call_fill_found::fill_founded;
 use call_fill_found::first_bad;
 use call_fill_rows::FillVerdict;
+use call_table::load;
 use clause_cells::totals;
 use clause_tables::CELLS;
-use clause_tabling::prepare;
-use program::Program;
 use reader::ReadVerdict;
-use reader::read;
 use refusals::FillRefusal;
 ghost use mathlib.Core.Path.{_≡_};
 ghost use lib.ListN.{length};
-ghost use Rattle.encoding.specs.Code.{codeOf};
-ghost use Rattle.program.specs.Arrays.{decoded};
-ghost use Rattle.clause_tables.specs.Tables.{Stored, Ready, codeIn};
+ghost use Rattle.clause_tables.specs.Tables.{Ready, codeIn};
 ghost use Rattle.call_results.specs.Results.{called};
 ghost use Rattle.call_fill_rows.specs.FillOut.{FillGives, fillResult, fillCall};
 
-// Rows 8, 17 and 18, for the tables of a program; if none is met, the assignment and the levels are written.
+// Rows 8, 17 and 18, for the table of a program; if none is met, the assignment and the levels are written.
 fn fill_in<'a>(
     table: &'a [u16],
     set: &'a [u8],
@@ -47,28 +43,16 @@ fn fill_in<'a>(
     fill_founded(table, set, &mut *assignment, &mut *levels)
 }
 
-// Filling out for a program that was read.
-fn fill_program(p: Program, set: &[u8], assignment: &mut [u8], levels: &mut [u8]) -> FillVerdict
-    requires { ⌜ Stored p ⌝ }
-    ensures { λ r. ⌜ FillGives (codeOf (decoded p))
-        (fillResult (codeOf (decoded p)) (now (set .entry)) (length (now (assignment .entry))) (length (now (levels .entry)))) r
-        (now (assignment .entry)) (now (assignment .exit)) (now (levels .entry)) (now (levels .exit)) ⌝ }
-{
-    let mut table = [0u16; CELLS];
-    prepare(p, &mut table);
-    fill_in(&table, set, &mut *assignment, &mut *levels)
-}
-
 // Whether the set, one byte for each atom, is a stable model: how many atoms are true, and the highest level; its assignment and its levels are written.
 // A refusal writes nothing. Bytes past V and n stay.
 pub fn fill_out(text: &[u8], set: &[u8], assignment: &mut [u8], levels: &mut [u8]) -> FillVerdict
     ensures { λ r. ⌜ called r (now (assignment .exit)) (now (levels .exit))
         ≡ fillCall (now (text .entry)) (now (set .entry)) (now (assignment .entry)) (now (levels .entry)) ⌝ }
 {
-    let x = read(text);
-    let v = x.verdict;
+    let mut table = [0u16; CELLS];
+    let v = load(text, &mut table);
     match v {
-        ReadVerdict::Accepted => fill_program(x.program, set, &mut *assignment, &mut *levels),
+        ReadVerdict::Accepted => fill_in(&table, set, &mut *assignment, &mut *levels),
         ReadVerdict::Refused(r) => FillVerdict::Refused(FillRefusal::Text(r)),
     }
 }

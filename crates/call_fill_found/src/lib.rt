@@ -3,7 +3,7 @@ use call_fill_rows::FillVerdict;
 use call_results::highest_of;
 use call_results::true_count;
 use clause_cells::totals;
-use clause_text::put_word;
+use fixed_lines::put_word;
 use level_fill::put_filled;
 use level_stages::first_difference;
 use level_stages::stage_levels;
@@ -15,7 +15,7 @@ ghost use lib.ListN.{length, drop};
 ghost use Rattle.lists.specs.Lists.{tab};
 ghost use Rattle.encoding.specs.Code.{levelOf};
 ghost use Rattle.clause_tables.specs.Tables.{Ready, codeIn, atomsIn, varsIn};
-ghost use Rattle.level_stages.specs.Levels.{setIn};
+ghost use Rattle.level_lists.specs.Bytes.{setIn};
 ghost use Rattle.call_fill_rows.specs.FillOut.{firstBad, FillGives, foundedResult};
 
 // The first byte above 1, counted from 1; 0 if there is none.

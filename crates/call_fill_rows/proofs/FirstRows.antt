@@ -38,7 +38,7 @@ use Rattle.reader_laws.proofs.Rows.{answers-first, accepted-none}
 use Rattle.call_laws.proofs.Texts.{admitted-program, one-admitted, refused-row, refused-admits-none}
 use Rattle.answer_offers.specs.Offered.{valueBytes}
 use Rattle.truth_clauses.specs.Truth.{valueIn}
-use Rattle.level_stages.specs.Levels.{setIn}
+use Rattle.level_lists.specs.Bytes.{setIn}
 use Rattle.call_results.specs.Results.{Result, varTotal, programRead}
 use Rattle.call_results.specs.Order.{NotAfter}
 use Rattle.call_results.proofs.Order.{Told, at-row, met-none}

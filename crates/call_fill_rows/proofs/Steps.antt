@@ -31,9 +31,11 @@ use Rattle.refusals.specs.declared.TextRefusal.{TextRefusal}
 use Rattle.reader.specs.Verdict.{readOf}
 use Rattle.answer_offers.specs.Offered.{valueBytes}
 use Rattle.clause_tables.specs.declared.Totals.{Totals}
+use Rattle.digits.specs.Bytes.{Wrote}
 use Rattle.clause_tables.specs.Tables.{Tabled}
 use Rattle.clause_table_laws.proofs.Elements.{atoms-are, vars-are}
-use Rattle.level_stages.specs.Levels.{setIn, firstDifference}
+use Rattle.level_lists.specs.Bytes.{setIn}
+use Rattle.level_stages.specs.Levels.{firstDifference}
 use Rattle.level_stages.proofs.Levels.{unlike-differ}
 use Rattle.level_stages.proofs.Turns.{code-level}
 use Rattle.call_results.specs.Results.{called, Result, trueCount, levelByte, programRead}
@@ -145,7 +147,7 @@ module _ {G : Code} {t : Totals} {hs ss bs ks xs ys : List ℕ} (T : Tabled G t 
           (gives-refused G (founded-by (lt-ltb 0 (differ (programOf G) M) (subst (λ (k : ℕ). 0 < k) differ-is h)) ∙ ap (λ (k : ℕ). fillRefused (Unfounded k)) (sym differ-is)) b l)
 
       pub founded-accepted : d ≤ 0 → {c m : List ℕ} {j k h : ℕ} → c ≡ valueBytes (codeFill G (setIn (t .sizes .n) s)) ++ drop (t .vars) b
-          → (j ≡ length (take (t .sizes .n) f)) × (m ≡ take (t .sizes .n) f ++ drop j l)
+          → Wrote (take (t .sizes .n) f) l m j
           → k ≡ trueCount (t .sizes .n) c → h ≡ highest (t .sizes .n) (levelByte m)
           → FillGives G (foundedResult G (setIn (t .sizes .n) s)) (Filled k h) b c l m
       founded-accepted z {c} {m} {j} {k} {h} u x y w =
@@ -171,7 +173,7 @@ module _ {G : Code} {t : Totals} {hs ss bs ks xs ys : List ℕ} (T : Tabled G t 
           front-is = ap₂ take atoms-is found-is ∙ take-at ls rest (G .n) (length-tab (G .n) (levelOf G M))
 
           levels-are : m ≡ ls ++ drop (G .n) l
-          levels-are = x .1 ∙ ap₂ (λ (y : List ℕ) (i : ℕ). y ++ drop i l) front-is (x .0 ∙ ap length front-is ∙ length-tab (G .n) (levelOf G M))
+          levels-are = x .bytes ∙ ap₂ (λ (y : List ℕ) (i : ℕ). y ++ drop i l) front-is (x .count ∙ ap length front-is ∙ length-tab (G .n) (levelOf G M))
 
           count-is : k ≡ trueCount (G .n) vs
           count-is =

@@ -39,7 +39,7 @@ use Rattle.program.proofs.Decode.{decoded-kept}
 use Rattle.call_laws.proofs.Texts.{admitted-program}
 use Rattle.answer_offers.specs.Offered.{valueBytes}
 use Rattle.truth_clauses.specs.Truth.{valueIn}
-use Rattle.level_stages.specs.Levels.{setIn}
+use Rattle.level_lists.specs.Bytes.{setIn}
 use Rattle.call_results.specs.Results.{Result, trueCount, assignmentAfter, levelsAfter, varTotal, programRead}
 use Rattle.call_results.proofs.ValueBytes.{value-same, levels-same}
 use Rattle.refusals.specs.declared.FillRefusal.{FillRefusal}

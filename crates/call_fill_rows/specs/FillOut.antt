@@ -22,7 +22,7 @@ use Rattle.reader.specs.declared.ReadVerdict.{ReadVerdict}
 use Rattle.reader.specs.declared.ReadVerdict.the-variants.{Accepted, Refused as TextRefused}
 use Rattle.reader.specs.Verdict.{readOf}
 use Rattle.answer_offers.specs.Offered.{valueBytes}
-use Rattle.level_stages.specs.Levels.{setIn}
+use Rattle.level_lists.specs.Bytes.{setIn}
 use Rattle.call_results.specs.Results.{Called, called, Result, trueCount, levelByte, assignmentAfter, levelsAfter, varTotal, programRead}
 use Rattle.refusals.specs.declared.FillRefusal.{FillRefusal}
 use Rattle.refusals.specs.declared.FillRefusal.the-variants.{Text, ShortBuffer, BadSet, Unfounded}

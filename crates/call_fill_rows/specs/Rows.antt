@@ -18,7 +18,7 @@ use Rattle.encoding.specs.Fill.{fill}
 use Rattle.reader_laws.specs.Row.{Row, rank}
 use Rattle.text.specs.Limits.{Admitted}
 use Rattle.answer_offers.specs.Offered.{valueBytes}
-use Rattle.level_stages.specs.Levels.{setIn}
+use Rattle.level_lists.specs.Bytes.{setIn}
 use Rattle.call_results.specs.Results.{varTotal}
 use Rattle.call_results.specs.Order.{First}
 use Rattle.refusals.specs.declared.FillRefusal.{FillRefusal}

@@ -33,21 +33,21 @@ module _ {A : Arrays} (S : Stored A) {tb : List ℕ} (e : tb ≡ tableOf (codeOf
 
 -- ---- from the text
 
+-- the arrays of an accepted text are kept
 pub stored : (t : List ℕ) → readOf t .verdict ≡ Accepted → Stored (readOf t .program)
 stored t a =
     let q = accepted-admitted t a in
     subst (λ (A : Arrays). Stored A) (sym (ap (λ (x : ReadResult). x .program) (admitted-answer t (q .0) (q .1)))) (kept-stored (q .0) (q .1 .limits))
 
-pub accepted-stored : (t : List ℕ) {r : ReadResult} → r ≡ readOf t → r .verdict ≡ Accepted → Stored (r .program)
-accepted-stored t e v = subst (λ (x : ReadResult). Stored (x .program)) (sym e) (stored t (ap (λ (x : ReadResult). x .verdict) (sym e) ∙ v))
-
--- of an accepted text the arrays are kept
-pub counted-stored : (f : List ℕ) (n : ℕ) {r : ReadResult} → r ≡ countedOf f n → r .verdict ≡ Accepted → Stored (r .program)
+-- and of one whose front and length are known
+pub counted-stored : (f : List ℕ) (n : ℕ) → countedOf f n .verdict ≡ Accepted → Stored (countedOf f n .program)
 unfolding refuseOf
-counted-stored f n {r} e v = ⊎-elim short long (le-or-lt n 65536)
+counted-stored f n v = ⊎-elim short long (le-or-lt n 65536)
   where
-    short : n ≤ 65536 → Stored (r .program)
-    short h = accepted-stored f (e ∙ sym (counted-short f n h)) v
+    short : n ≤ 65536 → Stored (countedOf f n .program)
+    short h =
+        let e = counted-short f n h in
+        subst (λ (x : ReadResult). Stored (x .program)) e (stored f (ap (λ (x : ReadResult). x .verdict) e ∙ v))
 
-    long : 65536 < n → Stored (r .program)
-    long h = absurd (not-both v (ap (λ (x : ReadResult). x .verdict) (e ∙ sym (counted-long f n h))))
+    long : 65536 < n → Stored (countedOf f n .program)
+    long h = absurd (not-both v (ap (λ (x : ReadResult). x .verdict) (sym (counted-long f n h))))

@@ -1,23 +1,19 @@
 // One line of the clause file, and a run of lines (document 01, "Clauses, in order").
 use call_lines_rows::LineVerdict;
 use call_lines_rows::RunVerdict;
+use call_table::load;
 use clause_cells::totals;
 use clause_finding::place_of;
 use clause_runs::line_length;
 use clause_runs::put_line;
 use clause_runs::put_lines;
 use clause_tables::CELLS;
-use clause_tabling::prepare;
-use program::Program;
 use reader::ReadVerdict;
-use reader::read;
 use refusals::LineRefusal;
 ghost use Prim.Native.Nat.{_-_};
 ghost use mathlib.Core.Path.{_≡_};
 ghost use lib.ListN.{length};
-ghost use Rattle.encoding.specs.Code.{codeOf};
-ghost use Rattle.program.specs.Arrays.{decoded};
-ghost use Rattle.clause_tables.specs.Tables.{Stored, Ready, codeIn};
+ghost use Rattle.clause_tables.specs.Tables.{Ready, codeIn};
 ghost use Rattle.clause_runs.specs.Lines.{codeRunBytes};
 ghost use Rattle.call_lines_rows.specs.Lines.{answerIn, lineBytesIn, runAnswerIn, answered, lineCall, runCall};
 
@@ -61,37 +57,15 @@ fn run_in(table: &[u16], j: usize, buf: &mut [u8]) -> RunVerdict
     RunVerdict::WrittenRun(part.lines, part.bytes)
 }
 
-// Line j of a program that was read.
-fn line_of(p: Program, j: usize, from: usize, buf: &mut [u8]) -> LineVerdict
-    requires { ⌜ Stored p ⌝ }
-    ensures { λ r. ⌜ (r ≡ answerIn (codeOf (decoded p)) j (length (now (buf .entry)) - from))
-        × (now (buf .exit) ≡ lineBytesIn (codeOf (decoded p)) j from (now (buf .entry))) ⌝ }
-{
-    let mut table = [0u16; CELLS];
-    prepare(p, &mut table);
-    line_in(&table, j, from, &mut *buf)
-}
-
-// A run of lines of a program that was read, from line j on.
-fn run_of(p: Program, j: usize, buf: &mut [u8]) -> RunVerdict
-    requires { ⌜ Stored p ⌝ }
-    ensures { λ r. ⌜ (r ≡ runAnswerIn (codeOf (decoded p)) j (length (now (buf .entry))))
-        × (now (buf .exit) ≡ codeRunBytes (codeOf (decoded p)) j (now (buf .entry))) ⌝ }
-{
-    let mut table = [0u16; CELLS];
-    prepare(p, &mut table);
-    run_in(&table, j, &mut *buf)
-}
-
 // Line j of the text's clause file, written into the buffer from place `from` on: its length, or a refusal, which writes nothing.
 // The buffer's other bytes stay.
 pub fn line(text: &[u8], j: usize, from: usize, buf: &mut [u8]) -> LineVerdict
     ensures { λ r. ⌜ answered r (now (buf .exit)) ≡ lineCall (now (text .entry)) j from (now (buf .entry)) ⌝ }
 {
-    let r = read(text);
-    let v = r.verdict;
+    let mut table = [0u16; CELLS];
+    let v = load(text, &mut table);
     match v {
-        ReadVerdict::Accepted => line_of(r.program, j, from, &mut *buf),
+        ReadVerdict::Accepted => line_in(&table, j, from, &mut *buf),
         ReadVerdict::Refused(x) => LineVerdict::Refused(LineRefusal::Text(x)),
     }
 }
@@ -101,10 +75,10 @@ pub fn line(text: &[u8], j: usize, from: usize, buf: &mut [u8]) -> LineVerdict
 pub fn run(text: &[u8], j: usize, buf: &mut [u8]) -> RunVerdict
     ensures { λ r. ⌜ answered r (now (buf .exit)) ≡ runCall (now (text .entry)) j (now (buf .entry)) ⌝ }
 {
-    let r = read(text);
-    let v = r.verdict;
+    let mut table = [0u16; CELLS];
+    let v = load(text, &mut table);
     match v {
-        ReadVerdict::Accepted => run_of(r.program, j, &mut *buf),
+        ReadVerdict::Accepted => run_in(&table, j, &mut *buf),
         ReadVerdict::Refused(x) => RunVerdict::RefusedRun(LineRefusal::Text(x)),
     }
 }

@@ -14,6 +14,7 @@ use borrow.Rule.Slice.PartMut.{putMid}
 use Rattle.encoding.specs.Code.{Code, clauseTotalOf}
 use Rattle.lists.specs.Lists.{joined}
 use Rattle.lists.proofs.Tests.{le-or-lt}
+use Rattle.digits.specs.Bytes.{Wrote}
 use Rattle.digits.proofs.Tail.{lent, tail-length}
 use Rattle.clause_tables.specs.declared.Totals.{Totals}
 use Rattle.clause_tables.specs.Tables.{Tabled}
@@ -54,9 +55,8 @@ module _ {G : Code} {t : Totals} {hs ss bs ks xs ys : List ℕ} (T : Tabled G t 
     pub placed-asks : {n : ℕ} → need ≤ n → length (codeLine G (c .number)) ≤ n
     placed-asks {n} h = subst (λ (k : ℕ). length (codeLine G k) ≤ n) (sym (number-is T e)) h
 
-    pub placed-put : (b : List ℕ) {r : ℕ} {l : List ℕ} → (r ≡ length (codeLine G (c .number))) × (l ≡ codeLine G (c .number) ++ drop r b)
-        → (r ≡ need) × (l ≡ codeLine G j ++ drop r b)
-    placed-put b {r} {l} u = subst (λ (k : ℕ). (r ≡ length (codeLine G k)) × (l ≡ codeLine G k ++ drop r b)) (number-is T e) u
+    pub placed-line : codeLine G (c .number) ≡ codeLine G j
+    placed-line = ap (codeLine G) (number-is T e)
 
     pub placed-part : (b : List ℕ) {q : RunPart} {l : List ℕ} → (q ≡ codePart G (c .number) (length b)) × (l ≡ codeRunBytes G (c .number) b)
         → (q ≡ codePart G j (length b)) × (l ≡ codeRunBytes G j b)
@@ -88,10 +88,10 @@ module _ {G : Code} {t : Totals} {hs ss bs ks xs ys : List ℕ} (T : Tabled G t 
         pub line-asks : need ≤ length (take (length b - k) (drop k b))
         line-asks = subst (λ (n : ℕ). need ≤ n) (sym (tail-length b k)) enough
 
-        pub line-written : {r : ℕ} {l : List ℕ} → (r ≡ need) × (l ≡ codeLine G j ++ drop r (take (length b - k) (drop k b)))
+        pub line-written : {r : ℕ} {l : List ℕ} → Wrote (codeLine G j) (take (length b - k) (drop k b)) l r
             → (Written r ≡ answerIn G j (length b - k)) × (putMid k (length b - k) b l ≡ lineBytesIn G j k b)
         line-written {r} {l} u =
-            (ap Written (u .0) ∙ sym (answer-fits G j (length b - k) (within h) enough), lent b k r (codeLine G j) l (u .1) ∙ ap (λ (n : ℕ). take k b ++ (codeLine G j ++ drop (k + n) b)) (u .0) ∙ sym (bytes-fits G j k b (within h) enough))
+            (ap Written (u .count) ∙ sym (answer-fits G j (length b - k) (within h) enough), lent b k r (codeLine G j) l (u .bytes) ∙ ap (λ (n : ℕ). take k b ++ (codeLine G j ++ drop (k + n) b)) (u .count) ∙ sym (bytes-fits G j k b (within h) enough))
 
   -- ---- a run of lines
 

@@ -21,7 +21,7 @@ use Rattle.text.specs.Limits.{Limits}
 use Rattle.clause_tables.specs.Tables.{Limited}
 use Rattle.clause_table_laws.proofs.Cells.{Own, own}
 use Rattle.clause_table_laws.proofs.Elements.{program-limited}
-use Rattle.clause_text.specs.Lines.{headerText}
+use Rattle.fixed_lines.specs.Lines.{headerText}
 use Rattle.clause_places.specs.Places.{placeAt, clauseIn}
 use Rattle.clause_places.proofs.Numbers.{clause-at, coordinates-count}
 use Rattle.clause_runs.specs.Lines.{codeLines, clauseTotal, lineOf}

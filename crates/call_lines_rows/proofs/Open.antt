@@ -1,11 +1,10 @@
 -- The calls for lines, by the tests that they make on what the reader answers; and that one equation about a call fixes its answer and its buffer.
 -- Assumes nothing.
 use Prim.Native.Nat.{ℕ, _-_}
-use mathlib.Core.Path.{_≡_, sym, _∙_, ap, ap₂, subst}
+use mathlib.Core.Path.{_≡_, sym, _∙_, ap, ap₂}
 use mathlib.Core.List.{List}
 use lib.ListN.{length}
 use Rattle.encoding.specs.Code.{Code, codeOf}
-use Rattle.reader.specs.declared.ReadResult.{ReadResult}
 use Rattle.refusals.specs.declared.TextRefusal.{TextRefusal}
 use Rattle.reader.specs.declared.ReadVerdict.{ReadVerdict}
 use Rattle.reader.specs.declared.ReadVerdict.the-variants.{Accepted, Refused as TextRefused}
@@ -22,49 +21,37 @@ use Rattle.call_lines_rows.specs.Lines.{answerIn, lineBytesIn, afterText
 pub answered-fixes : {A : Type 0} {v w : A} {b c : List ℕ} → answered v b ≡ answered w c → (v ≡ w) × (b ≡ c)
 answered-fixes {A} e = (ap (λ (x : Answered A). x .verdict) e, ap (λ (x : Answered A). x .buffer) e)
 
-module _ {G H : Code} (e : G ≡ H) (j k : ℕ) (b : List ℕ) where
-  pub same-line : {x : LineVerdict} {c : List ℕ} → (x ≡ answerIn G j (length b - k)) × (c ≡ lineBytesIn G j k b) → (x ≡ answerIn H j (length b - k)) × (c ≡ lineBytesIn H j k b)
-  same-line {x} {c} u = subst (λ (X : Code). (x ≡ answerIn X j (length b - k)) × (c ≡ lineBytesIn X j k b)) e u
-
-module _ {G H : Code} (e : G ≡ H) (j : ℕ) (b : List ℕ) where
-  pub same-run : {x : RunVerdict} {c : List ℕ} → (x ≡ runAnswerIn G j (length b)) × (c ≡ codeRunBytes G j b) → (x ≡ runAnswerIn H j (length b)) × (c ≡ codeRunBytes H j b)
-  same-run {x} {c} u = subst (λ (X : Code). (x ≡ runAnswerIn X j (length b)) × (c ≡ codeRunBytes X j b)) e u
-
-module _ (t : List ℕ) {r : ReadResult} (e : r ≡ readOf t) where
-  verdict-is : readOf t .verdict ≡ r .verdict
-  verdict-is = ap (λ (x : ReadResult). x .verdict) (sym e)
-
-  program-same : codeOf (decoded (r .program)) ≡ codeOf (decoded (readOf t .program))
-  program-same = ap (λ (x : ReadResult). codeOf (decoded (x .program))) e
+-- what a call gives by the code of the text's program is what its definition says
+module _ (t : List ℕ) {v : ReadVerdict} (e : v ≡ readOf t .verdict) where
+  abbrev G : Code
+  G = codeOf (decoded (readOf t .program))
 
   module _ (j k : ℕ) (b : List ℕ) where
-    pub line-accepted : r .verdict ≡ Accepted → {x : LineVerdict} {c : List ℕ}
-        → (x ≡ answerIn (codeOf (decoded (r .program))) j (length b - k)) × (c ≡ lineBytesIn (codeOf (decoded (r .program))) j k b)
-        → answered x c ≡ lineCall t j k b
-    unfolding lineAnswer lineBytes
-    line-accepted v {x} {c} u =
-        let w = same-line program-same j k b u in
-        ap₂ answered (w .0 ∙ sym (ap (λ (y : ReadVerdict). afterText y (answerIn (codeOf (decoded (readOf t .program))) j (length b - k))) (verdict-is ∙ v)))
-        (w .1 ∙ sym (ap (λ (y : ReadVerdict). keptBytes y (lineBytesIn (codeOf (decoded (readOf t .program))) j k b) b) (verdict-is ∙ v)))
+    abbrev line-by : ReadVerdict → Answered LineVerdict
+    line-by y = answered (afterText y (answerIn G j (length b - k))) (keptBytes y (lineBytesIn G j k b) b)
 
-    pub line-refused : {q : TextRefusal} → r .verdict ≡ TextRefused q → answered (Refused (Text q)) b ≡ lineCall t j k b
+    line-is : {w : ReadVerdict} → v ≡ w → line-by w ≡ lineCall t j k b
     unfolding lineAnswer lineBytes
-    line-refused {q} v =
-        ap₂ answered (sym (ap (λ (y : ReadVerdict). afterText y (answerIn (codeOf (decoded (readOf t .program))) j (length b - k))) (verdict-is ∙ v)))
-        (sym (ap (λ (y : ReadVerdict). keptBytes y (lineBytesIn (codeOf (decoded (readOf t .program))) j k b) b) (verdict-is ∙ v)))
+    line-is a = ap line-by (sym a ∙ e)
+
+    pub line-accepted : v ≡ Accepted → {H : Code} → H ≡ G → {x : LineVerdict} {c : List ℕ}
+        → (x ≡ answerIn H j (length b - k)) × (c ≡ lineBytesIn H j k b) → answered x c ≡ lineCall t j k b
+    line-accepted a h u = ap₂ answered (u .0 ∙ ap (λ (H : Code). answerIn H j (length b - k)) h) (u .1 ∙ ap (λ (H : Code). lineBytesIn H j k b) h) ∙ line-is a
+
+    pub line-refused : {q : TextRefusal} → v ≡ TextRefused q → answered (Refused (Text q)) b ≡ lineCall t j k b
+    line-refused a = line-is a
 
   module _ (j : ℕ) (b : List ℕ) where
-    pub run-accepted : r .verdict ≡ Accepted → {x : RunVerdict} {c : List ℕ}
-        → (x ≡ runAnswerIn (codeOf (decoded (r .program))) j (length b)) × (c ≡ codeRunBytes (codeOf (decoded (r .program))) j b)
-        → answered x c ≡ runCall t j b
-    unfolding runAnswer runBytes
-    run-accepted v {x} {c} u =
-        let w = same-run program-same j b u in
-        ap₂ answered (w .0 ∙ sym (ap (λ (y : ReadVerdict). afterTextRun y (runAnswerIn (codeOf (decoded (readOf t .program))) j (length b))) (verdict-is ∙ v)))
-        (w .1 ∙ sym (ap (λ (y : ReadVerdict). keptBytes y (codeRunBytes (codeOf (decoded (readOf t .program))) j b) b) (verdict-is ∙ v)))
+    abbrev run-by : ReadVerdict → Answered RunVerdict
+    run-by y = answered (afterTextRun y (runAnswerIn G j (length b))) (keptBytes y (codeRunBytes G j b) b)
 
-    pub run-refused : {q : TextRefusal} → r .verdict ≡ TextRefused q → answered (RefusedRun (Text q)) b ≡ runCall t j b
+    run-is : {w : ReadVerdict} → v ≡ w → run-by w ≡ runCall t j b
     unfolding runAnswer runBytes
-    run-refused {q} v =
-        ap₂ answered (sym (ap (λ (y : ReadVerdict). afterTextRun y (runAnswerIn (codeOf (decoded (readOf t .program))) j (length b))) (verdict-is ∙ v)))
-        (sym (ap (λ (y : ReadVerdict). keptBytes y (codeRunBytes (codeOf (decoded (readOf t .program))) j b) b) (verdict-is ∙ v)))
+    run-is a = ap run-by (sym a ∙ e)
+
+    pub run-accepted : v ≡ Accepted → {H : Code} → H ≡ G → {x : RunVerdict} {c : List ℕ}
+        → (x ≡ runAnswerIn H j (length b)) × (c ≡ codeRunBytes H j b) → answered x c ≡ runCall t j b
+    run-accepted a h u = ap₂ answered (u .0 ∙ ap (λ (H : Code). runAnswerIn H j (length b)) h) (u .1 ∙ ap (λ (H : Code). codeRunBytes H j b) h) ∙ run-is a
+
+    pub run-refused : {q : TextRefusal} → v ≡ TextRefused q → answered (RefusedRun (Text q)) b ≡ runCall t j b
+    run-refused a = run-is a

@@ -9,7 +9,7 @@ use Prim.Native.Nat.{ℕ, zero, suc, _+_, _*_, _^_, _≤_, _<_, max}
 use native.Mathlib.Nat.{le-antisymm, mul-le-mul-right, pow-succ'}
 use native.Mathlib.Numerals.{add-one}
 use native.Mathlib.Omega.{arith}
-use mathlib.Core.Path.{_≡_, refl, sym, _∙_, ap, subst}
+use mathlib.Core.Path.{_≡_, refl, sym, _∙_, ap, ap₂, subst}
 use mathlib.Core.Bool.{Bool, true, false, cond}
 use mathlib.Core.List.{List, [], _∷_, _++_, append-assoc}
 use lib.ListN.{length, getD, set, drop}
@@ -95,16 +95,17 @@ pub true-none : (bs : List ℕ) → 0 ≡ trueCount 0 bs
 unfolding trueCount
 true-none bs = refl
 
-pub true-more : (bs : List ℕ) (a : ℕ) {k d : ℕ} → k ≡ trueCount a bs → d ≡ cond (valueIn bs (a + 1)) 1 0 → k + d ≡ trueCount (a + 1) bs
+pub true-more : (bs : List ℕ) (a : ℕ) {k d : ℕ} → k ≡ trueCount a bs → {v : ℕ} → v ≡ a + 1 → d ≡ cond (valueIn bs v) 1 0 → k + d ≡ trueCount (a + 1) bs
 unfolding trueCount
-true-more bs a {k} {d} e q =
-    ap (λ (x : ℕ). x + d) e ∙ ap (λ (x : ℕ). trueCount a bs + x) (q ∙ ap (λ (i : ℕ). cond (valueIn bs i) 1 0) (add-one a)) ∙ ap (λ (i : ℕ). trueCount i bs) (sym (add-one a))
+true-more bs a {k} {d} e p q =
+    ap (λ (x : ℕ). x + d) e ∙ ap (λ (x : ℕ). trueCount a bs + x) (q ∙ ap (λ (i : ℕ). cond (valueIn bs i) 1 0) (p ∙ add-one a)) ∙ ap (λ (i : ℕ). trueCount i bs) (sym (add-one a))
 
 pub one-at-most : (x : Bool) {d : ℕ} → d ≡ cond x 1 0 → d ≤ 1
 one-at-most x e = subst (λ (y : ℕ). y ≤ 1) (sym e) (part-small x 1)
 
-pub highest-more : (ls : List ℕ) (a : ℕ) {x y : ℕ} → x ≡ highest a (levelByte ls) → y ≡ max x (getD ls a 0) → y ≡ highest (a + 1) (levelByte ls)
-highest-more ls a e q = q ∙ ap (λ (x : ℕ). max x (getD ls a 0)) e ∙ ap (λ (i : ℕ). highest i (levelByte ls)) (sym (add-one a))
+pub highest-more : (ls : List ℕ) (a : ℕ) {x y z : ℕ} → x ≡ highest a (levelByte ls) → z ≡ levelByte ls (a + 1) → y ≡ max x z → y ≡ highest (a + 1) (levelByte ls)
+highest-more ls a e f q =
+    q ∙ ap₂ max e (f ∙ ap (levelByte ls) (add-one a)) ∙ ap (λ (i : ℕ). highest i (levelByte ls)) (sym (add-one a))
 
 pub highest-all : (ls : List ℕ) (a n : ℕ) {x : ℕ} → x ≡ highest a (levelByte ls) → a ≤ n → n ≤ a → x ≡ highest n (levelByte ls)
 highest-all ls a n e h g = e ∙ ap (λ (i : ℕ). highest i (levelByte ls)) (le-antisymm h g)

@@ -1,7 +1,10 @@
 // The levels that an accepted assignment shows, and the two numbers that an accepted call returns (document 01, "Check and filling out").
 use clause_literals::Sizes;
 use clause_literals::level_var;
+use level_lists::byte_of;
 use numbers::Atom;
+use numbers::Var;
+use numbers::atom_var;
 use truth_literals::is_true;
 ghost use Prim.Native.Nat.{_+_, _*_, _≤_, _<_, max};
 ghost use mathlib.Core.Path.{_≡_};
@@ -15,9 +18,9 @@ ghost use Rattle.truth_clauses.specs.Truth.{valueIn};
 ghost use Rattle.call_results.specs.Results.{trueCount, levelByte};
 
 // What variable v adds where it stands for `power`.
-fn bit_weight(assignment: &[u8], v: usize, power: u8) -> u8
-    requires { ⌜ (0 < v) × (v ≤ length (now assignment)) ⌝ }
-    ensures { λ r. ⌜ r ≡ cond (valueIn (now (assignment .entry)) v) power 0 ⌝ }
+fn bit_weight(assignment: &[u8], v: Var, power: u8) -> u8
+    requires { ⌜ (0 < v .0) × (v .0 ≤ length (now assignment)) ⌝ }
+    ensures { λ r. ⌜ r ≡ cond (valueIn (now (assignment .entry)) (v .0)) power 0 ⌝ }
 {
     if is_true(assignment, v) {
         return power;
@@ -34,8 +37,7 @@ fn counter_of(s: Sizes, assignment: &[u8], a: Atom) -> u8
     let mut x: u8 = 0;
     let mut power: u8 = 1;
     while i < s.w {
-        let v = level_var(s, a, i + 1);
-        x += bit_weight(assignment, v.0 as usize, power);
+        x += bit_weight(assignment, level_var(s, a, i + 1), power);
         power *= 2;
         i += 1;
     }
@@ -62,7 +64,7 @@ pub fn true_count(n: u16, assignment: &[u8]) -> usize
     let mut a: u16 = 0;
     let mut k: usize = 0;
     while a < n {
-        k += bit_weight(assignment, a as usize + 1, 1) as usize;
+        k += bit_weight(assignment, atom_var(Atom(a + 1)), 1) as usize;
         a += 1;
     }
     k
@@ -86,7 +88,7 @@ pub fn highest_of(n: u16, levels: &[u8]) -> usize
     let mut a: u16 = 0;
     let mut x: usize = 0;
     while a < n {
-        x = larger_level(x, levels[a as usize]);
+        x = larger_level(x, byte_of(levels, Atom(a + 1)));
         a += 1;
     }
     x

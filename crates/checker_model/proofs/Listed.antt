@@ -1,10 +1,10 @@
 -- The text of a list of numbers, number by number.
 --   numbers-more    one number more at the end
 --   listed p f n    f of the numbers from 1 to n that pass p; its text as code writes it
---   listed-more, listed-next    one number more
---   listed-fits     where there is room for the text of n numbers, there is for that of the first ones and one more
+--   wrote-next, next-start, next-room, next-sum    the next number, after those before it, where there is room for all
+--   listed-all, listed-kept    all of them, and the length of the buffer
 --   listed-small    how many bytes numbers of at most k digits are
---   listed-all, listed-levels    the buffer, once all have been written
+--   levels-are      the levels of the true atoms
 --   level-is        the level of an atom, as code reads it
 -- Assumes nothing.
 use Prim.Native.Nat.{ℕ, zero, suc, _+_, _*_, _-_, _≤_, _<_}
@@ -14,18 +14,20 @@ use native.Mathlib.Omega.{arith}
 use mathlib.Core.Path.{_≡_, sym, _∙_, ap, subst}
 use mathlib.Core.Logic.{⊎-elim}
 use mathlib.Core.Bool.{Bool, true, false, cond}
-use mathlib.Core.List.{List, [], _∷_, _++_, map, append-nil, append-assoc}
-use lib.ListN.{length, getD, drop, length-append}
+use mathlib.Core.List.{List, [], _∷_, _++_, append-nil, append-assoc}
+use lib.ListN.{length, getD, take, drop, length-append}
 use Rattle.lists.specs.Lists.{each}
 use Rattle.text.specs.Decimal.{decimal}
 use Rattle.digits.proofs.Lengths.{decimal-some}
-use Rattle.digits.proofs.Begins.{Begins, begins-same, begins-whole}
+use Rattle.digits.specs.Bytes.{Room, Wrote}
+use Rattle.digits.proofs.Wrote.{room-as, wrote-as, wrote-kept, wrote-after, after-start, after-room, after-sum}
+use borrow.Rule.Slice.PartMut.{putMid}
 use Rattle.clause_literals.proofs.Products.{one-before}
 use Rattle.clause_walk.proofs.Tabs.{map-select}
 use Rattle.truth_clauses.specs.Truth.{valueIn}
 use Rattle.call_results.specs.Results.{levelByte}
 use Rattle.checker_model.proofs.Next.{next-some}
-use Rattle.checker_model.specs.Model.{trueAtomList, spacedNumbers, numbersText, listedText, shownText}
+use Rattle.checker_model.specs.Model.{spacedNumbers, numbersText, levelsText, listedText, shownText}
 
 spaced-more : (xs : List ℕ) (x : ℕ) → spacedNumbers (xs ++ (x ∷ [])) ≡ spacedNumbers xs ++ (32 ∷ decimal x)
 spaced-more [] x = append-nil (32 ∷ decimal x)
@@ -51,11 +53,8 @@ module _ (p : ℕ → Bool) (f : ℕ → ℕ) where
 
   -- s and x are what code has for the next number
   module _ (a : ℕ) {to x : ℕ} {s : Bool} (e : to ≡ length (numbersText (listed a))) (q : s ≡ p (a + 1)) (y : x ≡ f (a + 1)) where
-    pub listed-more : numbersText (listed (a + 1)) ≡ numbersText (listed a) ++ shownText s to x
+    listed-more : numbersText (listed (a + 1)) ≡ numbersText (listed a) ++ shownText s to x
     listed-more = rw (add-one a, listed-suc a, e, q, y, add-one a)
-
-    pub listed-next : {b d : List ℕ} {r : ℕ} → Begins b d (numbersText (listed a) ++ shownText s to x) r → Begins b d (numbersText (listed (a + 1))) r
-    listed-next B = begins-same B (sym listed-more)
 
   listed-mono : (a n : ℕ) → a ≤ n → length (numbersText (listed a)) ≤ length (numbersText (listed n))
   listed-mono a zero h = subst (λ (k : ℕ). length (numbersText (listed k)) ≤ 0) (le-antisymm (omega arith) h) (omega arith)
@@ -69,10 +68,24 @@ module _ (p : ℕ → Bool) (f : ℕ → ℕ) where
         length-append (numbersText (listed n)) (shownText (p (suc n)) (length (numbersText (listed n))) (f (suc n))),
       )) (eq-or-lt-of-le h)
 
-  pub listed-fits : (a : ℕ) {to x n m : ℕ} {s : Bool} → to ≡ length (numbersText (listed a)) → s ≡ p (a + 1) → x ≡ f (a + 1) → a < n → length (numbersText (listed n)) ≤ m
-      → length (numbersText (listed a) ++ shownText s to x) ≤ m
-  listed-fits a {n = n} {m = m} e q y h l =
-      subst (λ (t : List ℕ). length t ≤ m) (listed-more a e q y) (omega (arith, listed-mono (a + 1) n (omega (arith, h)), l))
+  -- the next number, after those of the first a, where there is room for those of n
+  module _ (a : ℕ) {to x : ℕ} {s : Bool} {b e : List ℕ} (W : Wrote (numbersText (listed a)) b e to) (q : s ≡ p (a + 1)) (y : x ≡ f (a + 1)) where
+    pub wrote-next : {l : List ℕ} {r : ℕ} → Wrote (shownText s to x) (take (length e - to) (drop to e)) l r
+        → Wrote (numbersText (listed (a + 1))) b (putMid to (length e - to) e l) (to + r)
+    wrote-next X = wrote-as (sym (listed-more a (W .count) q y)) (wrote-after W (shownText s to x) X)
+
+    module _ {n : ℕ} (h : a < n) (l : Room (numbersText (listed n)) b) where
+      fits : Room (numbersText (listed a) ++ shownText s to x) b
+      fits = room-as (sym (listed-more a (W .count) q y)) (omega (arith, listed-mono (a + 1) n (omega (arith, h)), l))
+
+      pub next-start : to ≤ length e
+      next-start = after-start W (shownText s to x) fits
+
+      pub next-room : Room (shownText s to x) (take (length e - to) (drop to e))
+      next-room = after-room W (shownText s to x) fits
+
+      pub next-sum : {r : ℕ} → r ≡ length (shownText s to x) → to + r ≤ length b
+      next-sum = after-sum W (shownText s to x) fits
 
   shown-small : (b : Bool) (k to x : ℕ) → length (decimal x) ≤ k → length (shownText b to x) ≤ k + 1
   shown-small true k zero x h = omega (arith, h)
@@ -92,16 +105,16 @@ module _ (p : ℕ → Bool) (f : ℕ → ℕ) where
       )
 
   -- all numbers have been written
-  pub listed-all : (b : List ℕ) {a n to : ℕ} {d : List ℕ} → a ≤ n → n ≤ a → Begins b d (numbersText (listed a)) to
-      → (to ≡ length (numbersText (listed n))) × (d ≡ numbersText (listed n) ++ drop to b)
-  listed-all b {to = to} {d = d} h l B = begins-whole (subst (λ (k : ℕ). Begins b d (numbersText (listed k)) to) (le-antisymm h l) B)
+  module _ {a n to : ℕ} {b e : List ℕ} (h : a ≤ n) (W : Wrote (numbersText (listed a)) b e to) where
+    pub listed-all : n ≤ a → Wrote (numbersText (listed n)) b e to
+    listed-all l = wrote-as (ap (λ (k : ℕ). numbersText (listed k)) (le-antisymm h l)) W
+
+    pub listed-kept : Room (numbersText (listed n)) b → length e ≡ length b
+    listed-kept f = wrote-kept W (omega (arith, listed-mono a n h, f))
 
 -- the levels of the true atoms
-pub listed-levels : (ls bs b : List ℕ) {a n to : ℕ} {d : List ℕ} → a ≤ n → n ≤ a → Begins b d (numbersText (listed (valueIn bs) (levelByte ls) a)) to
-    → (to ≡ length (numbersText (map (levelByte ls) (trueAtomList n bs)))) × (d ≡ numbersText (map (levelByte ls) (trueAtomList n bs)) ++ drop to b)
-listed-levels ls bs b {n = n} {to = to} {d = d} h l B =
-    subst (λ (xs : List ℕ). (to ≡ length (numbersText xs)) × (d ≡ numbersText xs ++ drop to b)) (sym (map-select (levelByte ls) n (valueIn bs)))
-    (listed-all (valueIn bs) (levelByte ls) b h l B)
+pub levels-are : (ls bs : List ℕ) (n : ℕ) → numbersText (listed (valueIn bs) (levelByte ls) n) ≡ levelsText n bs ls
+levels-are ls bs n = ap numbersText (sym (map-select (levelByte ls) n (valueIn bs)))
 
-pub level-is : (ls : List ℕ) (a : ℕ) → getD ls (a - 1) 0 ≡ levelByte ls a
-level-is ls a = ap (λ (i : ℕ). getD ls i 0) (one-before a)
+pub level-is : (ls : List ℕ) (a : ℕ) {x : ℕ} → x ≡ a → getD ls (x - 1) 0 ≡ levelByte ls a
+level-is ls a e = ap (λ (x : ℕ). getD ls (x - 1) 0) e ∙ ap (λ (i : ℕ). getD ls i 0) (one-before a)

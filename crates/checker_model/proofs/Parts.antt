@@ -1,19 +1,16 @@
--- The line of a model, part by part.
---   model-small     it has at most 1,100 bytes
---   model-whole, model-levels, model-middle, model-atoms, model-word    so in m bytes there is room for it and for its first four, three, two and one parts
+-- The line of a model: it has at most 1,100 bytes (model-small), and its two parts (model-parts).
 -- Assumes nothing.
 use Prim.Native.Nat.{ℕ, suc, _≤_, _<_}
 use native.Mathlib.Omega.{arith}
-use mathlib.Core.Path.{ap}
-use mathlib.Core.List.{List, _++_, map}
+use mathlib.Core.Path.{_≡_, refl, ap}
+use mathlib.Core.List.{List, _++_}
 use lib.ListN.{length, getD, length-append}
 use Rattle.lists.specs.Ascii.{ascii}
 use Rattle.digits.proofs.Lengths.{decimal-fits}
-use Rattle.digits.proofs.Begins.{front-fits}
 use Rattle.clause_walk.proofs.Tabs.{map-select}
 use Rattle.truth_clauses.specs.Truth.{valueIn}
 use Rattle.call_results.specs.Results.{levelByte}
-use Rattle.checker_model.specs.Model.{trueAtomList, numbersText, modelText}
+use Rattle.checker_model.specs.Model.{trueAtomList, numbersText, levelsText, modelText}
 use Rattle.checker_model.proofs.Listed.{listed-small}
 
 module _ (n : ℕ) (bs ls : List ℕ) (h : n ≤ 126) (f : (i : ℕ) → getD ls i 0 < 256) where
@@ -21,7 +18,7 @@ module _ (n : ℕ) (bs ls : List ℕ) (h : n ≤ 126) (f : (i : ℕ) → getD ls
   atoms = numbersText (trueAtomList n bs)
 
   abbrev levels : List ℕ
-  levels = numbersText (map (levelByte ls) (trueAtomList n bs))
+  levels = levelsText n bs ls
 
   atoms-small : length atoms ≤ 504
   atoms-small = omega (arith, h, listed-small (valueIn bs) (λ (a : ℕ). a) 3 n (λ a l. decimal-fits 2 (suc a) (omega (arith, h, l))))
@@ -42,25 +39,13 @@ module _ (n : ℕ) (bs ls : List ℕ) (h : n ≤ 126) (f : (i : ℕ) → getD ls
         arith,
         atoms-small,
         levels-small,
-        length-append (((ascii "(model (" ++ atoms) ++ ascii ") (") ++ levels) (ascii "))\n"),
-        length-append ((ascii "(model (" ++ atoms) ++ ascii ") (") levels,
-        length-append (ascii "(model (" ++ atoms) (ascii ") ("),
+        length-append (ascii "(model (" ++ atoms) ((ascii ") (" ++ levels) ++ ascii "))\n"),
+        length-append (ascii ") (" ++ levels) (ascii "))\n"),
+        length-append (ascii ") (") levels,
         length-append (ascii "(model (") atoms,
       )
 
-  module _ {m : ℕ} (l : 1100 ≤ m) where
-    pub model-whole : length ((((ascii "(model (" ++ atoms) ++ ascii ") (") ++ levels) ++ ascii "))\n") ≤ m
-    unfolding modelText
-    model-whole = omega (arith, model-small, l)
-
-    pub model-levels : length (((ascii "(model (" ++ atoms) ++ ascii ") (") ++ levels) ≤ m
-    model-levels = front-fits (((ascii "(model (" ++ atoms) ++ ascii ") (") ++ levels) (ascii "))\n") model-whole
-
-    pub model-middle : length ((ascii "(model (" ++ atoms) ++ ascii ") (") ≤ m
-    model-middle = front-fits ((ascii "(model (" ++ atoms) ++ ascii ") (") levels model-levels
-
-    pub model-atoms : length (ascii "(model (" ++ atoms) ≤ m
-    model-atoms = front-fits (ascii "(model (" ++ atoms) (ascii ") (") model-middle
-
-    pub model-word : length (ascii "(model (") ≤ m
-    model-word = front-fits (ascii "(model (") atoms model-atoms
+pub model-parts : (n : ℕ) (bs ls : List ℕ)
+    → (ascii "(model (" ++ numbersText (trueAtomList n bs)) ++ ((ascii ") (" ++ levelsText n bs ls) ++ ascii "))\n") ≡ modelText n bs ls
+unfolding modelText
+model-parts n bs ls = refl

@@ -2,6 +2,7 @@
 --   trueAtomList n bs    the atoms from 1 to n that are true under the values bs, ascending
 --   numbersText xs       the numbers xs in decimal, one space between
 --   modelLine xs ys      "(model (", the numbers xs, ") (", the numbers ys, "))" and byte 10
+--   levelsText n bs ls   the levels in ls of the true ones of the atoms 1 to n
 --   modelText n bs ls    the line with the true atoms and their levels in ls, in step
 --   assumedText c        "(assumed ", c, ")" and byte 10, and nothing where c is 0
 --   shownModel n c bs ls   the line of c, then that of the model
@@ -31,13 +32,17 @@ numbersText [] = []
 numbersText (x ∷ xs) = decimal x ++ spacedNumbers xs
 
 abbrev pub modelLine : List ℕ → List ℕ → List ℕ
-modelLine xs ys = (((ascii "(model (" ++ numbersText xs) ++ ascii ") (") ++ numbersText ys) ++ ascii "))\n"
+modelLine xs ys = (ascii "(model (" ++ numbersText xs) ++ ((ascii ") (" ++ numbersText ys) ++ ascii "))\n")
+
+-- the levels of the true atoms
+abbrev pub levelsText : ℕ → List ℕ → List ℕ → List ℕ
+levelsText n bs ls = numbersText (map (levelByte ls) (trueAtomList n bs))
 
 unfoldable pub modelText : ℕ → List ℕ → List ℕ → List ℕ
 modelText n bs ls = modelLine (trueAtomList n bs) (map (levelByte ls) (trueAtomList n bs))
 
 unfoldable pub assumedText : ℕ → List ℕ
-assumedText c = cond (eqb c 0) [] ((ascii "(assumed " ++ decimal c) ++ ascii ")\n")
+assumedText c = cond (eqb c 0) [] (ascii "(assumed " ++ (decimal c ++ ascii ")\n"))
 
 abbrev pub shownModel : ℕ → ℕ → List ℕ → List ℕ → List ℕ
 shownModel n c bs ls = assumedText c ++ modelText n bs ls

@@ -21,7 +21,7 @@ use Rattle.text.specs.Limits.{Admitted}
 use Rattle.answer_form.specs.Pieces.{Spotted}
 use Rattle.answer_offers.specs.Offered.{valueBytes, valuesOf}
 use Rattle.clause_walk.proofs.Tabs.{map-select}
-use Rattle.clause_text.specs.Lines.{refusedText}
+use Rattle.fixed_lines.specs.Lines.{refusedText}
 use Rattle.truth_clauses.specs.Truth.{valueIn}
 use Rattle.call_results.specs.Results.{Result, levelByte, assignmentAfter, levelsAfter, varTotal, programRead}
 use Rattle.refusals.specs.declared.CheckRefusal.{CheckRefusal}

@@ -2,7 +2,8 @@
 --   checkerRefusalLine v           the line of a refusal, nothing for a model
 --   checkerVerdictText n v bs ls   the lines of the verdict v, for n atoms and the values bs and levels ls that the check has left in its buffers: those of a
 --                                  model, with the number of variables that were assumed; or the line of a refusal
---   resultText P x                 the lines of the result x, for the program P and buffers of zeros, 9,890 and 126 of them
+--   resultText G x                 the lines of the result x, for the code G and buffers of zeros, 9,890 and 126 of them
+--   checkedText G u j              the lines for the code G and the answer of j bytes; of one that is not overlong, u is all
 --   checkerOutputOf r u j          the lines for what the reader gave, r, and the answer of j bytes; of one that is not overlong, u is all
 --   checkerOutput t k u j          the lines for the program text of k bytes, of which t is all or the front, and the answer likewise
 --   checkerText t u                the lines for the program text t and the answer u
@@ -17,10 +18,11 @@ use Rattle.lists.specs.Lists.{select}
 use Rattle.meaning.specs.Program.{Program, Atoms}
 use Rattle.meaning.specs.Stage.{Stable, level}
 use Rattle.encoding.specs.Fill.{trueAtoms}
+use Rattle.encoding.specs.Code.{Code, codeOf, variablesOf}
 use Rattle.reader.specs.declared.ReadResult.{ReadResult}
 use Rattle.reader.specs.Verdict.{readOf}
 use Rattle.text.specs.Limits.{Admitted}
-use Rattle.clause_text.specs.Lines.{refusedText}
+use Rattle.fixed_lines.specs.Lines.{refusedText}
 use Rattle.reader.specs.Counted.{countedOf}
 use Rattle.answer_form.specs.Pieces.{Spotted}
 use Rattle.answer_offers.specs.Offered.{valuesOf}
@@ -29,7 +31,7 @@ use Rattle.refusals.specs.declared.CheckRefusal.{CheckRefusal}
 use Rattle.call_check_rows.specs.declared.CheckVerdict.{CheckVerdict}
 use Rattle.call_check_rows.specs.declared.CheckVerdict.the-variants.{Model, Refused}
 use Rattle.refusals.specs.Numbers.{checkNumber, checkSpot}
-use Rattle.call_check_rows.specs.Check.{zeroes, checkVerdictOf, callResult}
+use Rattle.call_check_rows.specs.Check.{zeroes, checkVerdictOf, checkResult, callResult}
 use Rattle.call_check_rows.specs.Rows.{Offers}
 use Rattle.checker_model.specs.Model.{modelLine, modelText, assumedText}
 
@@ -41,12 +43,15 @@ abbrev pub checkerVerdictText : ℕ → CheckVerdict → List ℕ → List ℕ �
 checkerVerdictText n (Model k h c) bs ls = assumedText c ++ modelText n bs ls
 checkerVerdictText n (Refused r) bs ls = refusedText (checkNumber r) (checkSpot r)
 
-abbrev pub resultText : Program → Result CheckRefusal → List ℕ
-resultText P x =
-    checkerVerdictText (P .atoms) (checkVerdictOf (P .atoms) x) (assignmentAfter zeroes (varTotal P) x (replicate 9890 0)) (levelsAfter (P .atoms) x (replicate 126 0))
+abbrev pub resultText : Code → Result CheckRefusal → List ℕ
+resultText G x =
+    checkerVerdictText (G .n) (checkVerdictOf (G .n) x) (assignmentAfter zeroes (variablesOf G) x (replicate 9890 0)) (levelsAfter (G .n) x (replicate 126 0))
+
+unfoldable pub checkedText : Code → List ℕ → ℕ → List ℕ
+checkedText G u j = resultText G (checkResult G u j 9890 126)
 
 unfoldable pub checkerOutputOf : ReadResult → List ℕ → ℕ → List ℕ
-checkerOutputOf r u j = resultText (programRead r) (callResult r u j 9890 126)
+checkerOutputOf r u j = resultText (codeOf (programRead r)) (callResult r u j 9890 126)
 
 unfoldable pub checkerOutput : List ℕ → ℕ → List ℕ → ℕ → List ℕ
 checkerOutput t k u j = checkerOutputOf (countedOf t k) u j

@@ -1,21 +1,23 @@
 // The checker: reads a program text and a solver answer from two files and prints the model that the answer shows, or why none is shown (document 01,
 // "Programs"; document 02, Q-3).
-use call_check::check_read;
+use call_check::check_in;
 use call_check_rows::CheckVerdict;
+use call_table::load_counted;
 use checker_model::put_shown_model;
-use clause_text::put_refusal;
+use clause_cells::totals;
+use clause_tables::CELLS;
 use files::read_file;
-use reader::ReadResult;
-use reader::read_counted;
+use fixed_lines::put_refusal;
+use reader::ReadVerdict;
+use refusals::CheckRefusal;
 use refusals::check_number;
 use refusals::check_spot;
 ghost use Prim.Native.Nat.{_≤_};
 ghost use mathlib.Core.Path.{_≡_};
 ghost use lib.ListN.{length};
 ghost use Rattle.digits.specs.Bytes.{Wrote};
-ghost use Rattle.reader.specs.declared.ReadVerdict.the-variants.{Accepted};
-ghost use Rattle.clause_tables.specs.Tables.{Stored};
-ghost use Rattle.checker_output.specs.Output.{checkerRefusalLine, checkerOutputOf, checkerOutput};
+ghost use Rattle.clause_tables.specs.Tables.{Ready, codeIn};
+ghost use Rattle.checker_output.specs.Output.{checkerRefusalLine, checkedText, checkerOutput};
 
 // Writes the line of a refusal at the front of the buffer, nothing for a model, and returns how many bytes it has.
 fn put_refused(v: CheckVerdict, out: &mut [u8]) -> usize
@@ -28,18 +30,19 @@ fn put_refused(v: CheckVerdict, out: &mut [u8]) -> usize
     }
 }
 
-// Writes the checker's lines for a program that was read at the front of the buffer and returns how many bytes they are.
-fn put_checked(x: ReadResult, answer: &[u8], total: usize, out: &mut [u8]) -> usize
-    requires { ⌜ (x .verdict ≡ Accepted → Stored (x .program)) × (1131 ≤ length (now out)) ⌝ }
-    ensures { λ r. ⌜ Wrote (checkerOutputOf x (now (answer .entry)) total) (now (out .entry)) (now (out .exit)) r ⌝ }
+// Writes the checker's lines for the program of a table at the front of the buffer and returns how many bytes they are.
+fn put_checked<'a>(table: &'a [u16], answer: &'a [u8], total: usize, out: &mut [u8]) -> usize
+    requires { ⌜ (Ready (now table)) × (1131 ≤ length (now out)) ⌝ }
+    ensures { λ r. ⌜ Wrote (checkedText (codeIn (now (table .entry))) (now (answer .entry)) total) (now (out .entry)) (now (out .exit)) r ⌝ }
 {
     let mut assignment = [0u8; 9890];
     let mut levels = [0u8; 126];
-    let v = check_read(x, answer, total, &mut assignment, &mut levels);
+    let n = totals(table).sizes.n;
+    let v = check_in(table, answer, total, &mut assignment, &mut levels);
     let CheckVerdict::Model(k, h, c) = v else {
         return put_refused(v, &mut *out);
     };
-    put_shown_model(x.program.atoms, c, &assignment, &levels, &mut *out)
+    put_shown_model(n, c, &assignment, &levels, &mut *out)
 }
 
 // Writes the checker's lines for a program text of `size` bytes and an answer of `total`; of those that are not overlong, `text` and `answer` are all.
@@ -47,8 +50,14 @@ pub fn put_output(text: &[u8], size: usize, answer: &[u8], total: usize, out: &m
     requires { ⌜ 1131 ≤ length (now out) ⌝ }
     ensures { λ r. ⌜ Wrote (checkerOutput (now (text .entry)) size (now (answer .entry)) total) (now (out .entry)) (now (out .exit)) r ⌝ }
 {
-    let x = read_counted(text, size);
-    put_checked(x, answer, total, &mut *out)
+    let mut table = [0u16; CELLS];
+    let v = load_counted(text, size, &mut table);
+    match v {
+        ReadVerdict::Accepted => put_checked(&table, answer, total, &mut *out),
+        ReadVerdict::Refused(x) => {
+            put_refused(CheckVerdict::Refused(CheckRefusal::Text(x)), &mut *out)
+        }
+    }
 }
 
 // Reads the two files of those names and prints the lines.

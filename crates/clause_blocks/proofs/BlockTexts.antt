@@ -2,7 +2,6 @@
 --   bit-block, next-block   the lines of a chain's bit, and of a block of group 4, are those of the walk's block
 --   bit-short               the variables of the bit are from 1 to 9,999
 --   next-block-asks         what `put_next_block` asks
---   block-put               they are in the buffer
 --   block-short             the lines of a block have at most 3,008 bytes
 -- Assumes nothing.
 use Prim.Native.Nat.{ℕ, zero, suc, _*_, _≤_, _<_}
@@ -13,7 +12,7 @@ use mathlib.Core.Bool.{Bool, true, false, cond}
 use mathlib.Core.Logic.{_⊎_, inl, inr}
 use mathlib.Core.List.{List, [], _∷_, _++_}
 use lib.Dec.{eqb, ltb}
-use lib.ListN.{length, drop, length-append}
+use lib.ListN.{length, length-append}
 use borrow.Author.Tests.{eqb-true}
 use Rattle.lists.specs.Lists.{each}
 use Rattle.lists.proofs.Tables.{each-ext}
@@ -22,27 +21,22 @@ use Rattle.encoding.specs.Literal.{Literal, literalNumber, variable}
 use Rattle.encoding.proofs.Literals.{number-size}
 use Rattle.clause_literals.specs.Sizes.{sizesOf, Bounded}
 use Rattle.digits.specs.Bytes.{literalText, literalsText, lineText}
+use Rattle.digits.proofs.Wrote.{room-as}
 use Rattle.digits.proofs.Lengths.{literal-fits, literals-append-length, line-length}
 use Rattle.clause_walk.specs.Walk.{size, slots, slot, clauseAt, bitOf, slots4, slot4, chainSize, chainSlots, chainSlot, chainFirst, chainNext, chainBit, BlockAt, At}
-use Rattle.clause_slots.specs.declared.Chain.{Chain}
-use Rattle.clause_slots.specs.Signed.{slotLiteral}
+use Rattle.clause_chains.specs.declared.Chain.{Chain}
 use Rattle.clause_tables.specs.declared.Totals.{Totals}
 use Rattle.clause_tables.specs.Tables.{Tabled}
 use Rattle.clause_table_laws.proofs.Bounds.{Slotted, empty, holds}
 use Rattle.clause_layout.specs.BlockChain.{chainOfBlock}
-use Rattle.clause_layout.proofs.BlockChains.{literal-pair}
+use Rattle.clause_layout.proofs.BlockChains.{slot-chain}
 use Rattle.clause_layout.proofs.Groups.{bounded, atom4, bits4, size-next, size-pair, slots-next, slots-pair, slot-next}
-use Rattle.clause_text.specs.Lines.{shownLiteral, chainClause}
 use Rattle.clause_text.specs.Blocks.{isBlockwise, blockText}
 use Rattle.clause_text.proofs.BlockLaws.{blockwise-is}
-use Rattle.clause_blocks.specs.Texts.{bitText, Short, ShortBit, nextBlockText}
+use Rattle.clause_blocks.specs.Numerals.{Short}
+use Rattle.clause_blocks.specs.Texts.{chainClause, bitText, ShortBit, nextBlockText}
 use Rattle.clause_blocks.proofs.NextBlocks.{nextClause, next-blocks}
 use Rattle.clause_text.proofs.Clause.{slotted}
-use Rattle.clause_text.proofs.ChainLine.{shown-held, chain-clause}
-
--- a text, and the lines that it stands for
-pub block-put : (b : List ℕ) {s t : List ℕ} {r : ℕ} {d : List ℕ} → s ≡ t → (r ≡ length s) × (d ≡ s ++ drop r b) → (r ≡ length t) × (d ≡ t ++ drop r b)
-block-put b {r = r} {d = d} e u = subst (λ (t : List ℕ). (r ≡ length t) × (d ≡ t ++ drop r b)) e u
 
 -- ---- lengths
 
@@ -64,6 +58,10 @@ slot-short ls (holds x q p h) =
       literal-fits 3 (literalNumber x) (omega (arith, number-size x, h)),
     ))
 
+abbrev first-variable : List Literal → ℕ
+first-variable [] = 0
+first-variable (x ∷ xs) = variable x
+
 module _ {G : Code} {t : Totals} {hs ss bs ks xs ys : List ℕ} (T : Tabled G t hs ss bs ks xs ys) where
   abbrev w : ℕ
   w = t .sizes .w
@@ -84,24 +82,21 @@ module _ {G : Code} {t : Totals} {hs ss bs ks xs ys : List ℕ} (T : Tabled G t 
 
     -- ---- group 5
 
-    pub bit-block : {c : Chain} {j : ℕ} → g ≡ 5 → c ≡ chainOfBlock G g a i → j ≡ chainBit w i → bitText c j ≡ blockText G g a i
+    chain-clause : (y : ℕ) → At G g a i y → {c : Chain} {j : ℕ} → g ≡ 5 → c ≡ chainOfBlock G a i → j ≡ chainBit w i → chainClause c j y ≡ clauseAt G g a i y
+    chain-clause y A {c} {j} e p q =
+        each-ext (chainSlots j y) (λ l. chainSlot (c .z .0) (c .x .0) (c .y .0) (c .g .0) j y l ∷ []) (slot G g a i y)
+        (λ l h. sym (slot-chain T R y (suc l) e p q)) ∙ ap (λ (n : ℕ). each n (slot G g a i y)) (slots-pair T A e q refl)
+
+    pub bit-block : {c : Chain} {j : ℕ} → g ≡ 5 → c ≡ chainOfBlock G a i → j ≡ chainBit w i → bitText c j ≡ blockText G g a i
     bit-block {c} {j} e p q =
         each-ext (chainSize j) (λ y. lineText (chainClause c j y)) (λ y. lineText (clauseAt G g a i y))
-        (λ y h. ap lineText (chain-clause T (clause-at y (subst (λ (n : ℕ). y < n) many h)) e p q))
+        (λ y h. ap lineText (chain-clause (suc y) (clause-at y (subst (λ (n : ℕ). y < n) many h)) e p q))
         ∙ ap (λ (n : ℕ). each n (λ y. lineText (clauseAt G g a i y))) many
       where
         many : chainSize j ≡ size G g a i
         many = size-pair T R e q refl
 
-    -- a slot of a chain's clause holds a literal
-    slot-some : (y l : ℕ) → g ≡ 5 → slot G g a i y l ≡ [] → ⊥
-    unfolding slot
-    slot-some y l e r = none (sym (ap (λ (k : ℕ). slot G k a i y l) e) ∙ r)
-      where
-        none : {x : Literal} → x ∷ [] ≡ [] → ⊥
-        none q = omega (arith, ap length q)
-
-    module _ {c : Chain} {j : ℕ} (e : g ≡ 5) (p : c ≡ chainOfBlock G g a i) (q : j ≡ chainBit w i) where
+    module _ {c : Chain} {j : ℕ} (e : g ≡ 5) (p : c ≡ chainOfBlock G a i) (q : j ≡ chainBit w i) where
       abbrev literal : ℕ → ℕ → Literal
       literal y l = chainSlot (c .z .0) (c .x .0) (c .y .0) (c .g .0) j y l
 
@@ -112,16 +107,16 @@ module _ {G : Code} {t : Totals} {hs ss bs ks xs ys : List ℕ} (T : Tabled G t 
           A : At G g a i (suc y)
           A = clause-at y (subst (λ (n : ℕ). y < n) (size-pair T R e q refl) h)
 
-          is : literal (suc y) (suc l) ≡ slotLiteral (slot G g a i (suc y) (suc l))
-          is = literal-pair T R (suc y) (suc l) e p q refl
+          is : slot G g a i (suc y) (suc l) ≡ literal (suc y) (suc l) ∷ []
+          is = slot-chain T R (suc y) (suc l) e p q
 
           go : Slotted (slot G g a i (suc y) (suc l)) → Short (variable (literal (suc y) (suc l)))
-          go (empty r) = absurd (slot-some (suc y) (suc l) e r)
+          go (empty r) = absurd (omega (arith, ap length (sym is ∙ r)))
           go (holds z r u v) =
               record { some = subst (λ (n : ℕ). 0 < n) (sym same) u; fits = omega (arith, v, same) }
             where
               same : variable (literal (suc y) (suc l)) ≡ variable z
-              same = ap variable (is ∙ ap slotLiteral r)
+              same = ap first-variable (sym is ∙ r)
 
       -- by the test for the first bit
       abbrev named : Bool → ℕ → ℕ → ℕ
@@ -155,8 +150,8 @@ module _ {G : Code} {t : Totals} {hs ss bs ks xs ys : List ℕ} (T : Tabled G t 
 
     next-clause : (y : ℕ) → At G g a i y → g ≡ 4 → nextClause (sizesOf (t .sizes)) a i y ≡ clauseAt G g a i y
     next-clause y A e =
-        each-ext (slots4 i y) (λ l. shownLiteral (slot4 (sizesOf (t .sizes)) a i y l)) (slot G g a i y)
-        (λ l h. ap shownLiteral (slot-next T A (suc l) e refl) ∙ shown-held (slot G g a i y (suc l)) (slotted T A (suc l) (omega arith) (subst (λ (n : ℕ). suc l ≤ n) many h)))
+        each-ext (slots4 i y) (λ l. (slot4 (sizesOf (t .sizes)) a i y l ∷ [])) (slot G g a i y)
+        (λ l h. sym (slot-next T A (suc l) e))
         ∙ ap (λ (n : ℕ). each n (slot G g a i y)) many
       where
         many : slots4 i y ≡ slots G g a i y
@@ -164,15 +159,14 @@ module _ {G : Code} {t : Totals} {hs ss bs ks xs ys : List ℕ} (T : Tabled G t 
 
     pub next-block : g ≡ 4 → nextBlockText (sizesOf (t .sizes)) a i ≡ blockText G g a i
     next-block e =
-        sym (next-blocks (t .sizes) (bounded T) a (atom4 T R e) i (R .block-some) (bits4 T R e))
+        sym (next-blocks (sizesOf (t .sizes)) a i (R .block-some))
         ∙ each-ext (2 * i) (λ y. lineText (nextClause (sizesOf (t .sizes)) a i y)) (λ y. lineText (clauseAt G g a i y))
         (λ y h. ap lineText (next-clause (suc y) (clause-at y (subst (λ (n : ℕ). y < n) (size-next T R e) h)) e))
         ∙ ap (λ (n : ℕ). each n (λ y. lineText (clauseAt G g a i y))) (size-next T R e)
 
     pub next-block-asks : {n : ℕ} → g ≡ 4 → length (blockText G g a i) ≤ n
         → (Bounded (t .sizes)) × (0 < a) × (a ≤ 126) × (0 < i) × (i ≤ 7) × (length (nextBlockText (sizesOf (t .sizes)) a i) ≤ n)
-    next-block-asks {n} e f =
-        (bounded T, R .item-some, atom4 T R e, R .block-some, bits4 T R e, subst (λ (s : List ℕ). length s ≤ n) (sym (next-block e)) f)
+    next-block-asks {n} e f = (bounded T, R .item-some, atom4 T R e, R .block-some, bits4 T R e, room-as (next-block e) f)
 
     -- ---- the length of a block
 

@@ -4,7 +4,7 @@
 --   found-fits   its number in the block is small
 --   first-place, placed    the place of line j
 -- Assumes nothing.
-use Prim.Native.Nat.{ℕ, suc, _+_, _-_, _≤_, _<_}
+use Prim.Native.Nat.{ℕ, suc, _+_, _-_, _<_}
 use native.Mathlib.Nat.{pos-of-ne-zero}
 use native.Mathlib.Numerals.{add-one}
 use native.Mathlib.Omega.{arith}
@@ -19,9 +19,9 @@ use Rattle.clause_places.specs.declared.Place.{Place}
 use Rattle.clause_places.specs.Places.{coordinates, blockCoordinates, itemCoordinates, groupCoordinates, allCoordinates, past, coordinatesAt, placeAt}
 use Rattle.clause_finding.specs.declared.PartFound.{PartFound}
 use Rattle.clause_finding.specs.Falls.{Falls}
-use Rattle.clause_finding.specs.Sizes.{itemSize, groupSize}
+use Rattle.clause_counts.specs.Counts.{itemSize, groupSize}
 use Rattle.clause_finding.proofs.Falling.{each-falls}
-use Rattle.clause_finding.proofs.Counted.{item-length, group-length}
+use Rattle.clause_counts.proofs.Counted.{item-length, group-length}
 
 module _ (G : Code) {x : ℕ} {g a i : PartFound} (F : Falls 7 (groupSize G) x g) (A : Falls (itemCount G (g .number)) (itemSize G (g .number)) (g .left) a) (I : Falls (blockCount G (g .number)) (size G (g .number) (a .number)) (a .left) i) where
   located : coordinatesAt G (suc x) ≡ coordinates G (g .number) (a .number) (i .number) (i .left + 1)

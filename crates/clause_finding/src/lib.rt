@@ -1,24 +1,29 @@
 // The place of clause j, found by passing whole groups, items and blocks.
-use clause_cells::heads;
-use clause_cells::list_start;
 use clause_cells::totals;
+use clause_counts::atoms_size;
+use clause_counts::fixed_size;
+use clause_counts::group_size;
+use clause_counts::is_fixed;
+use clause_layout::GROUPS;
 use clause_layout::block_count;
 use clause_layout::items;
 use clause_layout::size;
 use clause_places::Coordinates;
 use clause_places::Place;
 use clause_places::start;
-use numbers::Rule;
+use numbers::Atom;
 use numbers::wide;
-ghost use Prim.Native.Nat.{_+_, _*_, _≤_, _<_};
+ghost use Prim.Native.Nat.{_≤_, _<_};
 ghost use mathlib.Core.Path.{_≡_};
 ghost use mathlib.Core.Bool.{false};
-ghost use lib.ListN.{length, getD};
-ghost use Rattle.clause_walk.specs.Walk.{itemCount, blockCount, size as sizeAt, At};
-ghost use Rattle.clause_tables.specs.Tables.{Ready, codeIn, clausesIn, headsIn, startsIn};
+ghost use Rattle.clause_walk.specs.Walk.{groupCount, itemCount, blockCount, size as sizeAt, At};
+ghost use Rattle.clause_tables.specs.Tables.{Ready, codeIn, clausesIn};
 ghost use Rattle.clause_places.specs.Places.{coordinates, placeAt};
 ghost use Rattle.clause_finding.specs.Falls.{Falls};
-ghost use Rattle.clause_finding.specs.Sizes.{itemSize, groupSize, lowCount, isFixed, fixedSize};
+ghost use Rattle.clause_counts.specs.Counts.{itemSize, groupSize, isFixed};
+
+// The last group but one.
+const LAST_BUT_ONE: u16 = GROUPS - 1;
 
 // A part, from 1, of several that follow one another, and how many clauses of that part stand before the one looked for.
 pub struct PartFound {
@@ -26,99 +31,22 @@ pub struct PartFound {
     pub left: usize,
 }
 
-// Whether the items of group g have one size.
-fn is_fixed(g: u16) -> bool
-    ensures { λ r. ⌜ r ≡ isFixed g ⌝ }
-{
-    if g == 1 {
-        return false;
-    }
-    if g == 2 {
-        return false;
-    }
-    g != 6
-}
-
-// How many clauses each item of group 3, 4, 5 or 7 has.
-fn fixed_size(w: usize, g: u16) -> usize
-    requires { ⌜ (0 < w) × (w ≤ 7) ⌝ }
-    ensures { λ r. ⌜ r ≡ fixedSize w g ⌝ }
-{
-    if g == 3 {
-        return w;
-    }
-    if g == 4 {
-        return w * (w + 1);
-    }
-    if g == 5 {
-        return 12 * w - 6;
-    }
-    1
-}
-
-// How many heads are at most a.
-fn low_count(heads: &[u16], a: u16) -> u16
-    requires { ⌜ length (now heads) ≤ 500 ⌝ }
-    ensures { λ r. ⌜ r ≡ lowCount (length (now (heads .entry))) (now (heads .entry)) a ⌝ }
-{
-    let mut n: u16 = 0;
-    let mut i: usize = 0;
-    while i < heads.len() {
-        if heads[i] <= a {
-            n += 1;
-        }
-        i += 1;
-    }
-    n
-}
-
-// Group 2: how many clauses atoms 1 to a have.
-fn atoms_size(table: &[u16], m: u16, a: u16) -> usize
-    requires { ⌜ (Ready (now table)) × (m ≤ 500) ⌝ }
-    ensures { λ r. ⌜ r ≡ lowCount m (headsIn (now (table .entry))) a + a ⌝ }
-{
-    wide(low_count(heads(table, m), a)) + wide(a)
-}
-
-// Group 1: how many clauses its m rules have, from where the body atoms of the last rule end.
-fn bodies_size(table: &[u16], m: u16) -> usize
-    requires { ⌜ (Ready (now table)) × (m ≤ 500) ⌝ }
-    ensures { λ r. ⌜ r ≡ getD (startsIn (now (table .entry))) (2 * m) 0 + m ⌝ }
-{
-    wide(list_start(table, Rule(m + 1), 0)) + wide(m)
-}
-
-// How many clauses group g has, from 1 to 5.
-fn group_size(table: &[u16], g: u16) -> usize
-    requires { ⌜ (Ready (now table)) × (0 < g) × (g ≤ 5) ⌝ }
-    ensures { λ r. ⌜ r ≡ groupSize (codeIn (now (table .entry))) g ⌝ }
-{
-    let t = totals(table);
-    if g == 1 {
-        return bodies_size(table, t.sizes.m);
-    }
-    if g == 2 {
-        return wide(t.sizes.m) + wide(t.sizes.n);
-    }
-    wide(items(t, g)) * fixed_size(wide(t.sizes.w), g)
-}
-
 // The group with the clause after `left` others.
 fn find_group(table: &[u16], left: usize) -> PartFound
     requires { ⌜ (Ready (now table)) × (left < clausesIn (now table)) ⌝ }
-    ensures { λ r. ⌜ Falls 7 (groupSize (codeIn (now (table .entry)))) left r ⌝ }
+    ensures { λ r. ⌜ Falls groupCount (groupSize (codeIn (now (table .entry)))) left r ⌝ }
 {
     let t = totals(table);
     let last = t.clauses - wide(t.sizes.n);
     if last <= left {
         return PartFound {
-            number: 7,
+            number: GROUPS,
             left: left - last,
         };
     }
     let mut g: u16 = 1;
     let mut at = left;
-    while g < 6 {
+    while g < LAST_BUT_ONE {
         let k = group_size(table, g);
         if at < k {
             return PartFound {
@@ -145,7 +73,7 @@ fn find_atom(table: &[u16], left: usize) -> PartFound
     let mut high = t.sizes.n;
     while low + 1 < high {
         let middle = (low + high) / 2;
-        if left < atoms_size(table, t.sizes.m, middle) {
+        if left < atoms_size(table, t.sizes.m, Atom(middle)) {
             high = middle;
         } else {
             low = middle;
@@ -153,13 +81,13 @@ fn find_atom(table: &[u16], left: usize) -> PartFound
     }
     PartFound {
         number: high,
-        left: left - atoms_size(table, t.sizes.m, low),
+        left: left - atoms_size(table, t.sizes.m, Atom(low)),
     }
 }
 
 // The rule of group 1 or 6 with the clause after `left` others of the group.
 fn find_rule(table: &[u16], g: u16, left: usize) -> PartFound
-    requires { ⌜ (Ready (now table)) × (0 < g) × (g ≤ 7) × (isFixed g ≡ false) × (g ≡ 2 → ⊥) × (left < groupSize (codeIn (now table)) g) ⌝ }
+    requires { ⌜ (Ready (now table)) × (0 < g) × (g ≤ groupCount) × (isFixed g ≡ false) × (g ≡ 2 → ⊥) × (left < groupSize (codeIn (now table)) g) ⌝ }
     ensures { λ r. ⌜ Falls (itemCount (codeIn (now (table .entry))) g) (itemSize (codeIn (now (table .entry))) g) left r ⌝ }
 {
     let t = totals(table);
@@ -185,7 +113,7 @@ fn find_rule(table: &[u16], g: u16, left: usize) -> PartFound
 
 // The item of group g with the clause after `left` others of the group. Items of one size are passed by a division.
 fn find_item(table: &[u16], g: u16, left: usize) -> PartFound
-    requires { ⌜ (Ready (now table)) × (0 < g) × (g ≤ 7) × (left < groupSize (codeIn (now table)) g) ⌝ }
+    requires { ⌜ (Ready (now table)) × (0 < g) × (g ≤ groupCount) × (left < groupSize (codeIn (now table)) g) ⌝ }
     ensures { λ r. ⌜ Falls (itemCount (codeIn (now (table .entry))) g) (itemSize (codeIn (now (table .entry))) g) left r ⌝ }
 {
     let t = totals(table);
@@ -205,7 +133,7 @@ fn find_item(table: &[u16], g: u16, left: usize) -> PartFound
 
 // The block of item a of group g with the clause after `left` others of the item.
 fn find_block(table: &[u16], g: u16, a: u16, left: usize) -> PartFound
-    requires { ⌜ (Ready (now table)) × (0 < g) × (g ≤ 7) × (0 < a) × (a ≤ itemCount (codeIn (now table)) g)
+    requires { ⌜ (Ready (now table)) × (0 < g) × (g ≤ groupCount) × (0 < a) × (a ≤ itemCount (codeIn (now table)) g)
         × (left < itemSize (codeIn (now table)) g a) ⌝ }
     ensures { λ r. ⌜ Falls (blockCount (codeIn (now (table .entry))) g) (sizeAt (codeIn (now (table .entry))) g a) left r ⌝ }
 {

@@ -1,80 +1,81 @@
 -- Sizes, numbers of slots and slots of a code whose tables are given, group by group, as the code asks for them.
 -- Assumes nothing.
-use Prim.Native.Nat.{ℕ, suc, _+_, _-_, _*_, _≤_, _<_}
-use native.Mathlib.Nat.{le-trans, add-zero}
+use Prim.Native.Nat.{ℕ, zero, suc, _+_, _-_, _*_, _^_, _≤_, _<_}
+use native.Mathlib.Nat.{le-trans, le-refl, add-zero}
 use native.Mathlib.Omega.{arith}
 use native.Mathlib.Numerals.{add-one}
 use mathlib.Core.Path.{_≡_, refl, sym, _∙_, ap, ap₂, subst}
-use mathlib.Core.Bool.{Bool, cond}
+use mathlib.Core.Bool.{Bool, true, false, cond}
 use mathlib.Core.Logic.{_⊎_, inl, inr, ⊎-elim}
 use Rattle.lists.proofs.Tests.{le-or-lt}
 use mathlib.Core.List.{List, [], _∷_}
 use lib.Dec.{eqb, leb}
 use lib.ListN.{length, getD, take, drop}
+use lib.IntN.{ℤ}
+use lib.Signed.{mag}
+use mir.Syntax.{w32}
+use mir.Val.{hbits, toZ, ofZ}
 use borrow.Author.Tests.{ne-eqb, le-leb, lt-leb, lt-ltb, le-ltb}
 use Rattle.encoding.specs.Code.{Code, codeSizes, pairTotal, before}
 use Rattle.encoding.specs.Literal.{Literal}
 use Rattle.encoding.specs.Variables.{Sizes, bodyVar, foundsVar}
 use Rattle.clause_literals.specs.Sizes.{sizesOf, Bounded}
-use Rattle.clause_walk.specs.Walk.{headsOf, headOf, positives, innerCount, bodyOf, bodyCount, itemCount, blockCount, size, slots, slot, ofHead, slots1, slot1, slot3, slot4, slots4, slot5, slots6, slot6, size6, chainSize, chainSlots, chainBit, impliedSlot, bitOf, BlockAt, At}
-use Rattle.clause_slots.specs.Signed.{slotLiteral}
+use Rattle.clause_walk.specs.Walk.{headsOf, headOf, positives, innerCount, bodyOf, bodyCount, itemCount, blockCount, size, slots, slot, ofHead, slots1, slot1, slot3, slot4, slots4, slots6, slot6, size6, chainSize, chainSlots, chainBit, impliedSlot, bitOf, BlockAt, At, Group, groupOf}
+use Rattle.clause_walk.proofs.Groups.{Last, last-group}
+use Rattle.clause_literals.proofs.Signed.{read-back}
+use Rattle.clause_slots.specs.SlotNumber.{slotNumber, ruleVar}
 use Rattle.clause_tables.specs.declared.Totals.{Totals}
 use Rattle.clause_tables.specs.Tables.{Tabled}
 use Rattle.clause_table_laws.proofs.Elements as elements
 use Rattle.clause_layout.specs.Numbers.{impliedSize}
 
--- ---- the tests that `size`, `slots` and `slot` begin with
+-- the number of a slot, as a call gave it
+pub held-in : {ls ms : List Literal} {x : ℤ} → ls ≡ ms → mag x < 2 ^ hbits w32 → x ≡ slotNumber ms → toZ w32 (ofZ w32 x) ≡ slotNumber ls
+held-in p ok q = read-back ok (q ∙ ap slotNumber (sym p))
 
--- none of the groups 1 to 6
-pub record Last (g : ℕ) : Type 0 where
-  pub not1 : g ≡ 1 → ⊥
-  pub not2 : g ≡ 2 → ⊥
-  pub not3 : g ≡ 3 → ⊥
-  pub not4 : g ≡ 4 → ⊥
-  pub not5 : g ≡ 5 → ⊥
-  pub not6 : g ≡ 6 → ⊥
+-- ---- the tests that `size`, `slots` and `slot` begin with
 
 module _ (G : Code) (g a i y l : ℕ) (f : Last g) where
   last-size : size G g a i ≡ 1
   unfolding size
-  last-size = rw (ne-eqb g 1 (f .not1), ne-eqb g 2 (f .not2), ne-eqb g 3 (f .not3), ne-eqb g 4 (f .not4), ne-eqb g 5 (f .not5), ne-eqb g 6 (f .not6))
+  last-size = ap (λ (x : Group). x .size a i) (last-group G g f)
 
   last-slots : slots G g a i y ≡ suc (length (G .rules))
   unfolding slots
-  last-slots = rw (ne-eqb g 1 (f .not1), ne-eqb g 2 (f .not2), ne-eqb g 3 (f .not3), ne-eqb g 4 (f .not4), ne-eqb g 5 (f .not5), ne-eqb g 6 (f .not6))
+  last-slots = ap (λ (x : Group). x .slots a i y) (last-group G g f)
 
   pub last-slot : slot G g a i y l ≡ ofHead (headsOf G) a (foundsVar (codeSizes G)) l
   unfolding slot
-  last-slot = rw (ne-eqb g 1 (f .not1), ne-eqb g 2 (f .not2), ne-eqb g 3 (f .not3), ne-eqb g 4 (f .not4), ne-eqb g 5 (f .not5), ne-eqb g 6 (f .not6))
+  last-slot = ap (λ (x : Group). x .slot a i y l) (last-group G g f)
 
 -- items of the other groups
 module _ (G : Code) (a i y l : ℕ) where
   items1 : itemCount G 1 ≡ length (G .rules)
-  unfolding itemCount
+  unfolding itemCount groupOf
   items1 = refl
 
   items5 : itemCount G 5 ≡ pairTotal G
-  unfolding itemCount
+  unfolding itemCount groupOf
   items5 = refl
 
   items6 : itemCount G 6 ≡ length (G .rules)
-  unfolding itemCount
+  unfolding itemCount groupOf
   items6 = refl
 
   items3 : itemCount G 3 ≡ G .n
-  unfolding itemCount
+  unfolding itemCount groupOf
   items3 = refl
 
   items4 : itemCount G 4 ≡ G .n
-  unfolding itemCount
+  unfolding itemCount groupOf
   items4 = refl
 
   blocks4 : blockCount G 4 ≡ G .w
-  unfolding blockCount
+  unfolding blockCount groupOf
   blocks4 = refl
 
   blocks5 : blockCount G 5 ≡ G .w + G .w
-  unfolding blockCount
+  unfolding blockCount groupOf
   blocks5 = refl
 
 module _ {G : Code} {t : Totals} {hs ss bs ks xs ys : List ℕ} (T : Tabled G t hs ss bs ks xs ys) where
@@ -148,11 +149,21 @@ module _ {G : Code} {t : Totals} {hs ss bs ks xs ys : List ℕ} (T : Tabled G t 
       L : elements.Listed G ss bs a (a - 1)
       L = listed a (R .item-some) h
 
-      pub first-middle : getD ss (2 * (a - 1) + 0) 0 ≤ getD ss (2 * (a - 1) + 1) 0
+      first-middle : getD ss (2 * (a - 1) + 0) 0 ≤ getD ss (2 * (a - 1) + 1) 0
       first-middle = subst (λ (x : ℕ). x ≤ getD ss (2 * (a - 1) + 1) 0) (sym (from-first (a - 1))) (L .first-up)
 
-      pub first-end : getD ss (2 * (a - 1) + 0) 0 ≤ getD ss (2 * (a - 1) + 2) 0
+      first-end : getD ss (2 * (a - 1) + 0) 0 ≤ getD ss (2 * (a - 1) + 2) 0
       first-end = le-trans first-middle (L .second-up)
+
+      -- what `span` asks
+      pub span-asks : {Q : Type 0} → Q → (k : ℕ) → k ≤ 2 → Q × (0 < a) × (a ≤ 500) × (k ≤ 2) × (getD ss (2 * (a - 1) + 0) 0 ≤ getD ss (2 * (a - 1) + k) 0)
+      span-asks q k h = (q, R .item-some, rule-fits, h, go k h)
+        where
+          go : (k : ℕ) → k ≤ 2 → getD ss (2 * (a - 1) + 0) 0 ≤ getD ss (2 * (a - 1) + k) 0
+          go zero h = le-refl (getD ss (2 * (a - 1) + 0) 0)
+          go (suc zero) h = first-middle
+          go (suc (suc zero)) h = first-end
+          go (suc (suc (suc k))) h = absurd (omega (arith, h))
 
       pub span1 : getD ss (2 * (a - 1) + 1) 0 - getD ss (2 * (a - 1) + 0) 0 ≡ positives G a
       span1 = ap (λ (x : ℕ). getD ss (2 * (a - 1) + 1) 0 - x) (from-first (a - 1)) ∙ L .positives-are
@@ -179,11 +190,11 @@ module _ {G : Code} {t : Totals} {hs ss bs ks xs ys : List ℕ} (T : Tabled G t 
     size-at k e = ap (λ (x : ℕ). size G x a i) (sym e)
 
     pub size-body : {x : ℕ} → g ≡ 1 → x ≡ getD ss (2 * (a - 1) + 2) 0 - getD ss (2 * (a - 1) + 0) 0 → x + 1 ≡ size G g a i
-    unfolding size
+    unfolding size groupOf
     size-body {x} e q = ap (λ (k : ℕ). k + 1) (q ∙ span2 (rule1 e)) ∙ add-one (bodyCount G a) ∙ size-at 1 e
 
     pub size-implied : {x : ℕ} → g ≡ 2 → x ≡ impliedSize m hs a i → x ≡ size G g a i
-    unfolding size
+    unfolding size groupOf
     size-implied {x} e q = q ∙ go (le-or-lt i (length (G .rules))) ∙ size-at 2 e
       where
         go : (i ≤ length (G .rules)) ⊎ (length (G .rules) < i) → impliedSize m hs a i ≡ cond (leb i (length (G .rules))) (cond (eqb (headOf G i) a) 1 0) 1
@@ -196,19 +207,19 @@ module _ {G : Code} {t : Totals} {hs ss bs ks xs ys : List ℕ} (T : Tabled G t 
             ∙ sym (ap (λ (b : Bool). cond b (cond (eqb (headOf G i) a) 1 0) 1) (lt-leb i (length (G .rules)) h))
 
     pub size-zero : g ≡ 3 → w ≡ size G g a i
-    unfolding size
+    unfolding size groupOf
     size-zero e = width-are ∙ size-at 3 e
 
     pub size-next : g ≡ 4 → 2 * i ≡ size G g a i
-    unfolding size
+    unfolding size groupOf
     size-next e = size-at 4 e
 
     pub size-pair : {b x : ℕ} → g ≡ 5 → b ≡ chainBit w i → x ≡ chainSize b → x ≡ size G g a i
-    unfolding size
+    unfolding size groupOf
     size-pair e p q = q ∙ ap chainSize (p ∙ ap (λ (x : ℕ). chainBit x i) width-are) ∙ size-at 5 e
 
     pub size-rule : {b x : ℕ} → g ≡ 6 → b ≡ getD ss (2 * (a - 1) + 1) 0 - getD ss (2 * (a - 1) + 0) 0 → x ≡ size6 w b → x ≡ size G g a i
-    unfolding size
+    unfolding size groupOf
     size-rule e p q = q ∙ ap₂ size6 width-are (p ∙ span1 (rule6 e) ∙ sym (inner-is a)) ∙ size-at 6 e
 
     pub size-last : Last g → 1 ≡ size G g a i
@@ -255,39 +266,39 @@ module _ {G : Code} {t : Totals} {hs ss bs ks xs ys : List ℕ} (T : Tabled G t 
     slots-at k e = ap (λ (x : ℕ). slots G x a i y) (sym e)
 
     pub slots-body : {b x : ℕ} → g ≡ 1 → b ≡ getD ss (2 * (a - 1) + 2) 0 - getD ss (2 * (a - 1) + 0) 0 → x ≡ slots1 b y → x ≡ slots G g a i y
-    unfolding slots
+    unfolding slots groupOf
     slots-body e p q = q ∙ ap (λ (k : ℕ). slots1 k y) (p ∙ span2 R (rule1 R e)) ∙ slots-at 1 e
 
     one-more : m + 1 ≡ suc (length (G .rules))
     one-more = omega (arith, rules-are)
 
     pub slots-supported : g ≡ 2 → m < i → m + 1 ≡ slots G g a i y
-    unfolding slots
+    unfolding slots groupOf
     slots-supported e h =
         one-more
         ∙ sym (ap (λ (b : Bool). cond b 2 (suc (length (G .rules)))) (lt-leb i (length (G .rules)) (subst (λ (k : ℕ). k < i) rules-are h)))
         ∙ slots-at 2 e
 
     pub slots-implied : g ≡ 2 → i ≤ m → 2 ≡ slots G g a i y
-    unfolding slots
+    unfolding slots groupOf
     slots-implied e h =
         sym (ap (λ (b : Bool). cond b 2 (suc (length (G .rules)))) (le-leb i (length (G .rules)) (subst (λ (k : ℕ). i ≤ k) rules-are h)))
         ∙ slots-at 2 e
 
     pub slots-zero : g ≡ 3 → 2 ≡ slots G g a i y
-    unfolding slots
+    unfolding slots groupOf
     slots-zero e = slots-at 3 e
 
     pub slots-next : {x : ℕ} → g ≡ 4 → x ≡ slots4 i y → x ≡ slots G g a i y
-    unfolding slots
+    unfolding slots groupOf
     slots-next e q = q ∙ slots-at 4 e
 
     pub slots-pair : {b x : ℕ} → g ≡ 5 → b ≡ chainBit w i → x ≡ chainSlots b y → x ≡ slots G g a i y
-    unfolding slots
+    unfolding slots groupOf
     slots-pair e p q = q ∙ ap (λ (k : ℕ). chainSlots k y) (p ∙ ap (λ (x : ℕ). chainBit x i) width-are) ∙ slots-at 5 e
 
     pub slots-rule : {b x : ℕ} → g ≡ 6 → b ≡ getD ss (2 * (a - 1) + 1) 0 - getD ss (2 * (a - 1) + 0) 0 → x ≡ slots6 b y → x ≡ slots G g a i y
-    unfolding slots
+    unfolding slots groupOf
     slots-rule e p q = q ∙ ap (λ (k : ℕ). slots6 k y) (p ∙ span1 R (rule6 R e) ∙ sym (inner-is a)) ∙ slots-at 6 e
 
     pub slots-last : Last g → m + 1 ≡ slots G g a i y
@@ -296,71 +307,63 @@ module _ {G : Code} {t : Totals} {hs ss bs ks xs ys : List ℕ} (T : Tabled G t 
     -- ---- the literal in slot l
 
     module _ (l : ℕ) where
-      slot-at : (k : ℕ) → g ≡ k → slotLiteral (slot G k a i y l) ≡ slotLiteral (slot G g a i y l)
-      slot-at k e = ap (λ (x : ℕ). slotLiteral (slot G x a i y l)) (sym e)
+      slot-at : (k : ℕ) → g ≡ k → slot G g a i y l ≡ slot G k a i y l
+      slot-at k e = ap (λ (x : ℕ). slot G x a i y l) e
 
-      -- the group's literal is that of the program's sizes
-      with-sizes : (f : Sizes → Literal) {x : Literal} → x ≡ f (sizesOf (t .sizes)) → x ≡ f (codeSizes G)
-      with-sizes f q = q ∙ ap f sizes-are
+      -- the group's literal alone, with the program's sizes and x for its own
+      alone : {x : Literal} (f : Sizes → Literal) → x ≡ f (codeSizes G) → f (codeSizes G) ∷ [] ≡ x ∷ []
+      alone f q = ap (λ (z : Literal). z ∷ []) (sym q)
 
-      pub slot-pair : {b h : ℕ} {x : Literal} → g ≡ 5 → b ≡ getD xs (a - 1) 0 → h ≡ getD ys (a - 1) 0 → x ≡ slot5 (sizesOf (t .sizes)) a b h i y l
-          → x ≡ slotLiteral (slot G g a i y l)
-      unfolding slot
-      slot-pair {b} {h} e p q u =
-          with-sizes (λ S. slot5 S a b h i y l) u
-          ∙ ap₂ (λ (b h : ℕ). slot5 (codeSizes G) a b h i y l) (p ∙ elements.partner-is G t hs ss bs ks xs ys T a (R .item-some) (pair5 R e)) (q ∙ elements.owner-is G t hs ss bs ks xs ys T a (R .item-some) (pair5 R e))
-          ∙ slot-at 5 e
-
-      pub slot-body : {b c d : ℕ} {x : Literal} → g ≡ 1 → b ≡ getD ss (2 * (a - 1) + 0) 0 → c ≡ getD ss (2 * (a - 1) + 1) 0 → d ≡ getD ss (2 * (a - 1) + 2) 0
-          → x ≡ slot1 (sizesOf (t .sizes)) a (take (d - b) (drop b bs)) (c - b) y l → x ≡ slotLiteral (slot G g a i y l)
-      unfolding slot
-      slot-body {b} {c} {d} e p q r u =
-          with-sizes (λ S. slot1 S a (take (d - b) (drop b bs)) (c - b) y l) u
+      pub slot-body : {b c d : ℕ} → g ≡ 1 → b ≡ getD ss (2 * (a - 1) + 0) 0 → c ≡ getD ss (2 * (a - 1) + 1) 0 → d ≡ getD ss (2 * (a - 1) + 2) 0
+          → slot G g a i y l ≡ slot1 (sizesOf (t .sizes)) a (take (d - b) (drop b bs)) (c - b) y l ∷ []
+      unfolding slot groupOf
+      slot-body {b} {c} {d} e p q r =
+          slot-at 1 e
+          ∙ alone (λ S. slot1 S a (bodyOf G a) (positives G a) y l)
+          (ap (λ (S : Sizes). slot1 S a (take (d - b) (drop b bs)) (c - b) y l) sizes-are
           ∙ ap₂ (λ (xs : List ℕ) (k : ℕ). slot1 (codeSizes G) a xs k y l)
-          (ap₂ (λ (d b : ℕ). take (d - b) (drop b bs)) r p ∙ body-is R (rule1 R e)) (ap₂ (λ (c b : ℕ). c - b) q p ∙ span1 R (rule1 R e))
-          ∙ slot-at 1 e
+          (ap₂ (λ (d b : ℕ). take (d - b) (drop b bs)) r p ∙ body-is R (rule1 R e)) (ap₂ (λ (c b : ℕ). c - b) q p ∙ span1 R (rule1 R e)))
 
-      head-is : (base : ℕ) (v : ℕ → ℕ) → ((r : ℕ) → base + r ≡ v r) → slotLiteral (ofHead (take m hs) a (λ r. base + r) l) ≡ slotLiteral (ofHead (headsOf G) a v l)
-      head-is base v f =
-          ap₂ (λ (xs : List ℕ) (v : ℕ → ℕ). slotLiteral (ofHead xs a v l)) (elements.heads-taken G t hs ss bs ks xs ys T) (λ t r. f r t)
+      -- the last clause of an atom, by what it names of a rule
+      heads-are : (d : Bool) → ofHead (headsOf G) a (ruleVar (codeSizes G) d) l ≡ ofHead (take m hs) a (ruleVar (sizesOf (t .sizes)) d) l
+      heads-are d = sym (ap₂ (λ (xs : List ℕ) (S : Sizes). ofHead xs a (ruleVar S d) l) (elements.heads-taken G t hs ss bs ks xs ys T) sizes-are)
 
       pub supported-slot : g ≡ 2 → m < i → slot G g a i y l ≡ ofHead (headsOf G) a (bodyVar (codeSizes G)) l
-      unfolding slot
+      unfolding slot groupOf
       supported-slot e h =
-          ap (λ (x : ℕ). slot G x a i y l) e
+          slot-at 2 e
           ∙ ap (λ (b : Bool). cond b (impliedSlot (codeSizes G) a i l ∷ []) (ofHead (headsOf G) a (bodyVar (codeSizes G)) l)) (lt-leb i (length (G .rules)) (subst (λ (k : ℕ). k < i) rules-are h))
 
-      pub slot-supported : {x : Literal} → g ≡ 2 → m < i → x ≡ slotLiteral (ofHead (take m hs) a (λ r. t .sizes .n + r) l) → x ≡ slotLiteral (slot G g a i y l)
-      slot-supported e h u =
-          u ∙ head-is (t .sizes .n) (bodyVar (codeSizes G)) (λ r. ap (λ (S : Sizes). bodyVar S r) sizes-are) ∙ sym (ap slotLiteral (supported-slot e h))
+      pub slot-supported : g ≡ 2 → m < i → slot G g a i y l ≡ ofHead (take m hs) a (ruleVar (sizesOf (t .sizes)) false) l
+      slot-supported e h = supported-slot e h ∙ heads-are false
 
-      pub slot-implied : {x : Literal} → g ≡ 2 → i ≤ m → x ≡ impliedSlot (sizesOf (t .sizes)) a i l → x ≡ slotLiteral (slot G g a i y l)
-      unfolding slot
-      slot-implied e h u =
-          with-sizes (λ S. impliedSlot S a i l) u
-          ∙ sym (ap (λ (b : Bool). slotLiteral (cond b (impliedSlot (codeSizes G) a i l ∷ []) (ofHead (headsOf G) a (bodyVar (codeSizes G)) l))) (le-leb i (length (G .rules)) (subst (λ (k : ℕ). i ≤ k) rules-are h)))
-          ∙ slot-at 2 e
+      pub slot-implied : g ≡ 2 → i ≤ m → slot G g a i y l ≡ impliedSlot (sizesOf (t .sizes)) a i l ∷ []
+      unfolding slot groupOf
+      slot-implied e h =
+          slot-at 2 e
+          ∙ ap (λ (b : Bool). cond b (impliedSlot (codeSizes G) a i l ∷ []) (ofHead (headsOf G) a (bodyVar (codeSizes G)) l)) (le-leb i (length (G .rules)) (subst (λ (k : ℕ). i ≤ k) rules-are h))
+          ∙ alone (λ S. impliedSlot S a i l) (ap (λ (S : Sizes). impliedSlot S a i l) sizes-are)
 
-      pub slot-zero : {x : Literal} → g ≡ 3 → x ≡ slot3 (sizesOf (t .sizes)) a y l → x ≡ slotLiteral (slot G g a i y l)
-      unfolding slot
-      slot-zero e u = with-sizes (λ S. slot3 S a y l) u ∙ slot-at 3 e
+      pub slot-zero : g ≡ 3 → slot G g a i y l ≡ slot3 (sizesOf (t .sizes)) a y l ∷ []
+      unfolding slot groupOf
+      slot-zero e = slot-at 3 e ∙ alone (λ S. slot3 S a y l) (ap (λ (S : Sizes). slot3 S a y l) sizes-are)
 
-      pub slot-next : {x : Literal} → g ≡ 4 → x ≡ slot4 (sizesOf (t .sizes)) a i y l → x ≡ slotLiteral (slot G g a i y l)
-      unfolding slot
-      slot-next e u = with-sizes (λ S. slot4 S a i y l) u ∙ slot-at 4 e
+      pub slot-next : g ≡ 4 → slot G g a i y l ≡ slot4 (sizesOf (t .sizes)) a i y l ∷ []
+      unfolding slot groupOf
+      slot-next e = slot-at 4 e ∙ alone (λ S. slot4 S a i y l) (ap (λ (S : Sizes). slot4 S a i y l) sizes-are)
 
-      pub slot-rule : {h k b : ℕ} {x : Literal} → g ≡ 6 → h ≡ getD hs (a - 1) 0 → k ≡ getD ks (a - 1) 0 → b ≡ getD ss (2 * (a - 1) + 1) 0 - getD ss (2 * (a - 1) + 0) 0
-          → x ≡ slot6 (sizesOf (t .sizes)) a h k b y l → x ≡ slotLiteral (slot G g a i y l)
-      unfolding slot
-      slot-rule {h} {k} {b} e p q r u =
-          with-sizes (λ S. slot6 S a h k b y l) u
+      pub slot-rule : {h k b : ℕ} → g ≡ 6 → h ≡ getD hs (a - 1) 0 → k ≡ getD ks (a - 1) 0 → b ≡ getD ss (2 * (a - 1) + 1) 0 - getD ss (2 * (a - 1) + 0) 0
+          → slot G g a i y l ≡ slot6 (sizesOf (t .sizes)) a h k b y l ∷ []
+      unfolding slot groupOf
+      slot-rule {h} {k} {b} e p q r =
+          slot-at 6 e
+          ∙ alone (λ S. slot6 S a (headOf G a) (before G a) (innerCount G a) y l)
+          (ap (λ (S : Sizes). slot6 S a h k b y l) sizes-are
           ∙ ap₂ (λ (h k : ℕ). slot6 (codeSizes G) a h k b y l) (p ∙ elements.head-is G t hs ss bs ks xs ys T a (R .item-some) (rule6 R e)) (q ∙ elements.before-is G t hs ss bs ks xs ys T a (R .item-some) (le-trans (rule6 R e) (omega arith)))
-          ∙ ap (λ (b : ℕ). slot6 (codeSizes G) a (headOf G a) (before G a) b y l) (r ∙ span1 R (rule6 R e) ∙ sym (inner-is a))
-          ∙ slot-at 6 e
+          ∙ ap (λ (b : ℕ). slot6 (codeSizes G) a (headOf G a) (before G a) b y l) (r ∙ span1 R (rule6 R e) ∙ sym (inner-is a)))
 
-      pub slot-last : {x : Literal} → Last g → x ≡ slotLiteral (ofHead (take m hs) a (λ r. t .sizes .n + m + r) l) → x ≡ slotLiteral (slot G g a i y l)
-      slot-last f u =
-          u ∙ head-is (t .sizes .n + m) (foundsVar (codeSizes G)) (λ r. ap (λ (S : Sizes). foundsVar S r) sizes-are) ∙ sym (ap slotLiteral (last-slot G g a i y l f))
+      pub slot-last : Last g → slot G g a i y l ≡ ofHead (take m hs) a (ruleVar (sizesOf (t .sizes)) true) l
+      slot-last f = last-slot G g a i y l f ∙ heads-are true
 
       -- ---- what the calls ask
 
@@ -373,8 +376,8 @@ module _ {G : Code} {t : Totals} {hs ss bs ks xs ys : List ℕ} (T : Tabled G t 
           le-by : {j k u v : ℕ} → j ≡ u → k ≡ v → u ≤ v → j ≤ k
           le-by {j} {k} {u} {v} p q h = subst (λ (x : ℕ). x ≤ k) (sym p) (subst (λ (x : ℕ). u ≤ x) (sym q) h)
 
-      pub supported-asks : g ≡ 2 → m < i → 0 < l → l ≤ slots G g a i y → (t .sizes .n ≤ 626) × (m ≤ 500) × (0 < l) × (l ≤ m + 1)
-      supported-asks e h f n = (le-trans (bounded .atoms) (omega arith), bounded .rules, f, subst (λ (k : ℕ). l ≤ k) (sym (slots-supported e h)) n)
+      pub supported-asks : g ≡ 2 → m < i → 0 < l → l ≤ slots G g a i y → Bounded (t .sizes) × (0 < l) × (l ≤ m + 1)
+      supported-asks e h f n = (bounded, f, subst (λ (k : ℕ). l ≤ k) (sym (slots-supported e h)) n)
 
       pub implied-asks : i ≤ m → Bounded (t .sizes) × (i ≤ 500)
       implied-asks h = (bounded, le-trans h (bounded .rules))
@@ -407,6 +410,5 @@ module _ {G : Code} {t : Totals} {hs ss bs ks xs ys : List ℕ} (T : Tabled G t 
           q′ : k ≡ before G a
           q′ = q ∙ elements.before-is G t hs ss bs ks xs ys T a (R .item-some) (le-trans (rule6 R e) (omega arith))
 
-      pub founded-asks : Last g → 0 < l → l ≤ slots G g a i y → (t .sizes .n + m ≤ 626) × (m ≤ 500) × (0 < l) × (l ≤ m + 1)
-      founded-asks f p n =
-          (omega (arith, bounded .atoms, bounded .rules), bounded .rules, p, subst (λ (k : ℕ). l ≤ k) (sym (slots-last f)) n)
+      pub founded-asks : Last g → 0 < l → l ≤ slots G g a i y → Bounded (t .sizes) × (0 < l) × (l ≤ m + 1)
+      founded-asks f p n = (bounded, p, subst (λ (k : ℕ). l ≤ k) (sym (slots-last f)) n)

@@ -1,6 +1,6 @@
 -- Parts of a list, by where they begin and end.
 -- Assumes nothing.
-use Prim.Native.Nat.{ℕ, _+_, _-_, _≤_, _<_}
+use Prim.Native.Nat.{ℕ, _-_, _≤_, _<_}
 use native.Mathlib.Omega.{arith}
 use mathlib.Core.Path.{_≡_, _∙_, ap, subst, sym}
 use mathlib.Core.List.{List}
@@ -20,16 +20,6 @@ part-length xs b e h k = length-take-le (e - b) (drop b xs) (subst (λ (n : ℕ)
 module _ (xs : List ℕ) {ys : List ℕ} (s : length xs ≡ 500) where
   pub part-slots : (b e y l : ℕ) → ys ≡ take (e - b) (drop b xs) → b ≤ e → e ≤ 500 → l ≤ slots1 (e - b) y → l ≤ slots1 (length ys) y
   part-slots b e y l p h k q = subst (λ (n : ℕ). l ≤ slots1 n y) (sym (ap length p ∙ part-length xs b e h (omega (arith, s, k)))) q
-
-  module _ (m : ℕ) (p : ys ≡ take m xs) (h : m ≤ 500) where
-    pub front-length : length ys ≡ m
-    front-length = ap length p ∙ length-take-le m xs (omega (arith, s, h))
-
-    pub front-fits : length ys ≤ 500
-    front-fits = omega (arith, front-length, h)
-
-    pub front-slots : (l : ℕ) → l ≤ m + 1 → l ≤ length ys + 1
-    front-slots l q = omega (arith, front-length, q)
 
 -- the clauses of a block of group 2, by the tests that the code makes
 module _ (m i a : ℕ) (hs : List ℕ) where

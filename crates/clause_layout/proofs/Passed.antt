@@ -3,15 +3,15 @@
 --   passed                    so it is with what `past_empty` gives
 --   passed-each               the literals of the first r slots are those of the first l
 -- Assumes nothing.
-use Prim.Native.Nat.{ℕ, zero, suc, pred, _+_, _-_, _≤_, _<_}
+use Prim.Native.Nat.{ℕ, zero, suc, _+_, _-_, _≤_, _<_}
 use native.Mathlib.Nat.{le-refl, zero-add, suc-add}
 use native.Mathlib.Omega.{arith}
 use mathlib.Core.Path.{_≡_, refl, sym, _∙_, ap, subst}
 use mathlib.Core.Bool.{Bool, true, false, cond}
 use mathlib.Core.List.{List, [], _++_, append-nil}
 use lib.Dec.{eqb, ltb}
-use lib.ListN.{getD, take}
-use borrow.Author.Tests.{ne-eqb, eqb-true, ltb-true}
+use lib.ListN.{take}
+use borrow.Author.Tests.{eqb-true, ltb-true}
 use Rattle.lists.specs.Lists.{each}
 use Rattle.encoding.specs.Code.{Code, codeSizes}
 use Rattle.encoding.specs.Variables.{bodyVar, foundsVar}
@@ -19,9 +19,10 @@ use Rattle.clause_walk.specs.Walk.{headsOf, slots, slot, ofHead, At}
 use Rattle.clause_tables.specs.declared.Totals.{Totals}
 use Rattle.clause_tables.specs.Tables.{Tabled}
 use Rattle.clause_table_laws.proofs.Elements as elements
-use Rattle.clause_layout.specs.Numbers.{nextHead, pastEmpty}
-use Rattle.clause_layout.proofs.Heads.{next-from, next-in, next-between}
-use Rattle.clause_layout.proofs.Groups.{Last, last-slot, heads-in, slots-last, slots-supported, supported-slot}
+use Rattle.clause_heads.specs.NextHead.{pastOthers, pastEmpty}
+use Rattle.clause_heads.proofs.NextHeads.{next-from, next-in, others-empty}
+use Rattle.clause_walk.proofs.Groups.{Last}
+use Rattle.clause_layout.proofs.Groups.{last-slot, heads-in, slots-last, slots-supported, supported-slot}
 
 -- the numbers from l + 1 to r add nothing
 each-past : {A : Type 0} (f : ℕ → List A) (l r : ℕ) → l ≤ r → ((q : ℕ) → l < q → q ≤ r → f q ≡ []) → each r f ≡ each l f
@@ -37,11 +38,6 @@ each-past {A} f l r h none = ap (λ (n : ℕ). each n f) (sym (whole l r h)) ∙
         ∙ ap (λ (xs : List A). each (d + l) f ++ xs) (none (suc (d + l)) (omega arith) (omega (arith, n))) ∙ append-nil (each (d + l) f)
         ∙ go d (omega (arith, n))
 
--- slots of rules with another head
-others-empty : (hs : List ℕ) (a : ℕ) (v : ℕ → ℕ) (l q : ℕ) → 0 < l → l < q → q ≤ nextHead hs a (l - 1) + 1 → ofHead hs a v q ≡ []
-others-empty hs a v l q p h n =
-    rw (ne-eqb q 1 (λ e. omega (arith, p, h, e)), ne-eqb (getD hs (pred (pred q)) 0) a (next-between hs a (l - 1) (pred (pred q)) (omega (arith, p, h)) (omega (arith, p, h, n))))
-
 pub record Passed (G : Code) (g a i y l r : ℕ) : Type 0 where
   pub on : l ≤ r
   pub within : r ≤ slots G g a i y
@@ -56,12 +52,12 @@ module _ {G : Code} {t : Totals} {hs ss bs ks xs ys : List ℕ} (T : Tabled G t 
 
   -- the slots of groups 2 and 7 that stand for rules
   by-heads : (v : ℕ → ℕ) → m + 1 ≡ slots G g a i y → ((q : ℕ) → slot G g a i y q ≡ ofHead (headsOf G) a v q)
-      → Passed G g a i y l (nextHead (take m hs) a (l - 1) + 1)
+      → Passed G g a i y l (pastOthers (take m hs) a l)
   by-heads v e f =
       record {
         on = omega (arith, next-from (take m hs) a (l - 1));
-        within = subst (λ (k : ℕ). nextHead (take m hs) a (l - 1) + 1 ≤ k) e (omega (arith, next-in hs m a (l - 1) (heads-in T (A .block-at)) (omega (arith, subst (λ (k : ℕ). l ≤ k) (sym e) h))));
-        empty = λ q n k. f q ∙ others-empty (headsOf G) a v l q p n (subst (λ (xs : List ℕ). q ≤ nextHead xs a (l - 1) + 1) (elements.heads-taken G t hs ss bs ks xs ys T) k);
+        within = subst (λ (k : ℕ). pastOthers (take m hs) a l ≤ k) e (omega (arith, next-in hs m a (l - 1) (heads-in T (A .block-at)) (omega (arith, subst (λ (k : ℕ). l ≤ k) (sym e) h))));
+        empty = λ q n k. f q ∙ others-empty (headsOf G) a v l q p n (subst (λ (xs : List ℕ). q ≤ pastOthers xs a l) (elements.heads-taken G t hs ss bs ks xs ys T) k);
       }
 
   stay : Passed G g a i y l l
@@ -82,7 +78,7 @@ module _ {G : Code} {t : Totals} {hs ss bs ks xs ys : List ℕ} (T : Tabled G t 
   passed {r} u = subst (Passed G g a i y l) (sym u) (go (eqb g 7) (eqb g 2) (ltb m i) refl refl refl)
     where
       go : (b c d : Bool) → eqb g 7 ≡ b → eqb g 2 ≡ c → ltb m i ≡ d
-          → Passed G g a i y l (cond b (nextHead (take m hs) a (l - 1) + 1) (cond c (cond d (nextHead (take m hs) a (l - 1) + 1) l) l))
+          → Passed G g a i y l (cond b (pastOthers (take m hs) a l) (cond c (cond d (pastOthers (take m hs) a l) l) l))
       go true c d u v z =
           let f : Last g = last7 (eqb-true g 7 u) in by-heads (foundsVar (codeSizes G)) (slots-last T A f) (λ q. last-slot G g a i y q f)
       go false true true u v z =

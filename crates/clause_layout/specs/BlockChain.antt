@@ -1,13 +1,10 @@
--- The variables of a block's chain.
---   chainOfBlock G g a i   in group 5 those of block i of pair a, else none
+-- The variables of a chain's bit, by its place in the walk.
+--   chainOfBlock G k i   those of block i of pair k
 -- Assumes nothing.
 use Prim.Native.Nat.{ℕ}
-use mathlib.Core.Bool.{cond}
-use lib.Dec.{eqb}
 use Rattle.encoding.specs.Code.{Code, codeSizes, pairBody, pairHead}
-use Rattle.clause_slots.specs.declared.Chain.{Chain}
-use Rattle.clause_slots.specs.Chain.{chainWith, chainOf}
+use Rattle.clause_chains.specs.declared.Chain.{Chain}
+use Rattle.clause_chains.specs.Chain.{chainOf}
 
-unfoldable pub chainOfBlock : Code → ℕ → ℕ → ℕ → Chain
-chainOfBlock G g a i =
-    cond (eqb g 5) (chainOf (codeSizes G) a (pairBody G a) (pairHead G a) i) (chainWith 0 0 0 0)
+unfoldable pub chainOfBlock : Code → ℕ → ℕ → Chain
+chainOfBlock G k i = chainOf (codeSizes G) k (pairBody G k) (pairHead G k) i

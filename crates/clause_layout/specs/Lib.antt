@@ -1,4 +1,4 @@
--- Numbers: numbers of items, blocks, clauses and slots, from the totals and the heads
--- BlockChain: the variables of a block's chain
+-- Numbers: numbers of items, blocks and clauses, from the totals and the heads
+-- BlockChain: the variables of a chain's bit
 pub mod Numbers
 pub mod BlockChain

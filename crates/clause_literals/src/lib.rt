@@ -1,10 +1,13 @@
 // Literals as signed 32-bit numbers, the width, and the numbers of the variables (document 01, "Variables" and "Which places take which form").
 // Only these functions compute with an i32; other crates pass it on.
 use numbers::Atom;
+use numbers::Pair;
 use numbers::Rule;
 use numbers::Var;
 ghost use Prim.Native.Nat.{_^_, _≤_, _<_};
 ghost use mathlib.Core.Path.{_≡_};
+ghost use mathlib.Core.Bool.{cond};
+ghost use lib.Dec.{eqb};
 ghost use lib.IntN.{negℤ, natAbs};
 ghost use Rattle.encoding.specs.Literal.{literalNumber, var, −_};
 ghost use Rattle.encoding.specs.Width.{width};
@@ -32,6 +35,38 @@ pub fn negated(v: Var) -> i32
     ensures { λ r. ⌜ r ≡ literalNumber (− (v .0)) ⌝ }
 {
     negate(literal(v))
+}
+
+// Variable v as a literal, negated if it is not to stand positive.
+pub fn with_sign(positive: bool, v: Var) -> i32
+    ensures { λ r. ⌜ r ≡ literalNumber (cond positive (var (v .0)) (− (v .0))) ⌝ }
+{
+    if positive {
+        return literal(v);
+    }
+    negated(v)
+}
+
+// The literal in slot l of a clause of two literals, and of three.
+pub fn of_two(x: i32, y: i32, l: u16) -> i32
+    ensures { λ r. ⌜ r ≡ cond (eqb l 1) x y ⌝ }
+{
+    if l == 1 {
+        return x;
+    }
+    y
+}
+
+pub fn of_three(x: i32, y: i32, z: i32, l: u16) -> i32
+    ensures { λ r. ⌜ r ≡ cond (eqb l 1) x (cond (eqb l 2) y z) ⌝ }
+{
+    if l == 1 {
+        return x;
+    }
+    if l == 2 {
+        return y;
+    }
+    z
 }
 
 // The sign of a literal.
@@ -99,17 +134,17 @@ pub fn next_var(s: Sizes, a: Atom, i: u16) -> Var
 }
 
 // p(k,i): pair k, level below, at bit i.
-pub fn below_var(s: Sizes, k: u16, i: u16) -> Var
-    requires { ⌜ (Bounded s) × (0 < k) × (k ≤ 500) × (i ≤ 7) ⌝ }
-    ensures { λ v. ⌜ v .0 ≡ belowVar (sizesOf s) k i ⌝ }
+pub fn below_var(s: Sizes, k: Pair, i: u16) -> Var
+    requires { ⌜ (Bounded s) × (0 < k .0) × (k .0 ≤ 500) × (i ≤ 7) ⌝ }
+    ensures { λ v. ⌜ v .0 ≡ belowVar (sizesOf s) (k .0) i ⌝ }
 {
-    Var(s.n + 2 * s.m + 2 * s.n * s.w + 2 * (k - 1) * s.w + i)
+    Var(s.n + 2 * s.m + 2 * s.n * s.w + 2 * (k.0 - 1) * s.w + i)
 }
 
 // q(k,i): pair k, next below, at bit i; w more than p(k,i).
-pub fn next_below_var(s: Sizes, k: u16, i: u16) -> Var
-    requires { ⌜ (Bounded s) × (0 < k) × (k ≤ 500) × (i ≤ 7) ⌝ }
-    ensures { λ v. ⌜ v .0 ≡ nextBelowVar (sizesOf s) k i ⌝ }
+pub fn next_below_var(s: Sizes, k: Pair, i: u16) -> Var
+    requires { ⌜ (Bounded s) × (0 < k .0) × (k .0 ≤ 500) × (i ≤ 7) ⌝ }
+    ensures { λ v. ⌜ v .0 ≡ nextBelowVar (sizesOf s) (k .0) i ⌝ }
 {
     let w = s.w;
     let p = below_var(s, k, i);

@@ -17,9 +17,10 @@ use Rattle.lists.proofs.Tests.{le-or-lt}
 use Rattle.clause_walk.specs.Walk.{blockCount, size, BlockAt}
 use Rattle.clause_tables.specs.declared.Totals.{Totals}
 use Rattle.clause_tables.specs.Tables.{Tabled}
-use Rattle.clause_layout.specs.Numbers.{blocksOf, impliedSize, nextHead}
+use Rattle.clause_layout.specs.Numbers.{blocksOf, impliedSize}
+use Rattle.clause_heads.specs.NextHead.{nextHead}
 use Rattle.clause_layout.proofs.Parts.{implied-past, implied-own, implied-other}
-use Rattle.clause_layout.proofs.Heads.{next-from, next-in, next-at, next-between}
+use Rattle.clause_heads.proofs.NextHeads.{next-from, next-in, next-at, next-between}
 use Rattle.clause_layout.proofs.Groups.{heads-in, size-implied}
 use Rattle.clause_places.specs.declared.Coordinates.{Coordinates}
 use Rattle.clause_places.specs.Places.{coordinates, blockCoordinates}

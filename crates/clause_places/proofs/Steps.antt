@@ -15,6 +15,7 @@ use lib.ListN.{length}
 use borrow.Author.Tests.{lt-ltb, le-ltb, ltb-true, ltb-false}
 use Rattle.lists.proofs.Tests.{le-or-lt}
 use Rattle.clause_walk.specs.Walk.{itemCount, blockCount, size, BlockAt}
+use Rattle.clause_walk.proofs.Groups.{items-by, blocks-by}
 use Rattle.clause_tables.specs.declared.Totals.{Totals}
 use Rattle.clause_tables.specs.Tables.{Tabled}
 use Rattle.clause_table_laws.proofs.Elements.{rules-are, atoms-are, pairs-are, width-are}
@@ -93,15 +94,15 @@ module _ (c : Coordinates) where
 
 module _ {G : Code} {t : Totals} {hs ss bs ks xs ys : List ℕ} (T : Tabled G t hs ss bs ks xs ys) where
   pub items-is : (g : ℕ) → itemsOf t g ≡ itemCount G g
-  unfolding itemCount
   items-is g =
       ap₂ (λ (m k : ℕ). cond (eqb g 1) m (cond (eqb g 5) k (cond (eqb g 6) m (t .sizes .n)))) (rules-are G t hs ss bs ks xs ys T) (pairs-are G t hs ss bs ks xs ys T)
       ∙ ap (λ (n : ℕ). cond (eqb g 1) (length (G .rules)) (cond (eqb g 5) (pairTotal G) (cond (eqb g 6) (length (G .rules)) n))) (atoms-are G t hs ss bs ks xs ys T)
+      ∙ sym (items-by G g)
 
   pub blocks-is : (g : ℕ) → blocksOf (t .sizes) g ≡ blockCount G g
-  unfolding blockCount
   blocks-is g =
       ap₂ (λ (m w : ℕ). cond (eqb g 2) (suc m) (cond (eqb g 4) w (cond (eqb g 5) (w + w) 1))) (rules-are G t hs ss bs ks xs ys T) (width-are G t hs ss bs ks xs ys T)
+      ∙ sym (blocks-by G g)
 
   module _ {c : Coordinates} (I : In G c) where
     item-fits : c .item + c .items ≤ 500

@@ -15,8 +15,8 @@ use mathlib.Core.List.{List, [], _∷_, _++_}
 use lib.Dec.{ltb}
 use lib.ListN.{getD, take}
 use Rattle.encoding.specs.Code.{Code}
-use Rattle.clause_walk.specs.Walk.{itemCount, blockCount, size}
-use Rattle.clause_layout.specs.Numbers.{nextHead}
+use Rattle.clause_walk.specs.Walk.{itemCount, blockCount, size, groupCount}
+use Rattle.clause_heads.specs.NextHead.{nextHead}
 use Rattle.clause_places.specs.declared.Coordinates.{Coordinates}
 use Rattle.clause_places.specs.Places.{coordinates, blockCoordinates, itemCoordinates, groupCoordinates, past}
 
@@ -27,7 +27,7 @@ after (suc d) k f = f k ++ after d (suc k) f
 module _ (G : Code) where
   -- the groups after g; with the items after a before them; with the blocks after i; with the clauses after y
   abbrev pub groupsAhead : ℕ → List Coordinates
-  groupsAhead g = after (7 - g) (suc g) (groupCoordinates G)
+  groupsAhead g = after (groupCount - g) (suc g) (groupCoordinates G)
 
   abbrev pub itemsAhead : ℕ → ℕ → ℕ → List Coordinates
   itemsAhead g a items = after items (suc a) (itemCoordinates G g) ++ groupsAhead g
@@ -43,7 +43,7 @@ module _ (G : Code) where
 
   pub record In (c : Coordinates) : Type 0 where
     pub group-some : 0 < c .group
-    pub group-in : c .group ≤ 7
+    pub group-in : c .group ≤ groupCount
     pub items-are : c .item + c .items ≡ itemCount G (c .group)
     pub blocks-are : 0 < c .blocks + c .clauses → (0 < c .item) × (c .block + c .blocks ≡ blockCount G (c .group))
     pub clauses-are : 0 < c .clauses → (0 < c .block) × (c .clause + c .clauses ≡ size G (c .group) (c .item) (c .block))
@@ -52,7 +52,7 @@ abbrev pub firstOf : List Coordinates → Coordinates
 firstOf cs = getD cs 0 past
 
 abbrev pub isOver : Coordinates → Bool
-isOver c = cond (ltb 0 (c .blocks)) false (cond (ltb 0 (c .items)) false (ltb 6 (c .group)))
+isOver c = cond (ltb 0 (c .blocks)) false (cond (ltb 0 (c .items)) false (ltb (groupCount - 1) (c .group)))
 
 abbrev pub headBlock : ℕ → List ℕ → Coordinates → Coordinates
 headBlock m hs c =
@@ -60,7 +60,7 @@ headBlock m hs c =
     record { group = c .group; item = c .item; block = j + 1; clause = 0; clauses = 1; blocks = m - j; items = c .items }
 
 abbrev pub stepsLeft : Coordinates → ℕ
-stepsLeft c = (7 - c .group) * 400000 + c .items * 600 + c .blocks
+stepsLeft c = (groupCount - c .group) * 400000 + c .items * 600 + c .blocks
 
 pub record Onward (G : Code) (c d : Coordinates) : Type 0 where
   pub same : ahead G d ≡ ahead G c

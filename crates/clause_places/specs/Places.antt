@@ -5,13 +5,13 @@
 --   clauseIn G c            the clause that stands at c
 --   furtherBlock c k          the place of the first clause of the next block of c's item, which has k clauses
 -- Assumes nothing.
-use Prim.Native.Nat.{ℕ, _+_, _-_}
+use Prim.Native.Nat.{ℕ, suc, _+_, _-_}
 use mathlib.Core.List.{List, _∷_}
 use lib.ListN.{getD}
 use Rattle.lists.specs.Lists.{tab, each}
 use Rattle.encoding.specs.Code.{Code}
 use Rattle.encoding.specs.Literal.{Clause}
-use Rattle.clause_walk.specs.Walk.{itemCount, blockCount, size, clauseAt}
+use Rattle.clause_walk.specs.Walk.{itemCount, blockCount, size, clauseAt, groupCount}
 use Rattle.clause_places.specs.declared.Coordinates.{Coordinates}
 use Rattle.clause_places.specs.declared.Place.{Place}
 
@@ -37,14 +37,14 @@ abbrev pub groupCoordinates : Code → ℕ → List Coordinates
 groupCoordinates G g = each (itemCount G g) (itemCoordinates G g)
 
 unfoldable pub allCoordinates : Code → List Coordinates
-allCoordinates G = each 7 (groupCoordinates G)
+allCoordinates G = each groupCount (groupCoordinates G)
 
 -- before the first item of group g
 abbrev pub groupStart : Code → ℕ → Coordinates
 groupStart G g = record { group = g; item = 0; block = 0; clause = 0; clauses = 0; blocks = 0; items = itemCount G g }
 
 abbrev pub past : Coordinates
-past = record { group = 8; item = 0; block = 0; clause = 0; clauses = 0; blocks = 0; items = 0 }
+past = record { group = suc groupCount; item = 0; block = 0; clause = 0; clauses = 0; blocks = 0; items = 0 }
 
 unfoldable pub coordinatesAt : Code → ℕ → Coordinates
 coordinatesAt G j = getD (groupStart G 1 ∷ allCoordinates G) j past

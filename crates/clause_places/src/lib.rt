@@ -1,9 +1,10 @@
 // The walk of the clause list from clause to clause.
 use clause_cells::heads;
 use clause_cells::totals;
+use clause_heads::next_head;
+use clause_layout::GROUPS;
 use clause_layout::block_count;
 use clause_layout::items;
-use clause_layout::next_head;
 use clause_layout::size;
 use numbers::Atom;
 ghost use Prim.Native.Nat.{suc, _+_, _≤_, _<_};
@@ -12,6 +13,11 @@ ghost use mathlib.Core.Bool.{false};
 ghost use Rattle.clause_tables.specs.Tables.{Ready, codeIn, clausesIn, headsIn};
 ghost use Rattle.clause_places.specs.Places.{placeAt, furtherBlock};
 ghost use Rattle.clause_places.specs.Ahead.{ahead, firstOf, In, isOver, headBlock, Onward};
+
+// The last group but one, and the number after the last one.
+const LAST_BUT_ONE: u16 = GROUPS - 1;
+
+const PAST: u16 = GROUPS + 1;
 
 // A clause's group, item, block and number in its block, and how many clauses follow in the block, blocks in the item and items in the group.
 pub struct Coordinates {
@@ -55,7 +61,7 @@ fn is_over(c: Coordinates) -> bool
     if 0 < c.items {
         return false;
     }
-    6 < c.group
+    LAST_BUT_ONE < c.group
 }
 
 // Group 2: the next block of the item, an atom, that holds a clause: that of the next rule with this head, or the last block.
@@ -120,7 +126,7 @@ fn next_coordinates(table: &[u16], c: Coordinates) -> Coordinates
     let mut at = c;
     while at.clauses == 0 {
         if is_over(at) {
-            return group_start(8, 0);
+            return group_start(PAST, 0);
         }
         at = step(table, at);
     }

@@ -8,8 +8,8 @@ use Prim.Native.Nat.{ℕ, zero, suc, pred, _≤_, _<_, _^_}
 use native.Mathlib.Nat.{not-suc-le-zero, le-trans, pos-of-ne-zero}
 use native.Mathlib.Omega.{arith}
 use mathlib.Core.Path.{_≡_, sym, _∙_, ap, ap₂, subst}
-use mathlib.Core.List.{List, [], _++_}
-use lib.ListN.{length, getD, drop, length-map}
+use mathlib.Core.List.{List, []}
+use lib.ListN.{length, getD, length-map}
 use lib.Dec.{leb}
 use mathlib.Core.Bool.{true}
 use borrow.Author.Tests.{le-leb}
@@ -22,8 +22,8 @@ use Rattle.clause_tables.specs.declared.Totals.{Totals}
 use Rattle.clause_tables.specs.Tables.{Tabled}
 use Rattle.clause_table_laws.proofs.Elements.{vars-are, clauses-are}
 use Rattle.clause_table_laws.proofs.Bounds.{lines-fit, vars-short, clauses-short}
-use Rattle.clause_text.specs.Lines.{headerText}
-use Rattle.clause_text.proofs.Parts.{header-small, header-length}
+use Rattle.fixed_lines.specs.Lines.{headerText}
+use Rattle.fixed_lines.proofs.Parts.{header-small, header-length}
 use Rattle.clause_places.specs.declared.Place.{Place}
 use Rattle.clause_places.specs.Places.{placeAt}
 use Rattle.clause_places.proofs.Numbers.{placed-clause, clauses-many}
@@ -76,13 +76,6 @@ module _ {G : Code} {t : Totals} {hs ss bs ks xs ys : List ℕ} (T : Tabled G t 
 
 pub some-number : {n : ℕ} → (n ≡ 0 → ⊥) → 0 < n
 some-number f = pos-of-ne-zero f
-
-pub line-in-room : {l m : List ℕ} {n : ℕ} → l ≡ m → length m ≤ n → length l ≤ n
-line-in-room {l} {m} {n} e h = subst (λ (x : List ℕ). length x ≤ n) (sym e) h
-
--- a buffer that begins with l, where l is m
-pub as-line : (b : List ℕ) {l m c : List ℕ} {r : ℕ} → l ≡ m → r ≡ length l → c ≡ l ++ drop r b → (r ≡ length m) × (c ≡ m ++ drop r b)
-as-line b {l} {m} {c} {r} e p q = (p ∙ ap length e, q ∙ ap (λ (x : List ℕ). x ++ drop r b) e)
 
 pub header-line : {G : Code} {t : Totals} {hs ss bs ks xs ys : List ℕ} → Tabled G t hs ss bs ks xs ys → {n : ℕ} → n ≡ 0 → headerText (t .vars) (t .clauses) ≡ codeLine G n
 header-line {G} T e = header-is T ∙ ap (codeLine G) (sym e)

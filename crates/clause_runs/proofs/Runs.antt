@@ -21,7 +21,9 @@ use lib.Seq.{take-add, take-suc, drop-cons, drop-drop}
 use borrow.Author.Tests.{le-leb, lt-leb, leb-true, leb-false}
 use borrow.Rule.Slice.PartMut.{putMid}
 use Rattle.lists.specs.Lists.{joined}
-use Rattle.digits.proofs.Tail.{grow, tail-length}
+use Rattle.digits.specs.Bytes.{Wrote}
+use Rattle.digits.proofs.Tail.{tail-length}
+use Rattle.digits.proofs.Wrote.{wrote-none, wrote-as, wrote-kept, wrote-after}
 use Rattle.clause_tables.specs.declared.Totals.{Totals}
 use Rattle.clause_tables.specs.Tables.{Tabled}
 use Rattle.clause_places.specs.declared.Place.{Place}
@@ -74,8 +76,7 @@ module _ (all : List (List ℕ)) (j : ℕ) (b₀ : List ℕ) where
     pub number-is : n ≡ j + lines
     pub in-room : to ≤ length b₀
     pub same-length : length b ≡ length b₀
-    pub bytes-are : to ≡ length (joined (take lines ls))
-    pub text-is : b ≡ joined (take lines ls) ++ drop to b₀
+    pub wrote : Wrote (joined (take lines ls)) b₀ b to
     pub fits-are : fitting (length b₀) ls ≡ lines + fitting (length b₀ - to) (drop n all)
 
   pub begun : Going j 0 0 b₀
@@ -84,8 +85,7 @@ module _ (all : List (List ℕ)) (j : ℕ) (b₀ : List ℕ) where
         number-is = sym (add-zero j);
         in-room = omega arith;
         same-length = refl;
-        bytes-are = refl;
-        text-is = refl;
+        wrote = wrote-none b₀;
         fits-are = sym (zero-add (fitting (length b₀ - 0) (drop j all)) ∙ ap (λ (k : ℕ). fitting k (drop j all)) (less (length b₀)));
       }
     where
@@ -109,25 +109,22 @@ module _ (all : List (List ℕ)) (j : ℕ) (b₀ : List ℕ) where
 
   module _ {n lines to : ℕ} {b : List ℕ} (G : Going n lines to b) where
     -- after m lines more
-    pub goes-on : (m : ℕ) {r : ℕ} {l : List ℕ} → n + m ≤ length all → r ≤ length b - to → r ≡ length (joined (take m (drop n all)))
-        → l ≡ joined (take m (drop n all)) ++ drop r (take (length b - to) (drop to b))
+    pub goes-on : (m : ℕ) {r : ℕ} {l : List ℕ} → n + m ≤ length all → r ≤ length b - to → Wrote (joined (take m (drop n all))) (take (length b - to) (drop to b)) l r
         → Going (n + m) (lines + m) (to + r) (putMid to (length b - to) b l)
-    goes-on m {r} {l} h f e q =
+    goes-on m {r} {l} h f X =
         record {
           number-is = omega (arith, G .number-is);
           in-room = omega (arith, f, G .same-length, G .in-room);
-          same-length = ap length new-text ∙ length-append (joined (take lines ls) ++ joined (take m (drop n all))) (drop (to + r) b₀)
-              ∙ ap₂ (λ (x y : ℕ). x + y) new-length (length-drop (to + r) b₀) ∙ omega (arith, f, G .same-length, G .in-room);
-          bytes-are = sym new-length ∙ sym (ap length next-lines);
-          text-is = new-text ∙ ap (λ (x : List ℕ). x ++ drop (to + r) b₀) (sym next-lines);
+          same-length = wrote-kept more (omega (arith, more .count, f, G .same-length, G .in-room));
+          wrote = wrote-as (sym next-lines) more;
           fits-are = G .fits-are ∙ ap (λ (k : ℕ). lines + k) fits-next ∙ again lines m (fitting (length b₀ - (to + r)) (drop (n + m) all));
         }
       where
-        new-text : putMid to (length b - to) b l ≡ (joined (take lines ls) ++ joined (take m (drop n all))) ++ drop (to + r) b₀
-        new-text = grow to r b₀ b (joined (take lines ls)) (joined (take m (drop n all))) l (sym (G .bytes-are)) (G .text-is) q
+        more : Wrote (joined (take lines ls) ++ joined (take m (drop n all))) b₀ (putMid to (length b - to) b l) (to + r)
+        more = wrote-after (G .wrote) (joined (take m (drop n all))) X
 
-        new-length : length (joined (take lines ls) ++ joined (take m (drop n all))) ≡ to + r
-        new-length = length-append (joined (take lines ls)) (joined (take m (drop n all))) ∙ ap₂ (λ (x y : ℕ). x + y) (sym (G .bytes-are)) (sym e)
+        e : r ≡ length (joined (take m (drop n all)))
+        e = X .count
 
         next-lines : joined (take (lines + m) ls) ≡ joined (take lines ls) ++ joined (take m (drop n all))
         next-lines =
@@ -152,10 +149,10 @@ module _ (all : List (List ℕ)) (j : ℕ) (b₀ : List ℕ) where
 
     -- what is written, once it is known how many lines fit
     pub written : lines ≡ fitting (length b₀) ls → b ≡ joined (take (fitting (length b₀) ls) ls) ++ drop (length (joined (take (fitting (length b₀) ls) ls))) b₀
-    written e = G .text-is ∙ ap₂ (λ (k x : ℕ). joined (take k ls) ++ drop x b₀) e (G .bytes-are ∙ ap (λ (k : ℕ). length (joined (take k ls))) e)
+    written e = G .wrote .bytes ∙ ap₂ (λ (k x : ℕ). joined (take k ls) ++ drop x b₀) e (G .wrote .count ∙ ap (λ (k : ℕ). length (joined (take k ls))) e)
 
     pub written-bytes : lines ≡ fitting (length b₀) ls → to ≡ length (joined (take (fitting (length b₀) ls) ls))
-    written-bytes e = G .bytes-are ∙ ap (λ (k : ℕ). length (joined (take k ls))) e
+    written-bytes e = G .wrote .count ∙ ap (λ (k : ℕ). length (joined (take k ls))) e
 
 -- ---- of a code whose tables are given, at place `at`
 
@@ -198,7 +195,7 @@ module _ {G : Code} {t : Totals} {hs ss bs ks xs ys : List ℕ} (T : Tabled G t 
       module _ {q : RunPart} {l : List ℕ} (u : Taken G (at .number) q (take (length b - to) (drop to b)) l) where
         onward : Going (codeLines G) j b₀ (at .number + q .lines) (lines + q .lines) (to + q .bytes) (putMid to (length b - to) b l)
         onward =
-            goes-on (codeLines G) j b₀ N (q .lines) (u .listed) (subst (λ (k : ℕ). q .bytes ≤ k) (tail-length b to) (u .in-room)) (u .bytes-are) (u .text-is)
+            goes-on (codeLines G) j b₀ N (q .lines) (u .listed) (subst (λ (k : ℕ). q .bytes ≤ k) (tail-length b to) (u .in-room)) (u .wrote)
 
         pub sum-fits : to + q .bytes ≤ length b₀
         sum-fits = onward .in-room

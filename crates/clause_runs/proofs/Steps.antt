@@ -15,7 +15,8 @@ use lib.Seq.{drop-cons, getD-drop}
 use Rattle.encoding.specs.Code.{Code}
 use Rattle.lists.specs.Lists.{each, joined}
 use Rattle.lists.proofs.Tables.{each-ext}
-use Rattle.digits.specs.Bytes.{lineText}
+use Rattle.digits.specs.Bytes.{lineText, Room, Wrote}
+use Rattle.digits.proofs.Wrote.{wrote-as}
 use Rattle.clause_walk.specs.Walk.{size, clauseAt, BlockAt}
 use Rattle.clause_tables.specs.declared.Totals.{Totals}
 use Rattle.clause_tables.specs.Tables.{Tabled}
@@ -46,16 +47,15 @@ module _ {G : Code} {t : Totals} {hs ss bs ks xs ys : List ℕ} (T : Tabled G t 
       ap (λ (ls : List (List ℕ)). joined (take 1 ls)) (drop-cons (codeLines G) (c .number) [] (subst (λ (m : ℕ). c .number < m) (sym (lines-count T)) (omega (arith, h))))
       ∙ append-nil (codeLine G (c .number))
 
-  pub one-taken : (b : List ℕ) {r : ℕ} {l : List ℕ} {d : Place} → length (codeLine G (c .number)) ≤ length b
-      → (r ≡ length (codeLine G (c .number))) × (l ≡ codeLine G (c .number) ++ drop r b) → d ≡ placeAt G (suc (c .number))
+  pub one-taken : (b : List ℕ) {r : ℕ} {l : List ℕ} {d : Place} → Room (codeLine G (c .number)) b
+      → Wrote (codeLine G (c .number)) b l r → d ≡ placeAt G (suc (c .number))
       → Taken G (c .number) (record { lines = 1; bytes = r; place = d }) b l
   one-taken b {r} {l} {d} f u v =
       record {
         some = omega arith;
         listed = omega (arith, h, lines-count T);
-        in-room = omega (arith, f, u .0);
-        bytes-are = u .0 ∙ sym (ap length one-line);
-        text-is = u .1 ∙ ap (λ (x : List ℕ). x ++ drop r b) (sym one-line);
+        in-room = omega (arith, f, u .count);
+        wrote = wrote-as (sym one-line) u;
         place-is = v ∙ ap (placeAt G) (sym (add-one (c .number)));
       }
 
@@ -95,16 +95,15 @@ module _ {G : Code} {t : Totals} {hs ss bs ks xs ys : List ℕ} (T : Tabled G t 
           ∙ ap (λ (n : ℕ). each n (λ y. lineText (clauseAt G (c .coordinates .group) (c .coordinates .item) (c .coordinates .block) y))) size-is
 
       pub block-taken : (b : List ℕ) {r : ℕ} {x : List ℕ} {f : Place} → isBlockwise (c .coordinates .group) ≡ true → 3008 ≤ length b
-          → (r ≡ length (blockText G (c .coordinates .group) (c .coordinates .item) (c .coordinates .block))) × (x ≡ blockText G (c .coordinates .group) (c .coordinates .item) (c .coordinates .block) ++ drop r b)
+          → Wrote (blockText G (c .coordinates .group) (c .coordinates .item) (c .coordinates .block)) b x r
           → f ≡ placeAt G (suc (c .number + c .coordinates .clauses))
           → Taken G (c .number) (record { lines = c .coordinates .clauses + 1; bytes = r; place = f }) b x
       block-taken b {r} {x} {f} g k u q =
           record {
             some = omega arith;
             listed = listed;
-            in-room = omega (arith, u .0, block-asks g k .2);
-            bytes-are = u .0 ∙ sym (ap length block-lines);
-            text-is = u .1 ∙ ap (λ (y : List ℕ). y ++ drop r b) (sym block-lines);
+            in-room = omega (arith, u .count, block-asks g k .2);
+            wrote = wrote-as (sym block-lines) u;
             place-is = q ∙ ap (placeAt G) (more (c .number) (c .coordinates .clauses));
           }
         where

@@ -16,7 +16,7 @@ use Rattle.lists.specs.Lists.{joined}
 use Rattle.meaning.specs.Program.{Program}
 use Rattle.encoding.specs.Code.{Code, codeOf, clausesOf, variablesOf, clauseTotalOf}
 use Rattle.digits.specs.Bytes.{lineText}
-use Rattle.clause_text.specs.Lines.{headerText}
+use Rattle.fixed_lines.specs.Lines.{headerText}
 use Rattle.clause_places.specs.Places.{placeAt}
 use Rattle.clause_runs.specs.declared.RunPart.{RunPart}
 

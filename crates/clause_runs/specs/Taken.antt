@@ -3,10 +3,11 @@
 -- Assumes nothing.
 use Prim.Native.Nat.{ℕ, _+_, _≤_, _<_}
 use mathlib.Core.Path.{_≡_}
-use mathlib.Core.List.{List, _++_}
+use mathlib.Core.List.{List}
 use lib.ListN.{length, take, drop}
 use Rattle.encoding.specs.Code.{Code}
 use Rattle.lists.specs.Lists.{joined}
+use Rattle.digits.specs.Bytes.{Wrote}
 use Rattle.clause_places.specs.Places.{placeAt}
 use Rattle.clause_runs.specs.declared.RunPart.{RunPart}
 use Rattle.clause_runs.specs.Lines.{codeLines}
@@ -15,6 +16,5 @@ pub record Taken (G : Code) (n : ℕ) (r : RunPart) (b c : List ℕ) : Type 0 wh
   pub some : 0 < r .lines
   pub listed : n + r .lines ≤ length (codeLines G)
   pub in-room : r .bytes ≤ length b
-  pub bytes-are : r .bytes ≡ length (joined (take (r .lines) (drop n (codeLines G))))
-  pub text-is : c ≡ joined (take (r .lines) (drop n (codeLines G))) ++ drop (r .bytes) b
+  pub wrote : Wrote (joined (take (r .lines) (drop n (codeLines G)))) b c (r .bytes)
   pub place-is : r .place ≡ placeAt G (n + r .lines)

@@ -7,16 +7,16 @@ use clause_places::further_block;
 use clause_places::next;
 use clause_places::past_block;
 use clause_text::clause_length;
-use clause_text::header_length;
 use clause_text::is_blockwise;
 use clause_text::put_clause;
-use clause_text::put_header;
+use fixed_lines::header_length;
+use fixed_lines::put_header;
 ghost use Prim.Native.Nat.{suc, _+_, _≤_};
 ghost use mathlib.Core.Path.{_≡_};
 ghost use mathlib.Core.Bool.{true};
-ghost use mathlib.Core.List.{_++_};
 ghost use lib.Dec.{leb};
-ghost use lib.ListN.{length, drop};
+ghost use lib.ListN.{length};
+ghost use Rattle.digits.specs.Bytes.{Room, Wrote};
 ghost use Rattle.clause_tables.specs.Tables.{Ready, codeIn, clausesIn};
 ghost use Rattle.clause_places.specs.Places.{placeAt};
 ghost use Rattle.clause_text.specs.Blocks.{isBlockwise};
@@ -46,9 +46,8 @@ pub fn line_length(table: &[u16], c: Place) -> usize
 // Writes the line at place c at the front of the buffer and returns its length.
 pub fn put_line(table: &[u16], c: Place, buf: &mut [u8]) -> usize
     requires { ⌜ (Ready (now table)) × (c ≡ placeAt (codeIn (now table)) (c .number)) × (c .number ≤ clausesIn (now table))
-        × (length (codeLine (codeIn (now table)) (c .number)) ≤ length (now buf)) ⌝ }
-    ensures { λ r. ⌜ (r ≡ length (codeLine (codeIn (now (table .entry))) (c .number)))
-        × (now (buf .exit) ≡ codeLine (codeIn (now (table .entry))) (c .number) ++ drop r (now (buf .entry))) ⌝ }
+        × (Room (codeLine (codeIn (now table)) (c .number)) (now buf)) ⌝ }
+    ensures { λ r. ⌜ Wrote (codeLine (codeIn (now (table .entry))) (c .number)) (now (buf .entry)) (now (buf .exit)) r ⌝ }
 {
     let t = totals(table);
     if c.number == 0 {
@@ -103,7 +102,7 @@ fn put_whole_block(table: &[u16], c: Place, buf: &mut [u8]) -> RunPart
 // Writes the line at place c.
 fn put_one(table: &[u16], c: Place, buf: &mut [u8]) -> RunPart
     requires { ⌜ (Ready (now table)) × (c ≡ placeAt (codeIn (now table)) (c .number)) × (c .number ≤ clausesIn (now table))
-        × (length (codeLine (codeIn (now table)) (c .number)) ≤ length (now buf)) ⌝ }
+        × (Room (codeLine (codeIn (now table)) (c .number)) (now buf)) ⌝ }
     ensures { λ r. ⌜ Taken (codeIn (now (table .entry))) (c .number) r (now (buf .entry)) (now (buf .exit)) ⌝ }
 {
     let bytes = put_line(table, c, &mut *buf);
@@ -117,7 +116,7 @@ fn put_one(table: &[u16], c: Place, buf: &mut [u8]) -> RunPart
 // Writes the line at place c, which fits, or the lines of the whole block that begins there.
 fn put_some(table: &[u16], c: Place, buf: &mut [u8]) -> RunPart
     requires { ⌜ (Ready (now table)) × (c ≡ placeAt (codeIn (now table)) (c .number)) × (c .number ≤ clausesIn (now table))
-        × (length (codeLine (codeIn (now table)) (c .number)) ≤ length (now buf)) ⌝ }
+        × (Room (codeLine (codeIn (now table)) (c .number)) (now buf)) ⌝ }
     ensures { λ r. ⌜ Taken (codeIn (now (table .entry))) (c .number) r (now (buf .entry)) (now (buf .exit)) ⌝ }
 {
     if 3008 <= buf.len() {

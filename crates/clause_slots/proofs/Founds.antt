@@ -2,7 +2,7 @@
 -- Assumes nothing.
 use Prim.Native.Nat.{ℕ, suc, pred, _+_, _-_, _≤_, _<_}
 use native.Mathlib.Omega.{arith}
-use mathlib.Core.Path.{_≡_, _∙_}
+use mathlib.Core.Path.{_≡_, _∙_, ap}
 use mathlib.Core.Bool.{true, false}
 use lib.Dec.{eqb, leb}
 use borrow.Author.Tests.{eq-eqb, ne-eqb, le-leb, lt-leb}
@@ -52,3 +52,7 @@ module _ (S : Sizes) (r h k b y l : ℕ) where
 
 pub bit-fits : (w b y : ℕ) → b ≡ 0 → y ≤ size6 w b → y ≤ w + 2
 bit-fits w b y e q = let a : y ≤ suc (suc w) = (rw (eq-eqb b 0 e) at q) in omega (arith, a)
+
+-- pair l − 1 after k others, as the code counts
+pub next-after : (S : Sizes) (k l : ℕ) {x : ℕ} → x ≡ nextBelowVar S (k + (l - 1)) (S .w) → x ≡ nextBelowVar S (k + pred l) (S .w)
+next-after S k l p = p ∙ ap (λ (j : ℕ). nextBelowVar S (k + j) (S .w)) (one-before l)

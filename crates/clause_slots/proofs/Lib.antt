@@ -1,5 +1,3 @@
--- Picks: the literal picked of two, and of three
-pub mod Picks
 -- Next: the slots of group 4
 pub mod Next
 -- Founds: the slots of group 6
@@ -10,5 +8,3 @@ pub mod Body
 pub mod Heads
 -- Counts: sizes of blocks, and numbers of slots
 pub mod Counts
--- Chains: the slots of group 5
-pub mod Chains

@@ -1,4 +1,2 @@
--- Signed: a variable with its sign
--- Chain: the variables of a bit of a chain
-pub mod Signed
-pub mod Chain
+-- SlotNumber: the number in a slot, and the variables of rules
+pub mod SlotNumber

@@ -34,7 +34,8 @@ use Rattle.theory.proofs.Counts.{count-clauses}
 use Rattle.theory.proofs.Occurs.{clauses-fit as code-within}
 use Rattle.digits.specs.Bytes.{literalText, lineText}
 use Rattle.digits.proofs.Lengths.{literal-fits, literals-fit, line-length}
-use Rattle.clause_walk.specs.Walk.{ruleCount, headsOf, headAt, headOf, positives, innerCount, bodyOf, bodyCount, slots1, slots2, bitOf, slots4, chainSlots, chainBit, slots6, size2, size6, chainSize, impliedSlot, ofHead, slot1, slot2, slot3, slot4, slot5, slot6, itemCount, blockCount, size, slots, slot, clauseAt, block, group, walked, BlockAt, At}
+use Rattle.clause_walk.specs.Walk.{ruleCount, headsOf, headAt, headOf, positives, innerCount, bodyCount, bitOf, chainBit, impliedSlot, ofHead, itemCount, blockCount, size, slots, slot, clauseAt, block, group, walked, BlockAt, At, groupOf, Group, bodyGroup, headGroup, zeroGroup, nextGroup, pairGroup, ruleGroup, foundedGroup}
+use Rattle.clause_walk.proofs.Groups.{every-group}
 use Rattle.clause_walk.proofs.Walked.{walked-clauses}
 use Rattle.text.specs.Limits.{ascends, ruleAscends}
 use Rattle.clause_table_laws.proofs.Elements.{ranges, inner-positives, pairs-fit, body-fits, all-fit, vars-are, clauses-are}
@@ -116,6 +117,14 @@ head-short hs a v l =
     cond-short (eqb l 1) (− a ∷ []) (cond (eqb (headAt hs (pred l)) a) (var (v (pred l)) ∷ []) []) (omega arith)
     (cond-short (eqb (headAt hs (pred l)) a) (var (v (pred l)) ∷ []) [] (omega arith) (omega arith))
 
+-- the numbers of a group of a limited code are bounded, and a slot has at most one literal
+pub record GroupBounds (x : Group) : Type 0 where
+  pub items-few : x .items ≤ 500
+  pub blocks-few : x .blocks ≤ 501
+  pub size-few : (a i : ℕ) → 0 < a → a ≤ x .items → i ≤ x .blocks → x .size a i ≤ 503
+  pub slots-few : (a i y : ℕ) → 0 < a → a ≤ x .items → i ≤ x .blocks → x .slots a i y ≤ 501
+  pub one-literal : (a i y l : ℕ) → length (x .slot a i y l) ≤ 1
+
 module _ (G : Code) (L : Limited G) where
   abbrev w : ℕ
   w = G .w
@@ -169,113 +178,137 @@ module _ (G : Code) (L : Limited G) where
   pub inner-fit : (r : ℕ) → 0 < r → r ≤ length (G .rules) → innerCount G r ≤ 126
   inner-fit r p h = omega (arith, inner-positives G L r, positives-fit r p h)
 
+  -- ---- each group: its numbers are bounded, and a slot has at most one literal
+
+  few-pair : (c : Bool) (b : ℕ) → b ≤ 500 → cond c 2 (suc b) ≤ 501
+  few-pair true b l = omega arith
+  few-pair false b l = omega arith
+
+  abbrev S : Sizes
+  S = codeSizes G
+
+  body-bounds : GroupBounds (bodyGroup G)
+  body-bounds =
+      record {
+        items-few = L .within .few-rules;
+        blocks-few = omega arith;
+        size-few = λ r i p h k. omega (arith, body-fits G L r p h);
+        slots-few = λ r i y p h k. few-pair (leb y (bodyCount G r)) (bodyCount G r) (body-fits G L r p h);
+        one-literal = λ r i y l. le-refl 1;
+      }
+
+  head-bounds : GroupBounds (headGroup G)
+  head-bounds =
+      record {
+        items-few = le-trans (L .within .few-atoms) (omega arith);
+        blocks-few = omega (arith, L .within .few-rules);
+        size-few = λ a i p h k. few-two (leb i (ruleCount G)) (eqb (headOf G i) a);
+        slots-few = λ a i y p h k. few-pair (leb i (ruleCount G)) (ruleCount G) (L .within .few-rules);
+        one-literal = λ a i y l.
+            cond-short (leb i (ruleCount G)) (impliedSlot S a i l ∷ []) (ofHead (headsOf G) a (bodyVar S) l) (le-refl 1) (head-short (headsOf G) a (bodyVar S) l);
+      }
+    where
+      few-two : (c d : Bool) → cond c (cond d 1 0) 1 ≤ 503
+      few-two true true = omega arith
+      few-two true false = omega arith
+      few-two false d = omega arith
+
+  zero-bounds : GroupBounds (zeroGroup G)
+  zero-bounds =
+      record {
+        items-few = le-trans (L .within .few-atoms) (omega arith);
+        blocks-few = omega arith;
+        size-few = λ a i p h k. omega (arith, L .few-bits);
+        slots-few = λ a i y p h k. omega arith;
+        one-literal = λ a i y l. le-refl 1;
+      }
+
+  next-bounds : GroupBounds (nextGroup G)
+  next-bounds =
+      record {
+        items-few = le-trans (L .within .few-atoms) (omega arith);
+        blocks-few = omega (arith, L .few-bits);
+        size-few = λ a i p h k. omega (arith, L .few-bits, k);
+        slots-few = λ a i y p h k. few-three i (ltb (bitOf y) i) (le-trans k (L .few-bits));
+        one-literal = λ a i y l. le-refl 1;
+      }
+    where
+      few-three : (i : ℕ) (c : Bool) → i ≤ 7 → cond c 3 (suc i) ≤ 501
+      few-three i true l = omega arith
+      few-three i false l = omega arith
+
+  pair-bounds : GroupBounds (pairGroup G)
+  pair-bounds =
+      record {
+        items-few = pairs-fit G L;
+        blocks-few = omega (arith, L .few-bits);
+        size-few = λ k i p h q. few-clauses (eqb (chainBit w i) 1);
+        slots-few = λ k i y p h q. few-slots (eqb (chainBit w i) 1) (eqb y 3);
+        one-literal = λ k i y l. le-refl 1;
+      }
+    where
+      few-clauses : (c : Bool) → cond c 3 6 ≤ 503
+      few-clauses true = omega arith
+      few-clauses false = omega arith
+
+      few-slots : (c d : Bool) → cond c (cond d 3 2) 3 ≤ 501
+      few-slots true true = omega arith
+      few-slots true false = omega arith
+      few-slots false d = omega arith
+
+  rule-bounds : GroupBounds (ruleGroup G)
+  rule-bounds =
+      record {
+        items-few = L .within .few-rules;
+        blocks-few = omega arith;
+        size-few = λ r i p h k. few-clauses (eqb (innerCount G r) 0) (innerCount G r) (inner-fit r p h);
+        slots-few = λ r i y p h k.
+            few-slots (leb y (suc (innerCount G r))) (eqb y (suc (suc (innerCount G r)))) (eqb (innerCount G r) 0) (innerCount G r) (inner-fit r p h);
+        one-literal = λ r i y l. le-refl 1;
+      }
+    where
+      few-clauses : (c : Bool) (b : ℕ) → b ≤ 126 → cond c (suc (suc w)) (suc (suc (suc b))) ≤ 503
+      few-clauses true b l = omega (arith, L .few-bits)
+      few-clauses false b l = omega (arith, l)
+
+      few-slots : (c d e : Bool) (b : ℕ) → b ≤ 126 → cond c 2 (cond d (suc (suc b)) (cond e 2 (suc b))) ≤ 501
+      few-slots true d e b l = omega arith
+      few-slots false true e b l = omega arith
+      few-slots false false true b l = omega arith
+      few-slots false false false b l = omega arith
+
+  founded-bounds : GroupBounds (foundedGroup G)
+  founded-bounds =
+      record {
+        items-few = le-trans (L .within .few-atoms) (omega arith);
+        blocks-few = omega arith;
+        size-few = λ a i p h k. omega arith;
+        slots-few = λ a i y p h k. omega (arith, L .within .few-rules);
+        one-literal = λ a i y l. head-short (headsOf G) a (foundsVar S) l;
+      }
+
+  pub groups-bounded : (g : ℕ) → GroupBounds (groupOf G g)
+  groups-bounded = every-group G GroupBounds body-bounds head-bounds zero-bounds next-bounds pair-bounds rule-bounds founded-bounds
+
   pub items-fit : (g : ℕ) → itemCount G g ≤ 500
   unfolding itemCount
-  items-fit g = go (eqb g 1) (eqb g 5) (eqb g 6)
-    where
-      go : (b1 b5 b6 : Bool) → cond b1 (ruleCount G) (cond b5 (pairTotal G) (cond b6 (ruleCount G) (G .n))) ≤ 500
-      go true b5 b6 = L .within .few-rules
-      go false true b6 = pairs-fit G L
-      go false false true = L .within .few-rules
-      go false false false = le-trans (L .within .few-atoms) (omega arith)
+  items-fit g = groups-bounded g .items-few
 
   pub blocks-fit : (g : ℕ) → blockCount G g ≤ 501
   unfolding blockCount
-  blocks-fit g = go (eqb g 2) (eqb g 4) (eqb g 5)
-    where
-      go : (b2 b4 b5 : Bool) → cond b2 (suc (ruleCount G)) (cond b4 w (cond b5 (w + w) 1)) ≤ 501
-      go true b4 b5 = omega (arith, L .within .few-rules)
-      go false true b5 = omega (arith, L .few-bits)
-      go false false true = omega (arith, L .few-bits)
-      go false false false = omega arith
+  blocks-fit g = groups-bounded g .blocks-few
 
   pub size-fits : (g a i : ℕ) → BlockAt G g a i → size G g a i ≤ 503
   unfolding size itemCount blockCount
-  size-fits g a i s = go (eqb g 1) (eqb g 2) (eqb g 3) (eqb g 4) (eqb g 5) (eqb g 6) (s .item-in) (s .block-in)
-    where
-      two : (c d : Bool) → cond c (cond d 1 0) 1 ≤ 503
-      two true true = omega arith
-      two true false = omega arith
-      two false d = omega arith
-
-      chained : (c : Bool) → cond c 3 6 ≤ 503
-      chained true = omega arith
-      chained false = omega arith
-
-      six : (c : Bool) (b : ℕ) → b ≤ 500 → cond c (suc (suc w)) (suc (suc (suc b))) ≤ 503
-      six true b l = omega (arith, L .few-bits)
-      six false b l = omega (arith, l)
-
-      go : (b1 b2 b3 b4 b5 b6 : Bool) → a ≤ cond b1 (ruleCount G) (cond b5 (pairTotal G) (cond b6 (ruleCount G) (G .n)))
-          → i ≤ cond b2 (suc (ruleCount G)) (cond b4 w (cond b5 (w + w) 1))
-          → cond b1 (suc (bodyCount G a))
-          (cond b2 (size2 G a i) (cond b3 w (cond b4 (2 * i) (cond b5 (chainSize (chainBit w i)) (cond b6 (size6 w (innerCount G a)) 1))))) ≤ 503
-      go true b2 b3 b4 b5 b6 h k = omega (arith, body-fits G L a (s .item-some) h)
-      go false true b3 b4 b5 b6 h k = two (leb i (ruleCount G)) (eqb (headOf G i) a)
-      go false false true b4 b5 b6 h k = omega (arith, L .few-bits)
-      go false false false true b5 b6 h k = omega (arith, L .few-bits, k)
-      go false false false false true b6 h k = chained (eqb (chainBit w i) 1)
-      go false false false false false true h k = six (eqb (innerCount G a) 0) (innerCount G a) (omega (arith, inner-fit a (s .item-some) h))
-      go false false false false false false h k = omega arith
+  size-fits g a i s = groups-bounded g .size-few a i (s .item-some) (s .item-in) (s .block-in)
 
   pub slots-fit : (g a i y : ℕ) → 0 < a → a ≤ itemCount G g → 0 < i → i ≤ blockCount G g → slots G g a i y ≤ 501
   unfolding slots itemCount blockCount
-  slots-fit g a i y p h q k = go (eqb g 1) (eqb g 2) (eqb g 3) (eqb g 4) (eqb g 5) (eqb g 6) h k
-    where
-      one : (c : Bool) (b : ℕ) → b ≤ 500 → cond c 2 (suc b) ≤ 501
-      one true b l = omega arith
-      one false b l = omega arith
-
-      three : (c : Bool) → i ≤ 7 → cond c 3 (suc i) ≤ 501
-      three true l = omega arith
-      three false l = omega arith
-
-      chained : (c d : Bool) → cond c (cond d 3 2) 3 ≤ 501
-      chained true true = omega arith
-      chained true false = omega arith
-      chained false d = omega arith
-
-      six : (c d e : Bool) (b : ℕ) → b ≤ 126 → cond c 2 (cond d (suc (suc b)) (cond e 2 (suc b))) ≤ 501
-      six true d e b l = omega arith
-      six false true e b l = omega arith
-      six false false true b l = omega arith
-      six false false false b l = omega arith
-
-      go : (b1 b2 b3 b4 b5 b6 : Bool) → a ≤ cond b1 (ruleCount G) (cond b5 (pairTotal G) (cond b6 (ruleCount G) (G .n)))
-          → i ≤ cond b2 (suc (ruleCount G)) (cond b4 w (cond b5 (w + w) 1))
-          → cond b1 (slots1 (bodyCount G a) y)
-          (cond b2 (slots2 G i) (cond b3 2 (cond b4 (slots4 i y) (cond b5 (chainSlots (chainBit w i) y) (cond b6 (slots6 (innerCount G a) y) (suc (ruleCount G))))))) ≤ 501
-      go true b2 b3 b4 b5 b6 h k = one (leb y (bodyCount G a)) (bodyCount G a) (body-fits G L a p h)
-      go false true b3 b4 b5 b6 h k = one (leb i (ruleCount G)) (ruleCount G) (L .within .few-rules)
-      go false false true b4 b5 b6 h k = omega arith
-      go false false false true b5 b6 h k = three (ltb (bitOf y) i) (le-trans k (L .few-bits))
-      go false false false false true b6 h k = chained (eqb (chainBit w i) 1) (eqb y 3)
-      go false false false false false true h k =
-          six (leb y (suc (innerCount G a))) (eqb y (suc (suc (innerCount G a)))) (eqb (innerCount G a) 0) (innerCount G a) (inner-fit a p h)
-      go false false false false false false h k = omega (arith, L .within .few-rules)
+  slots-fit g a i y p h q k = groups-bounded g .slots-few a i y p h k
 
   pub slot-short : (g a i y l : ℕ) → length (slot G g a i y l) ≤ 1
   unfolding slot
-  slot-short g a i y l = go (eqb g 1) (eqb g 2) (eqb g 3) (eqb g 4) (eqb g 5) (eqb g 6)
-    where
-      S : Sizes
-      S = codeSizes G
-
-      go : (b1 b2 b3 b4 b5 b6 : Bool)
-          → length (cond b1 (slot1 S a (bodyOf G a) (positives G a) y l ∷ [])
-          (cond b2 (slot2 G a i l)
-          (cond b3 (slot3 S a y l ∷ [])
-          (cond b4 (slot4 S a i y l ∷ [])
-          (cond b5 (slot5 S a (pairBody G a) (pairHead G a) i y l ∷ [])
-          (cond b6 (slot6 S a (headOf G a) (before G a) (innerCount G a) y l ∷ []) (ofHead (headsOf G) a (foundsVar S) l))))))) ≤ 1
-      go true b2 b3 b4 b5 b6 = le-refl 1
-      go false true b3 b4 b5 b6 =
-          cond-short (leb i (ruleCount G)) (impliedSlot S a i l ∷ []) (ofHead (headsOf G) a (bodyVar S) l) (le-refl 1) (head-short (headsOf G) a (bodyVar S) l)
-      go false false true b4 b5 b6 = le-refl 1
-      go false false false true b5 b6 = le-refl 1
-      go false false false false true b6 = le-refl 1
-      go false false false false false true = le-refl 1
-      go false false false false false false = head-short (headsOf G) a (foundsVar S) l
+  slot-short g a i y l = groups-bounded g .one-literal a i y l
 
   -- ---- the literals
 

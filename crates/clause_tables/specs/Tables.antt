@@ -3,7 +3,7 @@
 --   totalsOf G       the sizes, the number of pairs, V and C
 --   regionsOf G      the regions of the table of a code, in order, each filled up with zeros to its size
 --   tableOf G        the table: its regions, one after the other
---   countIn, sizesIn, totalsIn, headsIn ..    the counts and the regions of a table
+--   countIn, totalsIn, headsIn ..    the counts and the regions of a table
 --   programIn, codeIn  the program that the sizes and three arrays hold, and the code that a table holds
 --   Limited G        the code is of a program within the limits, has from 1 to 7 bits, no open atom and every pair inside
 --   Tabled G ..      totals and arrays are those of the code G, which is limited so

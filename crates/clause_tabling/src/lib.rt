@@ -12,16 +12,15 @@ use clause_tables::PARTNERS_AT;
 use clause_tables::STARTS_AT;
 use clause_tables::Totals;
 use numbers::wide;
-use program::Program;
 ghost use Prim.Native.Nat.{_+_, _-_, _*_, _≤_, _<_};
 ghost use mathlib.Core.Path.{_≡_};
 ghost use lib.ListN.{length, getD, set, take, drop, replicate};
 ghost use lib.Seq.{sets};
 ghost use Rattle.encoding.specs.Code.{codeOf};
 ghost use Rattle.program.specs.Arrays.{decoded};
-ghost use Rattle.clause_tables.specs.Tables.{Stored, totalsOf, tableOf};
+ghost use Rattle.clause_tables.specs.Tables.{Stored, tableOf};
 ghost use Rattle.clause_tabling.specs.Formula.{whenNone, clausesFor, countsFor};
-ghost use Rattle.clause_tabling.specs.Stages.{arraysOf, copied, withArrays};
+ghost use Rattle.clause_tabling.specs.Stages.{arraysOf, StoredStarts, StartTotals, copied, withArrays};
 
 fn element(xs: &[u16], j: usize) -> u16
     requires { ⌜ j < length (now xs) ⌝ }
@@ -83,7 +82,7 @@ fn when_none(size: u16) -> u16
 }
 
 // Writes the heads, body atoms and list starts of a program of m rules with `held` body atoms.
-fn arrays<'a>(
+fn copy_arrays<'a>(
     m: u16,
     held: u16,
     heads: &'a [u16],
@@ -128,7 +127,7 @@ fn counts(n: u16, m: u16, o: u16, k: u16, e: u16) -> [u16; 6]
 }
 
 // Writes the pairs of a program, how many there are before each rule and in all, and the counts, where the arrays stand.
-fn finish<'a>(
+fn add_pairs<'a>(
     n: u16,
     m: u16,
     held: u16,
@@ -161,39 +160,40 @@ fn finish<'a>(
     copy(&all, 0, 6, 0, &mut *table);
 }
 
-// Makes the table of a program that was read, in cells that are all 0.
-pub fn prepare(p: Program, table: &mut [u16; CELLS])
-    requires { ⌜ (Stored p) × (now table ≡ replicate 3518 0) ⌝ }
-    ensures { λ u. ⌜ now (table .exit) ≡ tableOf (codeOf (decoded p)) ⌝ }
+// Makes the table of a program that was read, from its counts and arrays, in cells that are all 0.
+pub fn prepare<'a>(
+    n: u16,
+    m: u16,
+    held: u16,
+    heads: &'a [u16],
+    starts: &'a [u16],
+    bodies: &'a [u16],
+    table: &mut [u16; CELLS],
+)
+    requires { ⌜ (Stored (arraysOf n m held (now heads) (now starts) (now bodies))) × (now table ≡ replicate 3518 0) ⌝ }
+    ensures { λ u. ⌜ now (table .exit)
+        ≡ tableOf (codeOf (decoded (arraysOf n m held (now (heads .entry)) (now (starts .entry)) (now (bodies .entry))))) ⌝ }
 {
-    arrays(p.rules, p.held, &p.heads, &p.starts, &p.bodies, &mut *table);
-    finish(
-        p.atoms,
-        p.rules,
-        p.held,
-        &p.heads,
-        &p.starts,
-        &p.bodies,
-        &mut *table,
-    );
+    copy_arrays(m, held, heads, starts, bodies, &mut *table);
+    add_pairs(n, m, held, heads, starts, bodies, &mut *table);
 }
 
-// The sizes, K, V and C of a program that was read, with no table.
-pub fn totals_of(p: Program) -> Totals
-    requires { ⌜ Stored p ⌝ }
-    ensures { λ r. ⌜ r ≡ totalsOf (codeOf (decoded p)) ⌝ }
+// The sizes, K, V and C of a program that was read, from its counts and list starts, with no table.
+pub fn totals_of(n: u16, m: u16, held: u16, starts: &[u16]) -> Totals
+    requires { ⌜ StoredStarts n m held (now starts) ⌝ }
+    ensures { λ t. ⌜ StartTotals n m held (now (starts .entry)) t ⌝ }
 {
-    let m = wide(p.rules);
+    let rules = wide(m);
     let mut count: u16 = 0;
     let mut empty: u16 = 0;
     let mut r: usize = 0;
-    while r < m {
-        let size = size_at(&p.starts, r);
+    while r < rules {
+        let size = size_at(starts, r);
         empty += when_none(size);
         count += size;
         r += 1;
     }
-    let all = counts(p.atoms, p.rules, p.held, count, empty);
+    let all = counts(n, m, held, count, empty);
     Totals {
         sizes: Sizes {
             n: all[0],

@@ -1,38 +1,38 @@
 -- The text of the clause at a place of the walk, slot by slot, in a code whose tables are given.
 --   slotted            a slot is empty or holds one literal, of a variable from 1 to 9,890
 --   line-short         the line has at most 3,008 bytes
+--   slot-small         the number of a slot is small
 --   text-more          the literals of one slot more, as code has them
 --   text-fits          the literals of some slots have at most as many bytes as those of all
 --   slot-in                                  the slot that follows is one of the clause
 --   past-within, past-less, text-past        how many slots are done with the empty ones that follow, and their literals
 --   length-more, length-next, length-fits, length-line    the number of bytes with one slot more and the empty ones that follow, its bound, and that of the line
 --   part-fits, text-next                     room for one slot more, and the text with it and the empty ones that follow
---   end-small, end-fits, line-text           room for the end of the line, and the buffer with the line
+--   end-small, end-fits, line-text, line-kept    room for the end of the line, and the buffer with the line
 -- Assumes nothing.
-use Prim.Native.Nat.{ℕ, zero, suc, _+_, _-_, _≤_, _<_}
+use Prim.Native.Nat.{ℕ, zero, suc, _+_, _-_, _^_, _≤_, _<_}
 use native.Mathlib.Nat.{le-trans, le-refl}
 use native.Mathlib.Numerals.{add-one}
 use native.Mathlib.Omega.{arith}
-use mathlib.Core.Path.{_≡_, sym, _∙_, ap, ap₂, subst}
-use mathlib.Core.List.{List, [], _∷_, _++_, append-assoc}
+use mathlib.Core.Path.{_≡_, sym, _∙_, ap, subst}
+use mathlib.Core.List.{List, _++_}
+use lib.IntN.{ℤ, natAbs}
 use lib.ListN.{length, set, length-append}
 use Rattle.lists.specs.Lists.{each}
 use Rattle.encoding.specs.Code.{Code}
 use Rattle.encoding.specs.Literal.{Literal}
-use Rattle.digits.specs.Bytes.{literalsText, lineText}
+use Rattle.digits.specs.Bytes.{literalsText, lineText, Room, Wrote}
 use Rattle.digits.proofs.Lengths.{literals-append, line-length}
 use Rattle.clause_walk.specs.Walk.{slots, slot, clauseAt, At}
-use Rattle.clause_slots.specs.declared.Signed.{Signed}
-use Rattle.clause_slots.specs.Signed.{literalIn, slotLiteral}
+use Rattle.clause_slots.specs.SlotNumber.{slotNumber}
 use Rattle.clause_tables.specs.declared.Totals.{Totals}
 use Rattle.clause_tables.specs.Tables.{Tabled}
-use Rattle.clause_table_laws.proofs.Elements as elements
 use Rattle.clause_table_laws.proofs.Bounds.{Slotted, literal-in, line-fits}
-use Rattle.clause_layout.specs.Numbers.{pastEmpty}
+use Rattle.clause_heads.specs.NextHead.{pastEmpty}
 use Rattle.clause_layout.proofs.Passed.{Passed, passed, passed-each}
 use Rattle.clause_text.specs.Lines.{literalsIn}
-use Rattle.clause_text.proofs.Held.{held-is}
-use Rattle.digits.proofs.Begins.{Begins, begins-same, begins-byte}
+use Rattle.clause_text.proofs.Held.{held-is, held-fits}
+use Rattle.digits.proofs.Wrote.{room-as, wrote-as, wrote-kept, wrote-end, end-room}
 
 -- some of the literals that `each` puts together, and all of them
 pub each-fits : (f : ℕ → List Literal) (l k : ℕ) → l ≤ k → length (literalsText (each l f)) ≤ length (literalsText (each k f))
@@ -72,12 +72,22 @@ module _ {G : Code} {t : Totals} {hs ss bs ks xs ys : List ℕ} (T : Tabled G t 
   pub line-short : length (lineText (clauseAt G g a i y)) ≤ 3008
   line-short = line-fits G (T .limits) g a i y A
 
-  pub text-more : (x : Signed) {l k : ℕ} → k ≡ slots G g a i y → l < k → literalIn x ≡ slotLiteral (slot G g a i y (l + 1))
+  module _ {x : ℤ} {l k : ℕ} (e : k ≡ slots G g a i y) (h : l < k) (q : x ≡ slotNumber (slot G g a i y (l + 1))) where
+    next-slotted : Slotted (slot G g a i y (l + 1))
+    next-slotted = slotted (l + 1) (omega arith) (omega (arith, e, h))
+
+    pub held-next : literalsIn x ≡ slot G g a i y (l + 1)
+    held-next = held-is (slot G g a i y (l + 1)) next-slotted q
+
+    -- what its number asks for
+    pub slot-small : natAbs x < 2 ^ 31
+    slot-small = held-fits (slot G g a i y (l + 1)) next-slotted q
+
+  pub text-more : (x : ℤ) {l k : ℕ} → k ≡ slots G g a i y → l < k → x ≡ slotNumber (slot G g a i y (l + 1))
       → text (l + 1) ≡ text l ++ literalsText (literalsIn x)
   text-more x {l} {k} e h q =
       ap text (add-one l) ∙ literals-append (each l (slot G g a i y)) (slot G g a i y (suc l))
-      ∙ ap (λ (c : List Literal). text l ++ literalsText c)
-      (sym (held-is x (slot G g a i y (suc l)) (slotted (suc l) (omega arith) (subst (λ (n : ℕ). suc l ≤ n) e h)) (q ∙ ap (λ (n : ℕ). slotLiteral (slot G g a i y n)) (add-one l))))
+      ∙ ap (λ (c : List Literal). text l ++ literalsText c) (ap (slot G g a i y) (sym (add-one l)) ∙ sym (held-next e h q))
 
   pub text-fits : {l k : ℕ} → k ≡ slots G g a i y → l ≤ k → length (text l) ≤ length (literalsText (clauseAt G g a i y))
   text-fits {l} {k} e h = each-fits (slot G g a i y) l (slots G g a i y) (subst (λ (n : ℕ). l ≤ n) e h)
@@ -105,7 +115,7 @@ module _ {G : Code} {t : Totals} {hs ss bs ks xs ys : List ℕ} (T : Tabled G t 
 
   -- ---- how many bytes
 
-  module _ (x : Signed) {k l to r : ℕ} (e : k ≡ slots G g a i y) (h : l < k) (q : literalIn x ≡ slotLiteral (slot G g a i y (l + 1))) where
+  module _ (x : ℤ) {k l to r : ℕ} (e : k ≡ slots G g a i y) (h : l < k) (q : x ≡ slotNumber (slot G g a i y (l + 1))) where
     pub length-more : to ≡ length (text l) → r ≡ length (literalsText (literalsIn x)) → to + r ≡ length (text (l + 1))
     length-more n m = omega (arith, n, m, ap (λ (t : List ℕ). length t) (text-more x e h q), length-append (text l) (literalsText (literalsIn x)))
 
@@ -128,46 +138,40 @@ module _ {G : Code} {t : Totals} {hs ss bs ks xs ys : List ℕ} (T : Tabled G t 
 
   -- ---- the buffer b, which has room for the line
 
-  module _ (b : List ℕ) (f : length (lineText (clauseAt G g a i y)) ≤ length b) where
+  module _ (b : List ℕ) (f : Room (lineText (clauseAt G g a i y)) b) where
     -- there is room for one slot more
-    pub part-fits : (x : Signed) {k l : ℕ} → k ≡ slots G g a i y → l < k → literalIn x ≡ slotLiteral (slot G g a i y (l + 1))
-        → length (text l ++ literalsText (literalsIn x)) ≤ length b
+    pub part-fits : (x : ℤ) {k l : ℕ} → k ≡ slots G g a i y → l < k → x ≡ slotNumber (slot G g a i y (l + 1))
+        → Room (text l ++ literalsText (literalsIn x)) b
     part-fits x {k} {l} e h q =
-        subst (λ (t : List ℕ). length t ≤ length b) (text-more x e h q)
+        room-as (sym (text-more x e h q))
         (omega (arith, text-fits e (more l k h), line-length (clauseAt G g a i y), f))
       where
         more : (l k : ℕ) → l < k → l + 1 ≤ k
         more l k h = omega (arith, h)
 
     -- one slot more has been written
-    pub text-next : (x : Signed) {k l r to : ℕ} {c : List ℕ} → k ≡ slots G g a i y → l < k → literalIn x ≡ slotLiteral (slot G g a i y (l + 1))
-        → r ≡ pastEmpty (t .sizes .m) hs g a i (l + 1) → Begins b c (text l ++ literalsText (literalsIn x)) to → Begins b c (text r) to
-    text-next x e h q p B = begins-same B (sym (text-past e h p ∙ text-more x e h q))
+    pub text-next : (x : ℤ) {k l r to : ℕ} {c : List ℕ} → k ≡ slots G g a i y → l < k → x ≡ slotNumber (slot G g a i y (l + 1))
+        → r ≡ pastEmpty (t .sizes .m) hs g a i (l + 1) → Wrote (text l ++ literalsText (literalsIn x)) b c to → Wrote (text r) b c to
+    text-next x e h q p W = wrote-as (sym (text-past e h p ∙ text-more x e h q)) W
 
     -- all slots have been written
-    module _ {k l to : ℕ} {c : List ℕ} (e : k ≡ slots G g a i y) (h : l ≤ k) (n : k ≤ l) (B : Begins b c (text l) to) where
-      whole-text : Begins b c (literalsText (clauseAt G g a i y)) to
-      whole-text = subst (λ (j : ℕ). Begins b c (text j) to) (ends l k h n ∙ e) B
+    module _ {k l to : ℕ} {c : List ℕ} (e : k ≡ slots G g a i y) (h : l ≤ k) (n : k ≤ l) (W : Wrote (text l) b c to) where
+      whole-text : Wrote (literalsText (clauseAt G g a i y)) b c to
+      whole-text = subst (λ (j : ℕ). Wrote (text j) b c to) (ends l k h n ∙ e) W
         where
           ends : (l k : ℕ) → l ≤ k → k ≤ l → l ≡ k
           ends l k h n = omega (arith, h, n)
 
       pub end-small : to + 2 ≤ 3008
-      end-small = omega (arith, whole-text .place, line-length (clauseAt G g a i y), line-short)
+      end-small = omega (arith, whole-text .count, line-length (clauseAt G g a i y), line-short)
 
       pub end-fits : to + 2 ≤ length c
-      end-fits = omega (arith, whole-text .place, line-length (clauseAt G g a i y), f, B .same)
+      end-fits = end-room (clauseAt G g a i y) f whole-text
 
       -- a byte and one after it have been written: the line
-      pub line-text : (u v : ℕ) → u ≡ 48 → v ≡ 10 → Begins b (set (set c to u) (to + 1) v) (lineText (clauseAt G g a i y)) (to + 2)
-      line-text u v p q =
-          subst (λ (n : ℕ). Begins b (set (set c to u) (to + 1) v) (lineText (clauseAt G g a i y)) n) (two-more to)
-          (begins-same (begins-byte (begins-byte whole-text u (omega (arith, end-fits, B .same))) v (omega (arith, end-fits, B .same))) line-is)
-        where
-          two-more : (n : ℕ) → n + 1 + 1 ≡ n + 2
-          two-more n = omega arith
+      module _ (u v : ℕ) (p : u ≡ 48) (q : v ≡ 10) where
+        pub line-text : Wrote (lineText (clauseAt G g a i y)) b (set (set c to u) (to + 1) v) (to + 2)
+        line-text = wrote-end (clauseAt G g a i y) f whole-text u v p q
 
-          line-is : (literalsText (clauseAt G g a i y) ++ (u ∷ [])) ++ (v ∷ []) ≡ lineText (clauseAt G g a i y)
-          line-is =
-              append-assoc (literalsText (clauseAt G g a i y)) (u ∷ []) (v ∷ [])
-              ∙ ap₂ (λ (u v : ℕ). literalsText (clauseAt G g a i y) ++ (u ∷ v ∷ [])) p q
+        pub line-kept : length (set (set c to u) (to + 1) v) ≡ length b
+        line-kept = wrote-kept line-text f

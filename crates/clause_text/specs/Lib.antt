@@ -1,4 +1,4 @@
--- Lines: line 0, the line of a refusal, and the text of a slot
+-- Lines: the literals of a slot, from its number
 -- Blocks: whole blocks of the walk
 pub mod Lines
 pub mod Blocks

@@ -15,7 +15,7 @@ use Rattle.encoding.specs.Variables.{Sizes, levelVar, nextVar, belowVar, nextBe
 use Rattle.encoding.specs.Counter.{keepsClauses, flipsClauses, successorAt, successor, chainAt, chain}
 use Rattle.encoding.specs.Clauses.{pairClauses}
 use Rattle.encoding.specs.Code.{Code, codeSizes, pairTotal, pairBody, pairHead, part4, part5}
-use Rattle.clause_walk.specs.Walk.{signed, three, chainSize, chainSlots, chainFirst, chainNext, chainSlot, itemCount, blockCount, size, slots, slot, clauseAt, block, group}
+use Rattle.clause_walk.specs.Walk.{signed, three, chainSize, chainSlots, chainFirst, chainNext, chainSlot, itemCount, blockCount, size, slots, slot, clauseAt, block, group, groupOf}
 use Rattle.clause_walk.proofs.Tabs.{each-add, tab-pairs}
 
 module _ (G : Code) where
@@ -42,7 +42,7 @@ module _ (G : Code) where
         (cond (ltb l i) (− v l) (cond (eqb l i) (signed (eqb ρ 0) (u i)) (signed (eqb ρ 0) (v i)))) ∷ [])
 
     as-clause4 : (i x ρ y : ℕ) → pred y / 2 ≡ x → y % 2 ≡ ρ → clauseAt G 4 a i y ≡ clause4 (ltb (suc x) i) ρ i (suc x)
-    unfolding slots slot
+    unfolding slots slot groupOf
     as-clause4 i x ρ y p q = ap₂ (λ (x ρ : ℕ). clause4 (ltb (suc x) i) ρ i (suc x)) p q
 
     -- the clauses 2x + 1 and 2x + 2 of block i
@@ -73,14 +73,14 @@ module _ (G : Code) where
         ∙ ap₂ (λ (c d : Clause). c ∷ d ∷ []) (flip i false) (flip i true)
 
     block4 : (i : ℕ) → block G 4 a (suc i) ≡ successorAt u v (suc i)
-    unfolding size
+    unfolding size groupOf
     block4 i =
         tab-pairs (suc i) (clauseAt G 4 a (suc i))
         ∙ ap₂ (λ (xs ys : List Clause). xs ++ ys)
         (each-ext i (λ j. clauseAt G 4 a (suc i) (suc (2 * pred j)) ∷ clauseAt G 4 a (suc i) (suc (suc (2 * pred j))) ∷ []) (keepsClauses u v (suc i)) (keeps i)) (flips i)
 
   pub is-group4 : group G 4 ≡ part4 G
-  unfolding itemCount blockCount successor
+  unfolding itemCount blockCount successor groupOf
   is-group4 =
       each-ext (G .n) (λ a. each w (block G 4 a)) (λ a. each w (successorAt (nextVar S a) (levelVar S a)))
       (λ x h. each-ext w (block G 4 (suc x)) (successorAt (nextVar S (suc x)) (levelVar S (suc x))) (λ i k. block4 (suc x) i))
@@ -115,11 +115,11 @@ module _ (G : Code) where
         (chainSlot (nextBelowVar S k (i - w)) (nextVar S b (i - w)) (levelVar S h (i - w)) (nextBelowVar S k (pred (i - w))) (i - w) c l) ∷ []))
 
     first-chain : (i : ℕ) → i < w → block G 5 k (suc i) ≡ chainAt (belowVar S k) (levelVar S b) (levelVar S h) (suc i)
-    unfolding size slots slot
+    unfolding size slots slot groupOf
     first-chain i l = ap (λ (d : Bool). block5 d (suc i)) (le-leb (suc i) w l) ∙ chain-block (belowVar S k) (levelVar S b) (levelVar S h) i
 
     second-chain : (i : ℕ) → block G 5 k (w + suc i) ≡ chainAt (nextBelowVar S k) (nextVar S b) (levelVar S h) (suc i)
-    unfolding size slots slot
+    unfolding size slots slot groupOf
     second-chain i =
         ap (λ (d : Bool). block5 d (w + suc i)) (lt-leb (w + suc i) w (omega arith))
         ∙ ap (bitBlock (nextBelowVar S k) (nextVar S b)) (add-sub w i) ∙ chain-block (nextBelowVar S k) (nextVar S b) (levelVar S h) i
@@ -136,6 +136,6 @@ module _ (G : Code) where
         (each-ext w (λ i. block G 5 k (w + i)) (chainAt (nextBelowVar S k) (nextVar S b) (levelVar S h)) (λ i l. second-chain i))
 
   pub is-group5 : group G 5 ≡ part5 G
-  unfolding itemCount blockCount
+  unfolding itemCount blockCount groupOf
   is-group5 =
       each-ext (pairTotal G) (λ k. each (w + w) (block G 5 k)) (λ k. pairClauses S k (pairBody G k) (pairHead G k)) (λ i l. blocks5 (suc i))

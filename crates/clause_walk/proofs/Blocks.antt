@@ -18,7 +18,7 @@ use Rattle.encoding.specs.Literal.{var, −_, Clause}
 use Rattle.encoding.specs.Variables.{Sizes, bodyVar, foundsVar}
 use Rattle.encoding.specs.Clauses.{rulesOf, bodyClauses, impliedClauses, supportedClause, oneClauses, foundedClause}
 use Rattle.encoding.specs.Code.{Code, codeSizes, part1, part2, part3, part7}
-use Rattle.clause_walk.specs.Walk.{ruleCount, headsOf, headOf, positives, bodyOf, bodyCount, atomAt, signed, two, bodyLiteral, bodyOpposite, ofHead, itemCount, blockCount, size, slots, slot, clauseAt, block, group}
+use Rattle.clause_walk.specs.Walk.{ruleCount, headsOf, headOf, positives, bodyOf, bodyCount, atomAt, signed, two, bodyLiteral, bodyOpposite, ofHead, itemCount, blockCount, size, slots, slot, clauseAt, block, group, groupOf}
 use Rattle.clause_walk.proofs.Tabs.{head-is, tab-two, map-select}
 
 module _ (G : Code) where
@@ -42,7 +42,7 @@ module _ (G : Code) where
 
     short : (x : ℕ) → x < bodyCount G r
         → clauseAt G 1 r 1 (suc x) ≡ cond (leb (suc x) (length B)) (− bodyVar S r ∷ var (atomAt (bodyOf G r) (suc x)) ∷ []) (− bodyVar S r ∷ − atomAt (bodyOf G r) (suc x) ∷ [])
-    unfolding slots slot
+    unfolding slots slot groupOf
     short x h = ap (λ (d : Bool). clause1 d (suc x)) (le-leb (suc x) (bodyCount G r) h) ∙ go (leb (suc x) (length B))
       where
         go : (b : Bool) → − bodyVar S r ∷ signed b (atomAt (bodyOf G r) (suc x)) ∷ [] ≡ cond b (− bodyVar S r ∷ var (atomAt (bodyOf G r) (suc x)) ∷ []) (− bodyVar S r ∷ − atomAt (bodyOf G r) (suc x) ∷ [])
@@ -57,7 +57,7 @@ module _ (G : Code) where
         go (inr h) = rw (lt-leb (suc x) (length B) h, lt-ltb (length B) (suc x) h)
 
     long : clauseAt G 1 r 1 (suc (bodyCount G r)) ≡ var (bodyVar S r) ∷ (map −_ B ++ map var C)
-    unfolding slots slot
+    unfolding slots slot groupOf
     long =
         ap (λ (d : Bool). clause1 d (suc (bodyCount G r))) (lt-leb (suc (bodyCount G r)) (bodyCount G r) (le-refl (suc (bodyCount G r))))
         ∙ each-front (bodyCount G r) (λ l. cond (eqb l 1) (var (bodyVar S r)) (bodyOpposite (bodyOf G r) (positives G r) (pred l)) ∷ [])
@@ -68,7 +68,7 @@ module _ (G : Code) where
         ∙ tab-two −_ var B C)
 
     block1 : block G 1 r 1 ≡ bodyClauses S r (ruleAt (G .rules) r)
-    unfolding size
+    unfolding size groupOf
     block1 =
         ap₂ (λ (xs : List Clause) (c : Clause). xs ++ (c ∷ []))
         (tab-ext (bodyCount G r) (clauseAt G 1 r 1) (λ y. cond (leb y (length B)) (− bodyVar S r ∷ var (atomAt (bodyOf G r) y) ∷ []) (− bodyVar S r ∷ − atomAt (bodyOf G r) y ∷ [])) short
@@ -76,7 +76,7 @@ module _ (G : Code) where
         ∙ append-assoc (map (λ b. − bodyVar S r ∷ var b ∷ []) B) (map (λ c. − bodyVar S r ∷ − c ∷ []) C) ((var (bodyVar S r) ∷ (map −_ B ++ map var C)) ∷ [])
 
   pub is-group1 : group G 1 ≡ part1 G
-  unfolding itemCount blockCount
+  unfolding itemCount blockCount groupOf
   is-group1 = each-ext (ruleCount G) (λ r. block G 1 r 1) (λ r. bodyClauses S r (ruleAt (G .rules) r)) (λ i h. block1 (suc i))
 
   -- ---- groups 2 and 7
@@ -102,7 +102,7 @@ module _ (G : Code) where
       (λ y. each (cond d 2 (suc (ruleCount G))) (λ l. cond d (two (var a) (− bodyVar S i) l ∷ []) (ofHead (headsOf G) a (bodyVar S) l)))
 
   implied-block : (a x : ℕ) → x < ruleCount G → block G 2 a (suc x) ≡ cond (eqb (headOf G (suc x)) a) ((var a ∷ − bodyVar S (suc x) ∷ []) ∷ []) []
-  unfolding size slots slot
+  unfolding size slots slot groupOf
   implied-block a x h = ap (λ (d : Bool). block2 d a (suc x)) (le-leb (suc x) (ruleCount G) h) ∙ go (eqb (headOf G (suc x)) a)
     where
       go : (b : Bool) → tab (cond b 1 0) (λ y. var a ∷ − bodyVar S (suc x) ∷ []) ≡ cond b ((var a ∷ − bodyVar S (suc x) ∷ []) ∷ []) []
@@ -110,13 +110,13 @@ module _ (G : Code) where
       go false = refl
 
   supported-block : (a : ℕ) → block G 2 a (suc (ruleCount G)) ≡ supportedClause S a (rulesOf (G .rules) a) ∷ []
-  unfolding size slots slot
+  unfolding size slots slot groupOf
   supported-block a =
       ap (λ (d : Bool). block2 d a (suc (ruleCount G))) (lt-leb (suc (ruleCount G)) (ruleCount G) (le-refl (suc (ruleCount G))))
       ∙ ap (λ (c : Clause). c ∷ []) (head-clause a (bodyVar S))
 
   pub is-group2 : ((a : ℕ) → G .opened a ≡ false) → group G 2 ≡ part2 G
-  unfolding itemCount blockCount
+  unfolding itemCount blockCount groupOf
   is-group2 f =
       each-ext (G .n) (λ a. each (suc (ruleCount G)) (block G 2 a)) (λ a. impliedClauses S a (rulesOf (G .rules) a) ++ cond (G .opened a) [] (supportedClause S a (rulesOf (G .rules) a) ∷ []))
       (λ i h. ap₂ (λ (xs ys : List Clause). xs ++ ys)
@@ -126,7 +126,7 @@ module _ (G : Code) where
       (supported-block (suc i) ∙ ap (λ (b : Bool). cond b [] (supportedClause S (suc i) (rulesOf (G .rules) (suc i)) ∷ [])) (sym (f (suc i)))))
 
   pub is-group7 : ((a : ℕ) → G .opened a ≡ false) → group G 7 ≡ part7 G
-  unfolding itemCount blockCount size slots slot
+  unfolding itemCount blockCount size slots slot groupOf
   is-group7 f =
       each-ext (G .n) (λ a. block G 7 a 1) (λ a. cond (G .opened a) (oneClauses S a a) (foundedClause S a (rulesOf (G .rules) a) ∷ []))
       (λ i h. ap (λ (c : Clause). c ∷ []) (head-clause (suc i) (foundsVar S)) ∙ ap (λ (b : Bool). cond b (oneClauses S (suc i) (suc i)) (foundedClause S (suc i) (rulesOf (G .rules) (suc i)) ∷ [])) (sym (f (suc i))))
@@ -134,5 +134,5 @@ module _ (G : Code) where
   -- ---- group 3
 
   pub is-group3 : group G 3 ≡ part3 G
-  unfolding itemCount blockCount size slots slot
+  unfolding itemCount blockCount size slots slot groupOf
   is-group3 = refl

@@ -15,7 +15,7 @@ use Rattle.encoding.specs.Literal.{var, −_, Clause}
 use Rattle.encoding.specs.Variables.{Sizes, bodyVar, foundsVar, levelVar, belowVar, nextBelowVar}
 use Rattle.encoding.specs.Clauses.{foundsClauses, lowestClauses}
 use Rattle.encoding.specs.Code.{Code, codeSizes, before, pairNumbers, part6}
-use Rattle.clause_walk.specs.Walk.{ruleCount, headOf, innerCount, signed, two, three, size6, slots6, slot6, itemCount, blockCount, size, slots, slot, block, group}
+use Rattle.clause_walk.specs.Walk.{ruleCount, headOf, innerCount, signed, two, three, size6, slots6, slot6, itemCount, blockCount, size, slots, slot, block, group, groupOf}
 use Rattle.clause_walk.proofs.Tabs.{head-is, tab-front}
 
 module _ (G : Code) where
@@ -141,7 +141,7 @@ module _ (G : Code) where
     block6 p (suc b) = block6-some b
 
   pub is-group6 : 0 < w → group G 6 ≡ part6 G
-  unfolding itemCount blockCount size slots slot
+  unfolding itemCount blockCount size slots slot groupOf
   is-group6 p =
       each-ext (ruleCount G) (λ r. block G 6 r 1) (λ r. foundsClauses S r (pairNumbers G r) ++ lowestClauses S r (ruleAt (G .rules) r .head) (pairNumbers G r))
       (λ i l. block6 (suc i) (headOf G (suc i)) (before G (suc i)) p (innerCount G (suc i))

@@ -1,5 +1,7 @@
 -- The clause list as a walk: groups 1 to 7, in each its items (rules, atoms or pairs), in an item its blocks, in a block its clauses, in a clause its
 -- slots, each from 1; a slot holds a literal or none. Code goes from place to place by these numbers and stores no clause.
+--   bodyGroup, headGroup ..  each group: its items and blocks, and by item, block, clause and slot its clauses, slots and literals
+--   groupCount, groupOf G g  how many groups there are, and group g
 --   itemCount G g            how many items group g has
 --   blockCount G g           how many blocks an item of group g has
 --   size G g a i             how many clauses block i of item a has
@@ -174,35 +176,111 @@ slot6 S r h k b y l =
     (cond (eqb y (suc (suc b))) (three (var s) (− t) (− belowVar S (k + (l - 2)) (S .w)) l)
     (cond (eqb b 0) (two (− t) (signed (eqb y 3) (levelVar S h (y - 2))) l) (two (− t) (− nextBelowVar S (k + pred l) (S .w)) l))))
 
--- ---- all groups
+-- ---- each group: its items, the blocks of an item, and by item a, block i, clause y and slot l how many clauses and slots there are, and the literal
+
+pub record Group : Type 0 where
+  pub items : ℕ
+  pub blocks : ℕ
+  pub size : ℕ → ℕ → ℕ
+  pub slots : ℕ → ℕ → ℕ → ℕ
+  pub slot : ℕ → ℕ → ℕ → ℕ → List Literal
+
+abbrev pub bodyGroup : Code → Group
+bodyGroup G =
+    record {
+      items = ruleCount G;
+      blocks = 1;
+      size = λ r i. suc (bodyCount G r);
+      slots = λ r i y. slots1 (bodyCount G r) y;
+      slot = λ r i y l. slot1 (codeSizes G) r (bodyOf G r) (positives G r) y l ∷ [];
+    }
+
+abbrev pub headGroup : Code → Group
+headGroup G =
+    record {
+      items = G .n;
+      blocks = suc (ruleCount G);
+      size = size2 G;
+      slots = λ a i y. slots2 G i;
+      slot = λ a i y l. slot2 G a i l;
+    }
+
+abbrev pub zeroGroup : Code → Group
+zeroGroup G =
+    record {
+      items = G .n;
+      blocks = 1;
+      size = λ a i. G .w;
+      slots = λ a i y. 2;
+      slot = λ a i y l. slot3 (codeSizes G) a y l ∷ [];
+    }
+
+abbrev pub nextGroup : Code → Group
+nextGroup G =
+    record {
+      items = G .n;
+      blocks = G .w;
+      size = λ a i. 2 * i;
+      slots = λ a i y. slots4 i y;
+      slot = λ a i y l. slot4 (codeSizes G) a i y l ∷ [];
+    }
+
+abbrev pub pairGroup : Code → Group
+pairGroup G =
+    record {
+      items = pairTotal G;
+      blocks = G .w + G .w;
+      size = λ k i. chainSize (chainBit (G .w) i);
+      slots = λ k i y. chainSlots (chainBit (G .w) i) y;
+      slot = λ k i y l. slot5 (codeSizes G) k (pairBody G k) (pairHead G k) i y l ∷ [];
+    }
+
+abbrev pub ruleGroup : Code → Group
+ruleGroup G =
+    record {
+      items = ruleCount G;
+      blocks = 1;
+      size = λ r i. size6 (G .w) (innerCount G r);
+      slots = λ r i y. slots6 (innerCount G r) y;
+      slot = λ r i y l. slot6 (codeSizes G) r (headOf G r) (before G r) (innerCount G r) y l ∷ [];
+    }
+
+abbrev pub foundedGroup : Code → Group
+foundedGroup G =
+    record {
+      items = G .n;
+      blocks = 1;
+      size = λ a i. 1;
+      slots = λ a i y. suc (ruleCount G);
+      slot = λ a i y l. ofHead (headsOf G) a (foundsVar (codeSizes G)) l;
+    }
+
+-- ---- all groups, by their number
+
+abbrev pub groupCount : ℕ
+groupCount = 7
+
+unfoldable pub groupOf : Code → ℕ → Group
+groupOf G g =
+    cond (eqb g 1) (bodyGroup G)
+    (cond (eqb g 2) (headGroup G)
+    (cond (eqb g 3) (zeroGroup G)
+    (cond (eqb g 4) (nextGroup G) (cond (eqb g 5) (pairGroup G) (cond (eqb g 6) (ruleGroup G) (foundedGroup G))))))
 
 unfoldable pub itemCount : Code → ℕ → ℕ
-itemCount G g = cond (eqb g 1) (ruleCount G) (cond (eqb g 5) (pairTotal G) (cond (eqb g 6) (ruleCount G) (G .n)))
+itemCount G g = groupOf G g .items
 
 unfoldable pub blockCount : Code → ℕ → ℕ
-blockCount G g = cond (eqb g 2) (suc (ruleCount G)) (cond (eqb g 4) (G .w) (cond (eqb g 5) (G .w + G .w) 1))
+blockCount G g = groupOf G g .blocks
 
 unfoldable pub size : Code → ℕ → ℕ → ℕ → ℕ
-size G g a i =
-    cond (eqb g 1) (suc (bodyCount G a))
-    (cond (eqb g 2) (size2 G a i)
-    (cond (eqb g 3) (G .w)
-    (cond (eqb g 4) (2 * i) (cond (eqb g 5) (chainSize (chainBit (G .w) i)) (cond (eqb g 6) (size6 (G .w) (innerCount G a)) 1)))))
+size G g a i = groupOf G g .size a i
 
 unfoldable pub slots : Code → ℕ → ℕ → ℕ → ℕ → ℕ
-slots G g a i y =
-    cond (eqb g 1) (slots1 (bodyCount G a) y)
-    (cond (eqb g 2) (slots2 G i)
-    (cond (eqb g 3) 2
-    (cond (eqb g 4) (slots4 i y) (cond (eqb g 5) (chainSlots (chainBit (G .w) i) y) (cond (eqb g 6) (slots6 (innerCount G a) y) (suc (ruleCount G)))))))
+slots G g a i y = groupOf G g .slots a i y
 
 unfoldable pub slot : Code → ℕ → ℕ → ℕ → ℕ → ℕ → List Literal
-slot G g a i y l =
-    cond (eqb g 1) (slot1 (codeSizes G) a (bodyOf G a) (positives G a) y l ∷ [])
-    (cond (eqb g 2) (slot2 G a i l)
-    (cond (eqb g 3) (slot3 (codeSizes G) a y l ∷ [])
-    (cond (eqb g 4) (slot4 (codeSizes G) a i y l ∷ [])
-    (cond (eqb g 5) (slot5 (codeSizes G) a (pairBody G a) (pairHead G a) i y l ∷ []) (cond (eqb g 6) (slot6 (codeSizes G) a (headOf G a) (before G a) (innerCount G a) y l ∷ []) (ofHead (headsOf G) a (foundsVar (codeSizes G)) l))))))
+slot G g a i y l = groupOf G g .slot a i y l
 
 abbrev pub clauseAt : Code → ℕ → ℕ → ℕ → ℕ → Clause
 clauseAt G g a i y = each (slots G g a i y) (slot G g a i y)
@@ -214,13 +292,13 @@ abbrev pub group : Code → ℕ → List Clause
 group G g = each (itemCount G g) (λ a. each (blockCount G g) (block G g a))
 
 unfoldable pub walked : Code → List Clause
-walked G = each 7 (group G)
+walked G = each groupCount (group G)
 
 -- ---- the places
 
 pub record BlockAt (G : Code) (g a i : ℕ) : Type 0 where
   pub group-some : 0 < g
-  pub group-in : g ≤ 7
+  pub group-in : g ≤ groupCount
   pub item-some : 0 < a
   pub item-in : a ≤ itemCount G g
   pub block-some : 0 < i

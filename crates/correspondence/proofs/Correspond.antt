@@ -44,7 +44,7 @@ use Rattle.answer_offers.proofs.Values.{values-length}
 use Rattle.answer_offers.proofs.Offers.{offered-proper, offered-fits, offered-spots, offered-fit, offered-values}
 use Rattle.clause_table_laws.proofs.Bounds.{variables-fit}
 use Rattle.truth_clauses.specs.Truth.{valueIn}
-use Rattle.level_stages.specs.Levels.{setIn}
+use Rattle.level_lists.specs.Bytes.{setIn}
 use Rattle.call_results.specs.Results.{varTotal}
 use Rattle.call_results.proofs.ValueBytes.{value-same}
 use Rattle.call_check_rows.specs.declared.CheckVerdict.the-variants.{Model}

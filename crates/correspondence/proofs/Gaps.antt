@@ -27,7 +27,7 @@ use Rattle.text.specs.Limits.{Admitted}
 use Rattle.answer_form.specs.Pieces.{Spotted}
 use Rattle.answer_offers.specs.Offered.{valueBytes, valuesOf}
 use Rattle.truth_clauses.specs.Truth.{valueIn}
-use Rattle.level_stages.specs.Levels.{setIn}
+use Rattle.level_lists.specs.Bytes.{setIn}
 use Rattle.call_results.specs.Results.{levelByte, varTotal}
 use Rattle.call_results.proofs.ValueBytes.{value-same, atoms-within, value-here, level-here}
 use Rattle.call_check_rows.specs.declared.CheckVerdict.the-variants.{Model}

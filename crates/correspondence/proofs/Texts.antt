@@ -37,7 +37,7 @@ use Rattle.call_lines_rows.specs.Rows.{LineRow, of-text, short-buffer, no-such-
 use Rattle.call_lines_rows.proofs.Rows.{none-written}
 use Rattle.call_lines_rows.proofs.Calls.{line-writes}
 use Rattle.call_lines_rows.proofs.File as File
-use Rattle.level_stages.specs.Levels.{setIn}
+use Rattle.level_lists.specs.Bytes.{setIn}
 use Rattle.call_results.specs.Results.{levelByte, varTotal}
 use Rattle.call_results.proofs.ValueBytes.{level-here}
 use Rattle.call_check_rows.specs.Check.{checkLevels}

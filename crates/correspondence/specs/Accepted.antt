@@ -16,7 +16,7 @@ use Rattle.meaning.specs.Stage.{level}
 use Rattle.encoding.specs.Fill.{trueAtoms}
 use Rattle.answer_form.specs.Pieces.{Spotted}
 use Rattle.answer_offers.specs.Offered.{valueBytes, valuesOf}
-use Rattle.level_stages.specs.Levels.{setIn}
+use Rattle.level_lists.specs.Bytes.{setIn}
 use Rattle.call_check_rows.specs.declared.CheckVerdict.the-variants.{Model}
 use Rattle.call_results.specs.Results.{varTotal}
 use Rattle.call_check_rows.specs.Check.{checkAnswer, checkAssignment, checkLevels}

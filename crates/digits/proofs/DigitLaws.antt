@@ -19,7 +19,8 @@ use Rattle.text.specs.Decimal.{decimal}
 use Rattle.text.proofs.Decimals.{decimal-small, decimal-large}
 use Rattle.digits.specs.declared.Digits.{Digits}
 use Rattle.digits.specs.Digits.{digitCount, digitsOf, digitsText}
-use Rattle.digits.proofs.Begins.{Begins, begins-none, begins-byte, begins-same}
+use Rattle.digits.specs.Bytes.{Wrote}
+use Rattle.digits.proofs.Wrote.{wrote-none, wrote-byte, wrote-as}
 
 -- ---- how many digits
 
@@ -94,44 +95,42 @@ module _ (x : Digits) where
     pub four-room : x .count ≡ 4 → 5 ≤ length b
     four-room e = room (text-four e)
 
-    pub four-stores : x .count ≡ 4 → Begins b (set (set (set (set (set b 0 (x .a)) 1 (x .b)) 2 (x .c)) 3 (x .d)) 4 32) (digitsText x) 5
+    pub four-stores : x .count ≡ 4 → Wrote (digitsText x) b (set (set (set (set (set b 0 (x .a)) 1 (x .b)) 2 (x .c)) 3 (x .d)) 4 32) 5
     four-stores e =
-        begins-same
-        (begins-byte
-        (begins-byte
-        (begins-byte (begins-byte (begins-byte (begins-none b) (x .a) (omega (arith, four-room e))) (x .b) (omega (arith, four-room e))) (x .c) (omega (arith, four-room e)))
+        wrote-as (text-four e)
+        (wrote-byte
+        (wrote-byte
+        (wrote-byte (wrote-byte (wrote-byte (wrote-none b) (x .a) (omega (arith, four-room e))) (x .b) (omega (arith, four-room e))) (x .c) (omega (arith, four-room e)))
         (x .d) (omega (arith, four-room e)))
         32 (omega (arith, four-room e)))
-        (text-four e)
 
     module _ (f : x .count ≡ 4 → ⊥) where
       pub three-room : x .count ≡ 3 → 4 ≤ length b
       three-room e = room (text-three f e)
 
-      pub three-stores : x .count ≡ 3 → Begins b (set (set (set (set b 0 (x .b)) 1 (x .c)) 2 (x .d)) 3 32) (digitsText x) 4
+      pub three-stores : x .count ≡ 3 → Wrote (digitsText x) b (set (set (set (set b 0 (x .b)) 1 (x .c)) 2 (x .d)) 3 32) 4
       three-stores e =
-          begins-same
-          (begins-byte
-          (begins-byte (begins-byte (begins-byte (begins-none b) (x .b) (omega (arith, three-room e))) (x .c) (omega (arith, three-room e))) (x .d) (omega (arith, three-room e)))
+          wrote-as (text-three f e)
+          (wrote-byte
+          (wrote-byte (wrote-byte (wrote-byte (wrote-none b) (x .b) (omega (arith, three-room e))) (x .c) (omega (arith, three-room e))) (x .d) (omega (arith, three-room e)))
           32 (omega (arith, three-room e)))
-          (text-three f e)
 
       module _ (g : x .count ≡ 3 → ⊥) where
         pub two-room : x .count ≡ 2 → 3 ≤ length b
         two-room e = room (text-two f g e)
 
-        pub two-stores : x .count ≡ 2 → Begins b (set (set (set b 0 (x .c)) 1 (x .d)) 2 32) (digitsText x) 3
+        pub two-stores : x .count ≡ 2 → Wrote (digitsText x) b (set (set (set b 0 (x .c)) 1 (x .d)) 2 32) 3
         two-stores e =
-            begins-same
-            (begins-byte (begins-byte (begins-byte (begins-none b) (x .c) (omega (arith, two-room e))) (x .d) (omega (arith, two-room e))) 32 (omega (arith, two-room e)))
-            (text-two f g e)
+            wrote-as (text-two f g e)
+            (wrote-byte (wrote-byte (wrote-byte (wrote-none b) (x .c) (omega (arith, two-room e))) (x .d) (omega (arith, two-room e))) 32 (omega (arith, two-room e)))
 
         pub one-room : (x .count ≡ 2 → ⊥) → 2 ≤ length b
         one-room h = room (text-one f g h)
 
-        pub one-stores : (x .count ≡ 2 → ⊥) → Begins b (set (set b 0 (x .d)) 1 32) (digitsText x) 2
+        pub one-stores : (x .count ≡ 2 → ⊥) → Wrote (digitsText x) b (set (set b 0 (x .d)) 1 32) 2
         one-stores h =
-            begins-same (begins-byte (begins-byte (begins-none b) (x .d) (omega (arith, one-room h))) 32 (omega (arith, one-room h))) (text-one f g h)
+            wrote-as (text-one f g h)
+            (wrote-byte (wrote-byte (wrote-none b) (x .d) (omega (arith, one-room h))) 32 (omega (arith, one-room h)))
 
 pub room-at : (k : ℕ) {m : ℕ} (b : List ℕ) → k < m → m ≤ length b → k < length b
 room-at k b l h = omega (arith, l, h)

@@ -2,9 +2,10 @@
 --   literalText x     the literal x: the digits of its variable's number, byte 45 before them when it is negative
 --   literalsText c    the literals of c, each followed by one space
 --   lineText c        the line of clause c: its literals, each followed by one space, then 0 and byte 10
+--   Room s b          the buffer b has room for the text s
 --   Wrote s b e r     e is the buffer b with the text s at its front, of r bytes; the bytes after it stay
 -- Assumes nothing.
-use Prim.Native.Nat.{ℕ, suc}
+use Prim.Native.Nat.{ℕ, suc, _≤_}
 use mathlib.Core.Path.{_≡_}
 use mathlib.Core.List.{List, [], _∷_, _++_}
 use lib.IntN.{ℤ, pos, negsuc}
@@ -23,5 +24,9 @@ literalsText (l ∷ ls) = (literalText (literalNumber l) ++ (32 ∷ [])) ++ lite
 abbrev pub lineText : Clause → List ℕ
 lineText c = literalsText c ++ (48 ∷ 10 ∷ [])
 
-abbrev pub Wrote : List ℕ → List ℕ → List ℕ → ℕ → Type 0
-Wrote s b e r = (r ≡ length s) × (e ≡ s ++ drop r b)
+abbrev pub Room : List ℕ → List ℕ → Type 0
+Room s b = length s ≤ length b
+
+pub record Wrote (s b e : List ℕ) (r : ℕ) : Type 0 where
+  pub count : r ≡ length s
+  pub bytes : e ≡ s ++ drop r b

@@ -1,13 +1,13 @@
 // Decimal numbers and literals as bytes, written into a lent buffer.
 use clause_literals::is_negative;
 use clause_literals::magnitude;
-ghost use Prim.Native.Nat.{_+_, _%_, _^_, _≤_, _<_};
+ghost use Prim.Native.Nat.{_+_, _%_, _^_, _<_};
 ghost use mathlib.Core.Path.{_≡_};
 ghost use mathlib.Core.List.{[], _∷_, _++_};
 ghost use lib.IntN.{natAbs};
-ghost use lib.ListN.{length, drop};
+ghost use lib.ListN.{length};
 ghost use Rattle.text.specs.Decimal.{decimal};
-ghost use Rattle.digits.specs.Bytes.{literalText};
+ghost use Rattle.digits.specs.Bytes.{literalText, Room, Wrote};
 ghost use Rattle.digits.specs.Digits.{digitCount, digitsOf, digitsText};
 
 // The last decimal digit of n, as a byte.
@@ -19,8 +19,8 @@ fn digit(n: usize) -> u8
 
 // Writes the one to four digits of n at the front of the buffer and returns how many they are.
 fn put_small(n: usize, buf: &mut [u8]) -> usize
-    requires { ⌜ (n < 10000) × (length (decimal n) ≤ length (now buf)) ⌝ }
-    ensures { λ r. ⌜ (r ≡ length (decimal n)) × (now (buf .exit) ≡ decimal n ++ drop r (now (buf .entry))) ⌝ }
+    requires { ⌜ (n < 10000) × (Room (decimal n) (now buf)) ⌝ }
+    ensures { λ r. ⌜ Wrote (decimal n) (now (buf .entry)) (now (buf .exit)) r ⌝ }
 {
     if n < 10 {
         buf[0] = digit(n);
@@ -46,8 +46,8 @@ fn put_small(n: usize, buf: &mut [u8]) -> usize
 
 // Writes the digits of n at the front of the buffer and returns how many they are.
 fn put_large(n: usize, buf: &mut [u8]) -> usize
-    requires { ⌜ length (decimal n) ≤ length (now buf) ⌝ }
-    ensures { λ r. ⌜ (r ≡ length (decimal n)) × (now (buf .exit) ≡ decimal n ++ drop r (now (buf .entry))) ⌝ }
+    requires { ⌜ Room (decimal n) (now buf) ⌝ }
+    ensures { λ r. ⌜ Wrote (decimal n) (now (buf .entry)) (now (buf .exit)) r ⌝ }
 {
     if n < 10000 {
         return put_small(n, &mut *buf);
@@ -59,8 +59,8 @@ fn put_large(n: usize, buf: &mut [u8]) -> usize
 
 // Writes n in decimal at the front of the buffer, without recursion where it has up to four digits, and returns how many bytes it has.
 pub fn put_decimal(n: usize, buf: &mut [u8]) -> usize
-    requires { ⌜ length (decimal n) ≤ length (now buf) ⌝ }
-    ensures { λ r. ⌜ (r ≡ length (decimal n)) × (now (buf .exit) ≡ decimal n ++ drop r (now (buf .entry))) ⌝ }
+    requires { ⌜ Room (decimal n) (now buf) ⌝ }
+    ensures { λ r. ⌜ Wrote (decimal n) (now (buf .entry)) (now (buf .exit)) r ⌝ }
 {
     if n < 10000 {
         return put_small(n, &mut *buf);
@@ -70,8 +70,8 @@ pub fn put_decimal(n: usize, buf: &mut [u8]) -> usize
 
 // Writes the digits of n and the byte `end` at the front of the buffer and returns how many bytes they are.
 pub fn put_number(n: usize, end: u8, buf: &mut [u8]) -> usize
-    requires { ⌜ length (decimal n ++ (end ∷ [])) ≤ length (now buf) ⌝ }
-    ensures { λ r. ⌜ (r ≡ length (decimal n ++ (end ∷ []))) × (now (buf .exit) ≡ (decimal n ++ (end ∷ [])) ++ drop r (now (buf .entry))) ⌝ }
+    requires { ⌜ Room (decimal n ++ (end ∷ [])) (now buf) ⌝ }
+    ensures { λ r. ⌜ Wrote (decimal n ++ (end ∷ [])) (now (buf .entry)) (now (buf .exit)) r ⌝ }
 {
     let k = put_decimal(n, &mut *buf);
     buf[k] = end;
@@ -80,8 +80,8 @@ pub fn put_number(n: usize, end: u8, buf: &mut [u8]) -> usize
 
 // Writes the literal x and one space at the front of the buffer and returns how many bytes they are.
 pub fn put_literal(x: i32, buf: &mut [u8]) -> usize
-    requires { ⌜ (natAbs x < 2 ^ 31) × (length (literalText x ++ (32 ∷ [])) ≤ length (now buf)) ⌝ }
-    ensures { λ r. ⌜ (r ≡ length (literalText x ++ (32 ∷ []))) × (now (buf .exit) ≡ (literalText x ++ (32 ∷ [])) ++ drop r (now (buf .entry))) ⌝ }
+    requires { ⌜ (natAbs x < 2 ^ 31) × (Room (literalText x ++ (32 ∷ [])) (now buf)) ⌝ }
+    ensures { λ r. ⌜ Wrote (literalText x ++ (32 ∷ [])) (now (buf .entry)) (now (buf .exit)) r ⌝ }
 {
     let n = magnitude(x) as usize;
     if is_negative(x) {
@@ -142,8 +142,8 @@ pub fn digits_of(n: u16) -> Digits
 
 // Writes the digits and one space at the front of the buffer and returns how many bytes they are.
 pub fn put_digits(x: Digits, buf: &mut [u8]) -> usize
-    requires { ⌜ length (digitsText x) ≤ length (now buf) ⌝ }
-    ensures { λ r. ⌜ (r ≡ length (digitsText x)) × (now (buf .exit) ≡ digitsText x ++ drop r (now (buf .entry))) ⌝ }
+    requires { ⌜ Room (digitsText x) (now buf) ⌝ }
+    ensures { λ r. ⌜ Wrote (digitsText x) (now (buf .entry)) (now (buf .exit)) r ⌝ }
 {
     if x.count == 4 {
         buf[0] = x.a;

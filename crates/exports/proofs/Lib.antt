@@ -1,4 +1,4 @@
--- Told: a reply from the verdict, the number and spot, or the totals given
+-- Told: the reply of a call, from what the calls below gave
 -- Zero: a reply's number is 0 exactly if the call accepts
 pub mod Told
 pub mod Zero

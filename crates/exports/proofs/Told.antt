@@ -1,27 +1,28 @@
--- A reply, from what the calls below gave: a verdict by its case, a refusal by its number and spot, a program by its totals, a text by its reading.
+-- The reply of a call, from what the calls below gave: with its buffers; to a text, by its totals.
 -- Assumes nothing.
 use Prim.Native.Nat.{ℕ}
-use mathlib.Core.Path.{_≡_, sym, _∙_, ap, ap₂}
+use mathlib.Core.Path.{_≡_, refl, sym, _∙_, ap}
 use mathlib.Core.List.{List}
 use Rattle.meaning.specs.Program.{Program}
 use Rattle.encoding.specs.Code.{codeOf}
 use Rattle.reader.specs.declared.ReadResult.{ReadResult}
 use Rattle.reader.specs.declared.ReadVerdict.{ReadVerdict}
+use Rattle.reader.specs.declared.ReadVerdict.the-variants.{Accepted, Refused as TextRefused}
 use Rattle.reader.specs.Verdict.{readOf}
+use Rattle.refusals.specs.declared.TextRefusal.{TextRefusal}
+use Rattle.refusals.specs.Numbers.{textNumber, textSpot}
 use Rattle.program.specs.Arrays.{decoded}
 use Rattle.clause_tables.specs.declared.Totals.{Totals}
 use Rattle.clause_tables.specs.Tables.{totalsOf}
+use Rattle.call_table.specs.declared.TotalsRead.{TotalsRead}
+use Rattle.call_table.specs.Loaded.{totalsRead}
+use Rattle.call_table.proofs.Reading.{totals-verdict, totals-are}
 use Rattle.call_lines_rows.specs.Lines.{Answered, answered}
 use Rattle.call_results.specs.Results.{Called, called}
-use Rattle.exports.specs.declared.Reply.{Reply}
-use Rattle.exports.specs.Replies.{acceptedReply, refusedReply, totalsReply, ofReading, readReply}
-
--- the verdict v is w
-pub told : {A : Type 0} (f : A → Reply) {v w : A} {r : Reply} → v ≡ w → r ≡ f w → r ≡ f v
-told f q e = e ∙ sym (ap f q)
-
-pub numbered : {i j s u : ℕ} {r : Reply} → i ≡ j → s ≡ u → r ≡ refusedReply i s → r ≡ refusedReply j u
-numbered e f q = q ∙ ap₂ refusedReply e f
+use Rattle.call_replies.specs.declared.Reply.{Reply}
+use Rattle.call_replies.specs.Replies.{acceptedReply, refusedReply, totalsReply, ofReading}
+use Rattle.call_replies.proofs.Told.{told}
+use Rattle.exports.specs.Replies.{readReply}
 
 -- the reply for a verdict, with the buffers as the call leaves them
 pub replied-lines : {A : Type 0} (f : A → Reply) {v : A} {b : List ℕ} {x : Answered A} {r : Reply} → r ≡ f v → answered v b ≡ x → answered r b ≡ answered (f (x .verdict)) (x .buffer)
@@ -39,3 +40,15 @@ module _ (t : List ℕ) {x : ReadResult} (e : x ≡ readOf t) {r : Reply} where
   unfolding readReply
   reading-told q h =
       told (λ (v : ReadVerdict). ofReading v (decoded (x .program))) q h ∙ ap (λ (y : ReadResult). ofReading (y .verdict) (decoded (y .program))) e
+
+-- the reply to a text, from its totals
+module _ (t : List ℕ) {x : TotalsRead} (e : x ≡ totalsRead (readOf t)) where
+  verdict-told : {v : ReadVerdict} → x .verdict ≡ v → readOf t .verdict ≡ v
+  verdict-told q = sym (totals-verdict (readOf t)) ∙ ap (λ (y : TotalsRead). y .verdict) (sym e) ∙ q
+
+  pub accepted-told : {r : Reply} → x .verdict ≡ Accepted → r ≡ acceptedReply (x .totals .vars) (x .totals .clauses) 0 → r ≡ readReply t
+  accepted-told q h =
+      reading-told t refl (verdict-told q) (totalled _ (ap (λ (y : TotalsRead). y .totals) e ∙ totals-are (readOf t) (verdict-told q)) h)
+
+  pub refused-told : {r : Reply} {s : TextRefusal} → x .verdict ≡ TextRefused s → r ≡ refusedReply (textNumber s) (textSpot s) → r ≡ readReply t
+  refused-told q h = reading-told t refl (verdict-told q) h

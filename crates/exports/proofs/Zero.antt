@@ -34,7 +34,8 @@ use Rattle.call_fill_rows.specs.declared.FillVerdict.{FillVerdict}
 use Rattle.call_fill_rows.specs.declared.FillVerdict.the-variants.{Filled, Refused as FillRefused}
 use Rattle.refusals.specs.Numbers.{fillNumber}
 use Rattle.call_fill_rows.specs.FillOut.{fillAnswer}
-use Rattle.exports.specs.Replies.{ofReading, ofLine, ofRun, ofCheck, ofFill, readReply, lineReply, runReply, checkReply, fillReply}
+use Rattle.call_replies.specs.Replies.{ofReading, ofLine, ofRun, ofCheck, ofFill}
+use Rattle.exports.specs.Replies.{readReply, lineReply, runReply, checkReply, fillReply}
 
 -- ---- no row has the number 0
 

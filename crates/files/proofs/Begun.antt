@@ -1,4 +1,4 @@
--- A buffer that begins with a text counts its bytes.
+-- A buffer with a text at its front counts its bytes.
 -- Assumes nothing.
 use Prim.Native.Nat.{ℕ, _≤_}
 use native.Mathlib.Omega.{arith}
@@ -6,10 +6,11 @@ use mathlib.Core.Path.{_≡_, sym, ap}
 use mathlib.Core.List.{List, _++_}
 use lib.ListN.{length, drop, length-append}
 use lib.Seq.{length-take-le}
+use Rattle.digits.specs.Bytes.{Wrote}
 use Rattle.io.specs.Counts.{Counts}
 
-pub begins-counts : (b x : List ℕ) {l : List ℕ} {r : ℕ} → (r ≡ length x) × (l ≡ x ++ drop r b) → Counts r l
-begins-counts b x {l} {r} u = (within, sym (length-take-le r l within))
+pub wrote-counts : {x b l : List ℕ} {r : ℕ} → Wrote x b l r → Counts r l
+wrote-counts {x} {b} {l} {r} u = (within, sym (length-take-le r l within))
   where
     within : r ≤ length l
-    within = omega (arith, u .0, ap length (u .1), length-append x (drop r b))
+    within = omega (arith, u .count, ap length (u .bytes), length-append x (drop r b))

@@ -1,23 +1,15 @@
 -- The six families of the filled-out values, by the tests that code makes.
 --   family-atoms .. family-chains    what each of the six functions writes is family k
 --   only-six                         none of the first five
---   room-as, put-as                  room for a list, and a list put at the front of a buffer, by an equal one
 -- Assumes nothing.
 use Prim.Native.Nat.{ℕ, zero, suc, _≤_, _<_}
 use native.Mathlib.Omega.{arith}
-use mathlib.Core.Path.{_≡_, refl, sym, _∙_, ap, ap₂, subst}
-use mathlib.Core.List.{List, _++_}
-use lib.ListN.{length, drop}
+use mathlib.Core.Path.{_≡_, refl, sym, _∙_, ap, ap₂}
+use mathlib.Core.List.{List}
 use Rattle.clause_tables.specs.declared.Totals.{Totals}
 use Rattle.clause_tables.specs.Tables.{totalsIn, atomsIn, codeIn}
-use Rattle.level_stages.specs.Levels.{setIn, levelByte}
+use Rattle.level_lists.specs.Bytes.{setIn, levelByte}
 use Rattle.level_fill.specs.Values.{atomBytes, bodyBytes, foundsBytes, levelBytes, chainBytes, familyIn}
-
-pub room-as : {l m : List ℕ} {n : ℕ} → l ≡ m → length m ≤ n → length l ≤ n
-room-as {l} {m} {n} e h = subst (λ (x : List ℕ). length x ≤ n) (sym e) h
-
-pub put-as : (b : List ℕ) {l m c : List ℕ} {r : ℕ} → l ≡ m → (r ≡ length l) × (c ≡ l ++ drop r b) → (r ≡ length m) × (c ≡ m ++ drop r b)
-put-as b {l} {m} {c} {r} e p = (p .0 ∙ ap length e, p .1 ∙ ap (λ (x : List ℕ). x ++ drop r b) e)
 
 pub only-six : (k : ℕ) → 0 < k → k ≤ 6 → (k ≡ 1 → ⊥) → (k ≡ 2 → ⊥) → (k ≡ 3 → ⊥) → (k ≡ 4 → ⊥) → (k ≡ 5 → ⊥) → k ≡ 6
 only-six zero p h a b c d e = absurd (omega (arith, p))

@@ -1,16 +1,16 @@
 -- What each family asks and writes, for a code in its tables (Tabled G ..); s are the bytes of the set, ls those of the levels.
 --   body-unmet, body-is           the body of a rule, list by list
 --   founds-unmet, founds-is       whether a rule founds its head
---   rule-asks, rule-inside, rule-row, rules-done    one rule of many
---   inside, pair-fits, partner-fits, owner-fits, pair-row, pairs-done    one pair of many
+--   rule-asks, rule-inside, rule-row, rules-in, rules-done    one rule of many
+--   pair-fits, partner-fits, owner-fits, pair-row, pairs-asks, pairs-in, pairs-done    one pair of many
 --   atom-row                      one atom of many
---   family-room, families-written    the families one after the other
+--   families-room, families-written, values-written    the families one after the other
 --   levels-long, filled-is        with the levels of the stages
 -- Assumes nothing.
-use Prim.Native.Nat.{ℕ, suc, _+_, _-_, _≤_, _<_}
+use Prim.Native.Nat.{ℕ, zero, suc, _+_, _-_, _≤_, _<_}
 use native.Mathlib.Numerals.{add-one}
 use native.Mathlib.Omega.{arith}
-use mathlib.Core.Path.{_≡_, refl, sym, _∙_, ap, ap₂, subst}
+use mathlib.Core.Path.{_≡_, sym, _∙_, ap, ap₂, subst}
 use mathlib.Core.Bool.{Bool, true, false, not, _&&_, So}
 use mathlib.Core.List.{List, _++_}
 use lib.Dec.{eqb, ltb}
@@ -25,14 +25,14 @@ use Rattle.clause_tables.specs.declared.Totals.{Totals}
 use Rattle.clause_tables.specs.Tables.{Tabled}
 use Rattle.clause_table_laws.proofs.Elements.{ranges, inner-all, pairs-fit, rules-are, atoms-are, width-are, pairs-are, vars-are, partner-is, owner-is}
 use Rattle.truth_clauses.specs.Truth.{valueIn}
-use Rattle.level_stages.specs.Levels.{setIn, levelByte}
-use Rattle.level_stages.proofs.Rules.{set-is, none-is, all-is}
+use Rattle.level_lists.specs.Bytes.{setIn, levelByte}
+use Rattle.level_lists.proofs.Rules.{set-is, none-is, all-is}
 use Rattle.level_stages.proofs.OneRound.{tab-byte}
 use Rattle.answer_offers.specs.Offered.{valueBytes}
 use Rattle.level_fill.specs.Values.{byteOf, foundsAt, pairBytes, pairAtBytes, familyBytes, filledWith}
-use Rattle.level_fill.proofs.Writes.{rows-fit, rows-all}
 use Rattle.level_fill.proofs.Whole.{filled-same, filled-fill, values-are, values-length}
-use Rattle.digits.proofs.Begins.{Begins}
+use Rattle.digits.specs.Bytes.{Room, Wrote}
+use Rattle.digits.proofs.Wrote.{wrote-as, rows-whole}
 
 -- ---- one rule
 
@@ -75,43 +75,60 @@ module _ {G : Code} {t : Totals} {hs ss bs ks xs ys : List ℕ} (T : Tabled G t 
   pub rule-inside : (k : ℕ) → k < t .sizes .m → k < length (G .rules)
   rule-inside k h = subst (λ (m : ℕ). k < m) (rules-are G t hs ss bs ks xs ys T) h
 
+  pub rules-in : (k : ℕ) → k ≤ t .sizes .m → k ≤ length (G .rules)
+  rules-in k h = subst (λ (m : ℕ). k ≤ m) (rules-are G t hs ss bs ks xs ys T) h
+
   -- as many as there are
   pub rules-done : (k : ℕ) → k ≤ t .sizes .m → t .sizes .m ≤ k → (k ≤ length (G .rules)) × (length (G .rules) ≤ k)
   rules-done k h l = (subst (λ (m : ℕ). k ≤ m) (rules-are G t hs ss bs ks xs ys T) h, subst (λ (m : ℕ). m ≤ k) (rules-are G t hs ss bs ks xs ys T) l)
 
+  -- pair k + 1, where there are k before it
+  pub pairs-asks : (k : ℕ) → k < t .pairs → k < pairTotal G
+  pairs-asks k h = subst (λ (m : ℕ). k < m) (pairs-are G t hs ss bs ks xs ys T) h
+
+  pub pairs-in : (k : ℕ) → k ≤ t .pairs → k ≤ pairTotal G
+  pairs-in k h = subst (λ (m : ℕ). k ≤ m) (pairs-are G t hs ss bs ks xs ys T) h
+
   pub pairs-done : (k : ℕ) → k ≤ t .pairs → t .pairs ≤ k → (k ≤ pairTotal G) × (pairTotal G ≤ k)
   pairs-done k h l = (subst (λ (m : ℕ). k ≤ m) (pairs-are G t hs ss bs ks xs ys T) h, subst (λ (m : ℕ). m ≤ k) (pairs-are G t hs ss bs ks xs ys T) l)
 
-  -- ---- pair k + 1
-  module _ (k : ℕ) (h : k < t .pairs) where
-    pub inside : k < pairTotal G
-    inside = subst (λ (m : ℕ). k < m) (pairs-are G t hs ss bs ks xs ys T) h
+  -- ---- pair k
+  module _ (k : ℕ) (p : 0 < k) (h : k ≤ t .pairs) where
+    inside : k ≤ pairTotal G
+    inside = subst (λ (m : ℕ). k ≤ m) (pairs-are G t hs ss bs ks xs ys T) h
 
-    pub pair-fits : k + 1 ≤ 500
+    pub pair-fits : k ≤ 500
     pair-fits = omega (arith, inside, pairs-fit G (T .limits))
 
-    body-of : {b : ℕ} → b ≡ getD xs (k + 1 - 1) 0 → b ≡ pairBody G (suc k)
-    body-of e = e ∙ partner-is G t hs ss bs ks xs ys T (k + 1) (omega arith) (omega (arith, inside)) ∙ ap (λ (j : ℕ). pairBody G j) (add-one k)
+    body-of : {b : ℕ} → b ≡ getD xs (k - 1) 0 → b ≡ pairBody G k
+    body-of e = e ∙ partner-is G t hs ss bs ks xs ys T k p inside
 
-    head-of : {b : ℕ} → b ≡ getD ys (k + 1 - 1) 0 → b ≡ pairHead G (suc k)
-    head-of e = e ∙ owner-is G t hs ss bs ks xs ys T (k + 1) (omega arith) (omega (arith, inside)) ∙ ap (λ (j : ℕ). pairHead G j) (add-one k)
+    head-of : {b : ℕ} → b ≡ getD ys (k - 1) 0 → b ≡ pairHead G k
+    head-of e = e ∙ owner-is G t hs ss bs ks xs ys T k p inside
 
+    -- both are atoms, and have a byte among the levels ls
     has-byte : (ls : List ℕ) {a b : ℕ} → t .sizes .n ≤ length ls → a ≡ b → So (isAtom (G .n) b) → (0 < a) × (a ≤ length ls)
     has-byte ls {a} {b} l e u =
         let v = subst (λ (x : ℕ). So (isAtom (G .n) x)) (sym e) u in (atom-pos (G .n) a v, omega (arith, atoms, atom-le (G .n) a v, l))
 
-    pub partner-fits : (ls : List ℕ) {b : ℕ} → t .sizes .n ≤ length ls → b ≡ getD xs (k + 1 - 1) 0 → (0 < b) × (b ≤ length ls)
-    partner-fits ls l e = has-byte ls l (body-of e) (body-in G (ranges G (T .limits)) k inside)
+    pub partner-fits : (ls : List ℕ) {b : ℕ} → t .sizes .n ≤ length ls → b ≡ getD xs (k - 1) 0 → (0 < b) × (b ≤ length ls)
+    partner-fits ls l e = has-byte ls l (body-of e) (go k p inside)
+      where
+        go : (k : ℕ) → 0 < k → k ≤ pairTotal G → So (isAtom (G .n) (pairBody G k))
+        go zero p h = absurd (omega (arith, p))
+        go (suc j) p h = body-in G (ranges G (T .limits)) j h
 
-    pub owner-fits : (ls : List ℕ) {b : ℕ} → t .sizes .n ≤ length ls → b ≡ getD ys (k + 1 - 1) 0 → (0 < b) × (b ≤ length ls)
-    owner-fits ls l e = has-byte ls l (head-of e) (head-in G (ranges G (T .limits)) k inside)
+    pub owner-fits : (ls : List ℕ) {b : ℕ} → t .sizes .n ≤ length ls → b ≡ getD ys (k - 1) 0 → (0 < b) × (b ≤ length ls)
+    owner-fits ls l e = has-byte ls l (head-of e) (go k p inside)
+      where
+        go : (k : ℕ) → 0 < k → k ≤ pairTotal G → So (isAtom (G .n) (pairHead G k))
+        go zero p h = absurd (omega (arith, p))
+        go (suc j) p h = head-in G (ranges G (T .limits)) j h
 
     -- x and y are the levels of its body atom b and its head a
-    pub pair-row : (w : ℕ) (ls : List ℕ) {a b x y : ℕ} → b ≡ getD xs (k + 1 - 1) 0 → x ≡ levelByte ls b → a ≡ getD ys (k + 1 - 1) 0 → y ≡ levelByte ls a
-        → pairBytes w x y ≡ pairAtBytes G w (levelByte ls) (k + 1)
-    pair-row w ls e f g l =
-        ap₂ (pairBytes w) (f ∙ ap (levelByte ls) (body-of e ∙ ap (λ (j : ℕ). pairBody G j) (sym (add-one k))))
-        (l ∙ ap (levelByte ls) (head-of g ∙ ap (λ (j : ℕ). pairHead G j) (sym (add-one k))))
+    pub pair-row : (w : ℕ) (ls : List ℕ) {a b x y : ℕ} → b ≡ getD xs (k - 1) 0 → x ≡ levelByte ls b → a ≡ getD ys (k - 1) 0 → y ≡ levelByte ls a
+        → pairBytes w x y ≡ pairAtBytes G w (levelByte ls) k
+    pair-row w ls e f g l = ap₂ (pairBytes w) (f ∙ ap (levelByte ls) (body-of e)) (l ∙ ap (levelByte ls) (head-of g))
 
   -- ---- all families, with w the width
   module _ (s ls : List ℕ) {w : ℕ} (q : w ≡ t .sizes .w) where
@@ -127,17 +144,18 @@ module _ {G : Code} {t : Totals} {hs ss bs ks xs ys : List ℕ} (T : Tabled G t 
     families-length =
         ap length (sym families-are) ∙ values-length G M (levelByte ls) ∙ sym (vars-are G t hs ss bs ks xs ys T)
 
-    -- family k + 1 after the first k
-    pub family-room : (b : List ℕ) → t .vars ≤ length b → (k : ℕ) → k < 6
-        → length (each k (familyBytes G (t .sizes .n) w M (levelByte ls)) ++ familyBytes G (t .sizes .n) w M (levelByte ls) (k + 1)) ≤ length b
-    family-room b h k l =
-        rows-fit b (familyBytes G (t .sizes .n) w M (levelByte ls)) 6 k refl l (subst (λ (m : ℕ). m ≤ length b) (sym families-length) h)
+    pub families-room : (b : List ℕ) → t .vars ≤ length b → Room (each 6 (familyBytes G (t .sizes .n) w M (levelByte ls))) b
+    families-room b h = omega (arith, families-length, h)
 
-    pub families-written : {b e : List ℕ} {k to : ℕ} → k ≤ 6 → 6 ≤ k → Begins b e (each k (familyBytes G (t .sizes .n) w M (levelByte ls))) to
-        → (to ≡ t .vars) × (e ≡ valueBytes (filledWith G M (levelByte ls)) ++ drop (t .vars) b)
-    families-written {b} {e} {k} {to} h l B =
-        let q = rows-all b (familyBytes G (t .sizes .n) w M (levelByte ls)) 6 k h l B in
-        let place = q .0 ∙ families-length in (place, q .1 ∙ ap₂ (λ (x : List ℕ) (j : ℕ). x ++ drop j b) (sym families-are) place)
+    pub families-written : {b e : List ℕ} {k to : ℕ} → k ≤ 6 → 6 ≤ k → Wrote (each k (familyBytes G (t .sizes .n) w M (levelByte ls))) b e to
+        → Wrote (valueBytes (filledWith G M (levelByte ls))) b e to
+    families-written h l W = wrote-as (sym families-are) (rows-whole (familyBytes G (t .sizes .n) w M (levelByte ls)) h l W)
+
+    -- all of them, where bs are the values that they stand for
+    pub values-written : {bs : List Bool} {b e : List ℕ} {r : ℕ} → filledWith G M (levelByte ls) ≡ bs → Wrote (valueBytes (filledWith G M (levelByte ls))) b e r
+        → e ≡ valueBytes bs ++ drop (t .vars) b
+    values-written {b = b} v W =
+        W .bytes ∙ ap₂ (λ (vs : List Bool) (k : ℕ). valueBytes vs ++ drop k b) v (W .count ∙ ap length families-are ∙ families-length)
 
   -- ---- with the levels of the stages
   module _ (s rest : List ℕ) {ls : List ℕ} (q : ls ≡ tab (t .sizes .n) (levelOf G (setIn (t .sizes .n) s)) ++ rest) where

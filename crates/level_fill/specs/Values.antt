@@ -22,7 +22,7 @@ use Rattle.encoding.specs.Code.{Code, codeSizes, rl, inner, pairList, pairTotal
 use Rattle.encoding.specs.Counter.{bit}
 use Rattle.encoding.specs.Fill.{lessAt, founds, fillWith}
 use Rattle.clause_tables.specs.Tables.{codeIn, atomsIn}
-use Rattle.level_stages.specs.Levels.{setIn, levelByte}
+use Rattle.level_lists.specs.Bytes.{setIn, levelByte}
 
 abbrev pub byteOf : Bool → ℕ
 byteOf b = cond b 1 0

@@ -3,10 +3,11 @@ use clause_cells::head;
 use clause_cells::pair_body;
 use clause_cells::pair_head;
 use clause_cells::totals;
-use level_stages::byte_of;
-use level_stages::negatives_out;
-use level_stages::positives_below;
-use level_stages::positives_in;
+use level_lists::byte_of;
+use level_lists::negatives_out;
+use level_lists::positives_below;
+use level_lists::positives_in;
+use numbers::Atom;
 use numbers::Pair;
 use numbers::Rule;
 use numbers::wide;
@@ -19,11 +20,12 @@ ghost use lib.ListN.{length, drop};
 ghost use Rattle.lists.specs.Lists.{tab};
 ghost use Rattle.meaning.specs.Program.{bodyTrue};
 ghost use Rattle.encoding.specs.Code.{rl, levelOf, codeFill};
-ghost use Rattle.clause_tables.specs.Tables.{Ready, codeIn, atomsIn, rulesIn, varsIn};
-ghost use Rattle.level_stages.specs.Levels.{setIn, levelByte};
+ghost use Rattle.digits.specs.Bytes.{Room, Wrote};
+ghost use Rattle.clause_tables.specs.Tables.{Ready, totalsIn, codeIn, atomsIn, rulesIn, varsIn};
+ghost use Rattle.level_lists.specs.Bytes.{setIn, levelByte};
 ghost use Rattle.answer_offers.specs.Offered.{valueBytes};
 ghost use Rattle.level_fill.specs.Values.{byteOf, atomBytes, bodyBytes, foundsAt, foundsBytes, bitBytes, familyIn};
-ghost use Rattle.level_fill.specs.Values.{levelBytes, lessBytes, pairBytes, chainBytes, filledWith, familyIn};
+ghost use Rattle.level_fill.specs.Values.{levelBytes, lessBytes, pairBytes, pairAtBytes, chainBytes, filledWith};
 
 fn as_byte(x: bool) -> u8
     ensures { λ r. ⌜ r ≡ byteOf x ⌝ }
@@ -35,9 +37,9 @@ fn as_byte(x: bool) -> u8
 }
 
 // The level of atom a.
-fn level_of(levels: &[u8], a: u16) -> u16
-    requires { ⌜ (0 < a) × (a ≤ length (now levels)) ⌝ }
-    ensures { λ r. ⌜ (r ≡ levelByte (now (levels .entry)) a) × (r < 256) ⌝ }
+fn level_of(levels: &[u8], a: Atom) -> u16
+    requires { ⌜ (0 < a .0) × (a .0 ≤ length (now levels)) ⌝ }
+    ensures { λ r. ⌜ (r ≡ levelByte (now (levels .entry)) (a .0)) × (r < 256) ⌝ }
 {
     byte_of(levels, a) as u16
 }
@@ -46,8 +48,8 @@ fn level_of(levels: &[u8], a: u16) -> u16
 
 // The w lowest bits of x.
 fn put_bits(w: usize, x: u16, buf: &mut [u8]) -> usize
-    requires { ⌜ length (bitBytes w x) ≤ length (now buf) ⌝ }
-    ensures { λ r. ⌜ (r ≡ length (bitBytes w x)) × (now (buf .exit) ≡ bitBytes w x ++ drop r (now (buf .entry))) ⌝ }
+    requires { ⌜ Room (bitBytes w x) (now buf) ⌝ }
+    ensures { λ r. ⌜ Wrote (bitBytes w x) (now (buf .entry)) (now (buf .exit)) r ⌝ }
 {
     let mut rest = x;
     let mut i: usize = 0;
@@ -72,8 +74,8 @@ fn less_with(p: u16, q: u16, less: u8) -> u8
 
 // For i from 1 to w, whether the lowest i bits of x are below those of y.
 fn put_less(w: usize, x: u16, y: u16, buf: &mut [u8]) -> usize
-    requires { ⌜ length (lessBytes w x y) ≤ length (now buf) ⌝ }
-    ensures { λ r. ⌜ (r ≡ length (lessBytes w x y)) × (now (buf .exit) ≡ lessBytes w x y ++ drop r (now (buf .entry))) ⌝ }
+    requires { ⌜ Room (lessBytes w x y) (now buf) ⌝ }
+    ensures { λ r. ⌜ Wrote (lessBytes w x y) (now (buf .entry)) (now (buf .exit)) r ⌝ }
 {
     let mut p = x;
     let mut q = y;
@@ -91,19 +93,17 @@ fn put_less(w: usize, x: u16, y: u16, buf: &mut [u8]) -> usize
 
 // The two chains of a pair: x is the level of its body atom, y that of its head.
 fn put_pair_values(w: usize, x: u16, y: u16, buf: &mut [u8]) -> usize
-    requires { ⌜ (x < 256) × (length (pairBytes w x y) ≤ length (now buf)) ⌝ }
-    ensures { λ r. ⌜ (r ≡ length (pairBytes w x y)) × (now (buf .exit) ≡ pairBytes w x y ++ drop r (now (buf .entry))) ⌝ }
+    requires { ⌜ (x < 256) × (Room (pairBytes w x y) (now buf)) ⌝ }
+    ensures { λ r. ⌜ Wrote (pairBytes w x y) (now (buf .entry)) (now (buf .exit)) r ⌝ }
 {
-    let mut to = put_less(w, x, y, &mut *buf);
-    to += put_less(w, x + 1, y, &mut buf[to..]);
-    to
+    let to = put_less(w, x, y, &mut *buf);
+    to + put_less(w, x + 1, y, &mut buf[to..])
 }
 
 // The values of the atoms.
 fn put_atom_values(n: u16, set: &[u8], buf: &mut [u8]) -> usize
-    requires { ⌜ (n ≤ length (now set)) × (length (atomBytes n (setIn n (now set))) ≤ length (now buf)) ⌝ }
-    ensures { λ r. ⌜ (r ≡ length (atomBytes n (setIn n (now (set .entry)))))
-        × (now (buf .exit) ≡ atomBytes n (setIn n (now (set .entry))) ++ drop r (now (buf .entry))) ⌝ }
+    requires { ⌜ (n ≤ length (now set)) × (Room (atomBytes n (setIn n (now set))) (now buf)) ⌝ }
+    ensures { λ r. ⌜ Wrote (atomBytes n (setIn n (now (set .entry)))) (now (buf .entry)) (now (buf .exit)) r ⌝ }
 {
     let mut a: usize = 0;
     while a < wide(n) {
@@ -115,14 +115,13 @@ fn put_atom_values(n: u16, set: &[u8], buf: &mut [u8]) -> usize
 
 // The bits of the level of each atom with d more: its level, or its next.
 fn put_level_values(n: u16, w: usize, d: u16, levels: &[u8], buf: &mut [u8]) -> usize
-    requires { ⌜ (n ≤ length (now levels)) × (d ≤ 1) × (length (levelBytes n w d (levelByte (now levels))) ≤ length (now buf)) ⌝ }
-    ensures { λ r. ⌜ (r ≡ length (levelBytes n w d (levelByte (now (levels .entry)))))
-        × (now (buf .exit) ≡ levelBytes n w d (levelByte (now (levels .entry))) ++ drop r (now (buf .entry))) ⌝ }
+    requires { ⌜ (n ≤ length (now levels)) × (d ≤ 1) × (Room (levelBytes n w d (levelByte (now levels))) (now buf)) ⌝ }
+    ensures { λ r. ⌜ Wrote (levelBytes n w d (levelByte (now (levels .entry)))) (now (buf .entry)) (now (buf .exit)) r ⌝ }
 {
     let mut to: usize = 0;
     let mut a: u16 = 0;
     while a < n {
-        let x = level_of(levels, a + 1);
+        let x = level_of(levels, Atom(a + 1));
         to += put_bits(w, x + d, &mut buf[to..]);
         a += 1;
     }
@@ -130,9 +129,9 @@ fn put_level_values(n: u16, w: usize, d: u16, levels: &[u8], buf: &mut [u8]) -> 
 }
 
 // Whether the body of rule r is true.
-fn body_true<'a>(table: &'a [u16], r: u16, set: &'a [u8]) -> bool
-    requires { ⌜ (Ready (now table)) × (0 < r) × (r ≤ rulesIn (now table)) × (atomsIn (now table) ≤ length (now set)) ⌝ }
-    ensures { λ x. ⌜ x ≡ bodyTrue (setIn (atomsIn (now (table .entry))) (now (set .entry))) (rl (codeIn (now (table .entry))) r) ⌝ }
+fn body_true<'a>(table: &'a [u16], r: Rule, set: &'a [u8]) -> bool
+    requires { ⌜ (Ready (now table)) × (0 < r .0) × (r .0 ≤ rulesIn (now table)) × (atomsIn (now table) ≤ length (now set)) ⌝ }
+    ensures { λ x. ⌜ x ≡ bodyTrue (setIn (atomsIn (now (table .entry))) (now (set .entry))) (rl (codeIn (now (table .entry))) (r .0)) ⌝ }
 {
     if !positives_in(table, r, set) {
         return false;
@@ -141,16 +140,16 @@ fn body_true<'a>(table: &'a [u16], r: u16, set: &'a [u8]) -> bool
 }
 
 // Whether rule r founds its head: its body is true and each of its B has a smaller level than the head.
-fn rule_founds<'a>(table: &'a [u16], r: u16, set: &'a [u8], levels: &'a [u8]) -> bool
-    requires { ⌜ (Ready (now table)) × (0 < r) × (r ≤ rulesIn (now table)) × (atomsIn (now table) ≤ length (now set))
+fn rule_founds<'a>(table: &'a [u16], r: Rule, set: &'a [u8], levels: &'a [u8]) -> bool
+    requires { ⌜ (Ready (now table)) × (0 < r .0) × (r .0 ≤ rulesIn (now table)) × (atomsIn (now table) ≤ length (now set))
         × (atomsIn (now table) ≤ length (now levels)) ⌝ }
     ensures { λ x. ⌜ x ≡ foundsAt (codeIn (now (table .entry))) (setIn (atomsIn (now (table .entry))) (now (set .entry)))
-        (levelByte (now (levels .entry))) r ⌝ }
+        (levelByte (now (levels .entry))) (r .0) ⌝ }
 {
     if !body_true(table, r, set) {
         return false;
     }
-    let h = head(table, Rule(r)).0;
+    let h = head(table, r);
     let y = byte_of(levels, h);
     positives_below(table, r, levels, y)
 }
@@ -158,15 +157,14 @@ fn rule_founds<'a>(table: &'a [u16], r: u16, set: &'a [u8], levels: &'a [u8]) ->
 // Of each rule, whether its body is true.
 fn put_bodies<'a>(table: &'a [u16], set: &'a [u8], buf: &mut [u8]) -> usize
     requires { ⌜ (Ready (now table)) × (atomsIn (now table) ≤ length (now set))
-        × (length (bodyBytes (codeIn (now table)) (setIn (atomsIn (now table)) (now set))) ≤ length (now buf)) ⌝ }
-    ensures { λ r. ⌜ (r ≡ length (bodyBytes (codeIn (now (table .entry))) (setIn (atomsIn (now (table .entry))) (now (set .entry)))))
-        × (now (buf .exit) ≡ bodyBytes (codeIn (now (table .entry))) (setIn (atomsIn (now (table .entry))) (now (set .entry)))
-        ++ drop r (now (buf .entry))) ⌝ }
+        × (Room (bodyBytes (codeIn (now table)) (setIn (atomsIn (now table)) (now set))) (now buf)) ⌝ }
+    ensures { λ r. ⌜ Wrote (bodyBytes (codeIn (now (table .entry))) (setIn (atomsIn (now (table .entry))) (now (set .entry))))
+        (now (buf .entry)) (now (buf .exit)) r ⌝ }
 {
     let t = totals(table);
     let mut r: u16 = 0;
     while r < t.sizes.m {
-        let x = body_true(table, r + 1, set);
+        let x = body_true(table, Rule(r + 1), set);
         let i = wide(r);
         buf[i] = as_byte(x);
         r += 1;
@@ -177,16 +175,15 @@ fn put_bodies<'a>(table: &'a [u16], set: &'a [u8], buf: &mut [u8]) -> usize
 // Of each rule, whether it founds its head.
 fn put_founds<'a>(table: &'a [u16], set: &'a [u8], levels: &'a [u8], buf: &mut [u8]) -> usize
     requires { ⌜ (Ready (now table)) × (atomsIn (now table) ≤ length (now set)) × (atomsIn (now table) ≤ length (now levels))
-        × (length (foundsBytes (codeIn (now table)) (setIn (atomsIn (now table)) (now set)) (levelByte (now levels))) ≤ length (now buf)) ⌝ }
-    ensures { λ r. ⌜ (r ≡ length
-        (foundsBytes (codeIn (now (table .entry))) (setIn (atomsIn (now (table .entry))) (now (set .entry))) (levelByte (now (levels .entry)))))
-        × (now (buf .exit) ≡ foundsBytes (codeIn (now (table .entry))) (setIn (atomsIn (now (table .entry))) (now (set .entry)))
-        (levelByte (now (levels .entry))) ++ drop r (now (buf .entry))) ⌝ }
+        × (Room (foundsBytes (codeIn (now table)) (setIn (atomsIn (now table)) (now set)) (levelByte (now levels))) (now buf)) ⌝ }
+    ensures { λ r. ⌜ Wrote
+        (foundsBytes (codeIn (now (table .entry))) (setIn (atomsIn (now (table .entry))) (now (set .entry))) (levelByte (now (levels .entry))))
+        (now (buf .entry)) (now (buf .exit)) r ⌝ }
 {
     let t = totals(table);
     let mut r: u16 = 0;
     while r < t.sizes.m {
-        let x = rule_founds(table, r + 1, set, levels);
+        let x = rule_founds(table, Rule(r + 1), set, levels);
         let i = wide(r);
         buf[i] = as_byte(x);
         r += 1;
@@ -194,20 +191,29 @@ fn put_founds<'a>(table: &'a [u16], set: &'a [u8], levels: &'a [u8], buf: &mut [
     wide(r)
 }
 
+// The two chains of pair k.
+fn put_pair_at<'a>(table: &'a [u16], w: usize, k: Pair, levels: &'a [u8], buf: &mut [u8]) -> usize
+    requires { ⌜ (Ready (now table)) × (0 < k .0) × (k .0 ≤ totalsIn (now table) .pairs) × (atomsIn (now table) ≤ length (now levels))
+        × (Room (pairAtBytes (codeIn (now table)) w (levelByte (now levels)) (k .0)) (now buf)) ⌝ }
+    ensures { λ r. ⌜ Wrote (pairAtBytes (codeIn (now (table .entry))) w (levelByte (now (levels .entry))) (k .0))
+        (now (buf .entry)) (now (buf .exit)) r ⌝ }
+{
+    let x = level_of(levels, pair_body(table, k));
+    let y = level_of(levels, pair_head(table, k));
+    put_pair_values(w, x, y, &mut *buf)
+}
+
 // The two chains of each pair.
 fn put_chains<'a>(table: &'a [u16], w: usize, levels: &'a [u8], buf: &mut [u8]) -> usize
     requires { ⌜ (Ready (now table)) × (atomsIn (now table) ≤ length (now levels))
-        × (length (chainBytes (codeIn (now table)) w (levelByte (now levels))) ≤ length (now buf)) ⌝ }
-    ensures { λ r. ⌜ (r ≡ length (chainBytes (codeIn (now (table .entry))) w (levelByte (now (levels .entry)))))
-        × (now (buf .exit) ≡ chainBytes (codeIn (now (table .entry))) w (levelByte (now (levels .entry))) ++ drop r (now (buf .entry))) ⌝ }
+        × (Room (chainBytes (codeIn (now table)) w (levelByte (now levels))) (now buf)) ⌝ }
+    ensures { λ r. ⌜ Wrote (chainBytes (codeIn (now (table .entry))) w (levelByte (now (levels .entry)))) (now (buf .entry)) (now (buf .exit)) r ⌝ }
 {
     let t = totals(table);
     let mut to: usize = 0;
     let mut k: u16 = 0;
     while k < t.pairs {
-        let x = level_of(levels, pair_body(table, Pair(k + 1)).0);
-        let y = level_of(levels, pair_head(table, Pair(k + 1)).0);
-        to += put_pair_values(w, x, y, &mut buf[to..]);
+        to += put_pair_at(table, w, Pair(k + 1), levels, &mut buf[to..]);
         k += 1;
     }
     to
@@ -222,9 +228,8 @@ fn put_family<'a>(
     buf: &mut [u8],
 ) -> usize
     requires { ⌜ (Ready (now table)) × (0 < k) × (k ≤ 6) × (atomsIn (now table) ≤ length (now set)) × (atomsIn (now table) ≤ length (now levels))
-        × (length (familyIn (now table) (now set) (now levels) k) ≤ length (now buf)) ⌝ }
-    ensures { λ r. ⌜ (r ≡ length (familyIn (now (table .entry)) (now (set .entry)) (now (levels .entry)) k))
-        × (now (buf .exit) ≡ familyIn (now (table .entry)) (now (set .entry)) (now (levels .entry)) k ++ drop r (now (buf .entry))) ⌝ }
+        × (Room (familyIn (now table) (now set) (now levels) k) (now buf)) ⌝ }
+    ensures { λ r. ⌜ Wrote (familyIn (now (table .entry)) (now (set .entry)) (now (levels .entry)) k) (now (buf .entry)) (now (buf .exit)) r ⌝ }
 {
     let s = totals(table).sizes;
     if k == 1 {
@@ -250,10 +255,9 @@ fn put_family<'a>(
 fn put_values<'a>(table: &'a [u16], set: &'a [u8], levels: &'a [u8], buf: &mut [u8]) -> usize
     requires { ⌜ (Ready (now table)) × (atomsIn (now table) ≤ length (now set)) × (atomsIn (now table) ≤ length (now levels))
         × (varsIn (now table) ≤ length (now buf)) ⌝ }
-    ensures { λ r. ⌜ (r ≡ varsIn (now (table .entry)))
-        × (now (buf .exit) ≡ valueBytes
-        (filledWith (codeIn (now (table .entry))) (setIn (atomsIn (now (table .entry))) (now (set .entry))) (levelByte (now (levels .entry))))
-        ++ drop (varsIn (now (table .entry))) (now (buf .entry))) ⌝ }
+    ensures { λ r. ⌜ Wrote (valueBytes
+        (filledWith (codeIn (now (table .entry))) (setIn (atomsIn (now (table .entry))) (now (set .entry))) (levelByte (now (levels .entry)))))
+        (now (buf .entry)) (now (buf .exit)) r ⌝ }
 {
     let mut k: u16 = 0;
     let mut to: usize = 0;

@@ -4,14 +4,10 @@ use Prim.Native.Nat.{ℕ}
 use mathlib.Core.Path.{_≡_, refl}
 use mathlib.Core.Bool.{true, false}
 use mathlib.Core.List.{List, [], _∷_, map}
-use Rattle.lists.specs.Lists.{tab, any}
+use Rattle.lists.specs.Lists.{any}
 use Rattle.meaning.specs.Samples.{setOf, lecture, blocked}
-use Rattle.level_stages.specs.Levels.{setIn, fires, firstDifference}
+use Rattle.level_stages.specs.Levels.{fires, firstDifference}
 use Rattle.level_stages.proofs.OneRound.{bytesAfter}
-
--- a byte after the first n is no atom's; any byte but 0 is in
-set-read : tab 4 (setIn 3 (1 ∷ 0 ∷ 2 ∷ 1 ∷ [])) ≡ true ∷ false ∷ true ∷ false ∷ []
-set-read = refl
 
 -- document 001's example round by round: a level given in a round does not count in it, and the byte after the atoms stays
 lectureRound : ℕ → List ℕ → List ℕ

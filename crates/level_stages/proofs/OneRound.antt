@@ -20,7 +20,8 @@ use Rattle.lists.proofs.Tests.{all-at, all-ext, any-at, any-in, any-append}
 use Rattle.lists.proofs.Tables.{length-tab, tab-ext, getD-tab, getD-here}
 use Rattle.meaning.specs.Program.{Rule, Atoms, noRule, ruleAt, isAtom, noneIn}
 use Rattle.theory.proofs.Atoms.{RuleIn, by-place}
-use Rattle.level_stages.specs.Levels.{levelByte, isBelow, enters, fires, firedBytes, levelAfter}
+use Rattle.level_lists.specs.Bytes.{levelByte, isBelow, enters}
+use Rattle.level_stages.specs.Levels.{fires, firedBytes, levelAfter}
 
 -- ---- one rule's turn; a is its head, x the head's byte, e whether the rule enters
 

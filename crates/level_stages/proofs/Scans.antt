@@ -1,12 +1,9 @@
--- Lists of atoms and bytes read one after the other, as the loops do.
---   byte-is, byte-put           the byte of an atom
---   scan-asks                   the next atom has a byte
---   scan-more, scan-fails, scan-all    a test of each atom of a list
+-- Bytes read and written one after the other, as the loops do.
 --   unlike-zero, unlike-some    one of two bytes alone is 0
 --   Alike, alike-more, unlike-here, unlike-nowhere    the first atom at which bytes differ so
 --   zeros-more                  zeros, one more
 -- Assumes nothing.
-use Prim.Native.Nat.{ℕ, zero, suc, pred, _+_, _-_, _≤_, _<_}
+use Prim.Native.Nat.{ℕ, zero, suc, _+_, _≤_, _<_}
 use native.Mathlib.Nat.{le-antisymm}
 use native.Mathlib.Numerals.{add-one}
 use native.Mathlib.Omega.{arith}
@@ -15,43 +12,16 @@ use mathlib.Core.Logic.{⊎-elim}
 use mathlib.Core.Bool.{Bool, true, false, not, So, Bool·beq}
 use mathlib.Core.List.{List, [], _∷_, _++_, append-assoc}
 use lib.Dec.{eqb}
-use lib.ListN.{length, getD, take, drop, set}
-use lib.Seq.{take-suc, take-all, set-at, drop-cons}
+use lib.ListN.{length, getD, drop, set}
+use lib.Seq.{set-at, drop-cons}
 use borrow.Author.Tests.{eq-eqb, ne-eqb}
-use Rattle.lists.specs.Lists.{all, tab, first}
-use Rattle.lists.proofs.Bools.{and-in, false-of, not-So}
-use Rattle.lists.proofs.Tests.{le-or-lt, all-at, all-append, up-to}
+use Rattle.lists.specs.Lists.{tab, first}
+use Rattle.lists.proofs.Bools.{not-So}
+use Rattle.lists.proofs.Tests.{le-or-lt, up-to}
 use Rattle.lists.proofs.Tables.{length-tab}
 use Rattle.lists.proofs.First.{first-is, first-le, first-pos, first-none}
-use Rattle.meaning.specs.Program.{isAtom}
-use Rattle.theory.proofs.Atoms.{atom-pos, atom-le}
-use Rattle.clause_literals.proofs.Products.{one-before}
 use Rattle.truth_clauses.specs.Truth.{valueIn}
-use Rattle.level_stages.specs.Levels.{levelByte, firstDifference}
-
-pub byte-is : (bs : List ℕ) {x a : ℕ} → x ≡ a → getD bs (x - 1) 0 ≡ levelByte bs a
-byte-is bs {x} {a} e = ap (λ (k : ℕ). getD bs (k - 1) 0) e ∙ ap (λ (k : ℕ). getD bs k 0) (one-before a)
-
-pub byte-put : (bs : List ℕ) {x a : ℕ} (v : ℕ) → x ≡ a → set bs (x - 1) v ≡ set bs (pred a) v
-byte-put bs {x} {a} v e = ap (λ (k : ℕ). set bs k v) (ap (λ (k : ℕ). k - 1) e ∙ one-before a)
-
--- ---- a test of each atom of a list
-
-pub scan-asks : (n : ℕ) (xs : List ℕ) (j : ℕ) → So (all (isAtom n) xs) → j < length xs → (0 < getD xs j 0) × (getD xs j 0 ≤ n)
-scan-asks n xs j t h =
-    let u = all-at (isAtom n) xs 0 t j h in (atom-pos n (getD xs j 0) u, atom-le n (getD xs j 0) u)
-
-module _ (p : ℕ → Bool) (xs : List ℕ) (j : ℕ) where
-  pub scan-more : j < length xs → So (all p (take j xs)) → So (p (getD xs j 0)) → So (all p (take (j + 1) xs))
-  scan-more h t u =
-      ap (λ (k : ℕ). all p (take k xs)) (add-one j) ∙ ap (all p) (take-suc xs j 0 h)
-      ∙ all-append p (take j xs) (getD xs j 0 ∷ []) ∙ and-in t (and-in u refl)
-
-  pub scan-fails : j < length xs → p (getD xs j 0) ≡ false → false ≡ all p xs
-  scan-fails h u = sym (false-of (all p xs) (λ t. not-So (p (getD xs j 0)) u (all-at p xs 0 t j h)))
-
-  pub scan-all : length xs ≤ j → So (all p (take j xs)) → true ≡ all p xs
-  scan-all h t = sym (ap (all p) (sym (take-all j xs h)) ∙ t)
+use Rattle.level_stages.specs.Levels.{firstDifference}
 
 -- ---- the first atom at which bytes differ in being 0
 

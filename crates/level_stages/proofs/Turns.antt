@@ -29,8 +29,9 @@ use Rattle.lists.proofs.Bools.{and-left}
 use Rattle.clause_tables.specs.declared.Totals.{Totals}
 use Rattle.clause_tables.specs.Tables.{Limited, Tabled}
 use Rattle.clause_table_laws.proofs.Elements.{rules-are, atoms-are, all-fit, limited-whole}
-use Rattle.level_stages.specs.Levels.{setIn, levelByte, enters, fires, firedBytes, firstDifference}
-use Rattle.level_stages.proofs.Rules.{its-head-is, rule-atoms}
+use Rattle.level_lists.specs.Bytes.{setIn, levelByte, enters}
+use Rattle.level_stages.specs.Levels.{fires, firedBytes, firstDifference}
+use Rattle.level_lists.proofs.Rules.{its-head-is, rule-atoms}
 use Rattle.level_stages.proofs.OneRound.{turn-headed, turn-unmet, turn-fired, bytesAfter, round-none, round-more, given-more, round-all}
 use Rattle.level_stages.proofs.Levels.{zeros-are, round-levels, rested, levels-last, unlike-differ}
 
@@ -121,8 +122,8 @@ module _ {G : Code} {t : Totals} {hs ss bs ks xs ys : List ℕ} (T : Tabled G t 
     first-round q = record { within = omega arith; same = refl; bytes = zeros-are (t .sizes .n) (programOf G) fit M (drop (t .sizes .n) e) q }
 
     module _ {i : ℕ} {cs : List ℕ} (B : Staged G t s e i cs) where
-      pub round-asks : i < t .sizes .n → t .sizes .n ≤ length e → (0 < i + 1) × (t .sizes .n ≤ length cs)
-      round-asks h l = (omega arith, subst (λ (j : ℕ). t .sizes .n ≤ j) (sym (B .same)) l)
+      pub round-asks : t .sizes .n ≤ length e → t .sizes .n ≤ length cs
+      round-asks l = subst (λ (j : ℕ). t .sizes .n ≤ j) (sym (B .same)) l
 
       module _ {ds : List ℕ} {g : Bool} (h : i < t .sizes .n)
           (q : (g ≡ any (fires M cs (i + 1)) (G .rules)) × (ds ≡ bytesAfter (t .sizes .n) M cs (i + 1) (G .rules))) where

@@ -1,9 +1,5 @@
 -- The stages of a reduct, computed in bytes: one round over the rules for each stage (document 01, "Meaning").
---   setIn n s                the atoms of 1 to n whose byte is not 0
---   levelByte ls a           the byte of atom a
---   isBelow ls i b           b has a level, and one below i
---   enters M ls i R          rule R is kept and each of its B has a level below i
---   fires M ls i R           and its head has none yet
+--   fires M ls i R           rule R enters (enters of crate level_lists), and its head has no level yet
 --   firedBytes M i R ls      its head is then given level i
 --   levelAfter M ls i rs a   the level of a once each of the rules rs had its turn in round i
 --   firstDifference n s ls   the smallest atom of 1 to n that has byte 0 in one of s and ls alone, 0 if there is none
@@ -11,24 +7,12 @@
 use Prim.Native.Nat.{ℕ, pred}
 use mathlib.Core.Bool.{Bool, not, _&&_, cond, Bool·beq}
 use mathlib.Core.List.{List}
-use lib.Dec.{eqb, ltb}
-use lib.ListN.{getD, set}
-use Rattle.lists.specs.Lists.{all, any, first}
-use Rattle.meaning.specs.Program.{Rule, Atoms, noneIn}
-use Rattle.encoding.specs.Fill.{trueIn}
+use lib.Dec.{eqb}
+use lib.ListN.{set}
+use Rattle.lists.specs.Lists.{any, first}
+use Rattle.meaning.specs.Program.{Rule, Atoms}
 use Rattle.truth_clauses.specs.Truth.{valueIn}
-
-abbrev pub setIn : ℕ → List ℕ → Atoms
-setIn n s = trueIn n (valueIn s)
-
-abbrev pub levelByte : List ℕ → ℕ → ℕ
-levelByte ls a = getD ls (pred a) 0
-
-abbrev pub isBelow : List ℕ → ℕ → ℕ → Bool
-isBelow ls i b = valueIn ls b && ltb (levelByte ls b) i
-
-abbrev pub enters : Atoms → List ℕ → ℕ → Rule → Bool
-enters M ls i R = noneIn M (R .negative) && all (isBelow ls i) (R .positive)
+use Rattle.level_lists.specs.Bytes.{levelByte, enters}
 
 abbrev pub fires : Atoms → List ℕ → ℕ → Rule → Bool
 fires M ls i R = eqb (levelByte ls (R .head)) 0 && enters M ls i R

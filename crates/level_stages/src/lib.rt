@@ -1,137 +1,34 @@
 // The level numbers of a set of atoms (document 01, "Meaning"): the stages of its reduct, in one round over the rules for each,
 // and the smallest atom where the set and the least model differ.
-use clause_cells::body;
 use clause_cells::head;
-use clause_cells::list_start;
 use clause_cells::totals;
+use level_lists::byte_of;
+use level_lists::put_byte;
+use level_lists::rule_enters;
 use numbers::Rule;
 use numbers::wide;
-ghost use Prim.Native.Nat.{pred, _+_, _-_, _*_, _≤_, _<_};
+ghost use Prim.Native.Nat.{_≤_, _<_};
 ghost use mathlib.Core.Path.{_≡_};
-ghost use mathlib.Core.Bool.{So, not, _||_, Bool·beq};
+ghost use mathlib.Core.Bool.{not, _||_, Bool·beq};
 ghost use mathlib.Core.List.{_++_};
-ghost use lib.Dec.{eqb, ltb};
-ghost use lib.ListN.{length, drop, set as put};
-ghost use Rattle.lists.specs.Lists.{all, any, tab};
-ghost use Rattle.meaning.specs.Program.{isAtom, noneIn};
+ghost use lib.Dec.{eqb};
+ghost use lib.ListN.{length, drop};
+ghost use Rattle.lists.specs.Lists.{any, tab};
 ghost use Rattle.encoding.specs.Code.{rl, levelOf};
 ghost use Rattle.clause_tables.specs.Tables.{Ready, codeIn, atomsIn, rulesIn};
-ghost use Rattle.truth_clauses.specs.Truth.{valueIn};
-ghost use Rattle.level_stages.specs.Levels.{setIn, levelByte, enters, fires, firedBytes, levelAfter, firstDifference};
-
-// The byte of atom a.
-pub fn byte_of(bytes: &[u8], a: u16) -> u8
-    requires { ⌜ (0 < a) × (a ≤ length (now bytes)) ⌝ }
-    ensures { λ r. ⌜ r ≡ levelByte (now (bytes .entry)) a ⌝ }
-{
-    bytes[wide(a) - 1]
-}
-
-fn put_byte(bytes: &mut [u8], a: u16, x: u8)
-    requires { ⌜ (0 < a) × (a ≤ length (now bytes)) ⌝ }
-    ensures { λ r. ⌜ now (bytes .exit) ≡ put (now (bytes .entry)) (pred a) x ⌝ }
-{
-    let i = wide(a) - 1;
-    bytes[i] = x;
-}
-
-// Of a list of atoms: whether each has byte 0, whether none has, and whether each has a byte below x.
-fn none_in<'a>(atoms: &'a [u16], bytes: &'a [u8]) -> bool
-    requires { ⌜ So (all (isAtom (length (now bytes))) (now atoms)) ⌝ }
-    ensures { λ r. ⌜ r ≡ noneIn (valueIn (now (bytes .entry))) (now (atoms .entry)) ⌝ }
-{
-    let mut j: usize = 0;
-    while j < atoms.len() {
-        if byte_of(bytes, atoms[j]) != 0 {
-            return false;
-        }
-        j += 1;
-    }
-    true
-}
-
-fn all_in<'a>(atoms: &'a [u16], bytes: &'a [u8]) -> bool
-    requires { ⌜ So (all (isAtom (length (now bytes))) (now atoms)) ⌝ }
-    ensures { λ r. ⌜ r ≡ all (valueIn (now (bytes .entry))) (now (atoms .entry)) ⌝ }
-{
-    let mut j: usize = 0;
-    while j < atoms.len() {
-        if byte_of(bytes, atoms[j]) == 0 {
-            return false;
-        }
-        j += 1;
-    }
-    true
-}
-
-fn all_below<'a>(atoms: &'a [u16], bytes: &'a [u8], x: u8) -> bool
-    requires { ⌜ So (all (isAtom (length (now bytes))) (now atoms)) ⌝ }
-    ensures { λ r. ⌜ r ≡ all (λ b. ltb (levelByte (now (bytes .entry)) b) x) (now (atoms .entry)) ⌝ }
-{
-    let mut j: usize = 0;
-    while j < atoms.len() {
-        if x <= byte_of(bytes, atoms[j]) {
-            return false;
-        }
-        j += 1;
-    }
-    true
-}
-
-// Of rule r: whether each C atom has byte 0, whether no B atom has, and whether each B atom has a byte below y.
-pub fn negatives_out<'a>(table: &'a [u16], r: u16, bytes: &'a [u8]) -> bool
-    requires { ⌜ (Ready (now table)) × (0 < r) × (r ≤ rulesIn (now table)) × (atomsIn (now table) ≤ length (now bytes)) ⌝ }
-    ensures { λ x. ⌜ x ≡ noneIn (valueIn (now (bytes .entry))) (rl (codeIn (now (table .entry))) r .negative) ⌝ }
-{
-    let first = list_start(table, Rule(r), 1);
-    let end = list_start(table, Rule(r), 2);
-    none_in(body(table, first, end), bytes)
-}
-
-pub fn positives_in<'a>(table: &'a [u16], r: u16, bytes: &'a [u8]) -> bool
-    requires { ⌜ (Ready (now table)) × (0 < r) × (r ≤ rulesIn (now table)) × (atomsIn (now table) ≤ length (now bytes)) ⌝ }
-    ensures { λ x. ⌜ x ≡ all (valueIn (now (bytes .entry))) (rl (codeIn (now (table .entry))) r .positive) ⌝ }
-{
-    let first = list_start(table, Rule(r), 0);
-    let end = list_start(table, Rule(r), 1);
-    all_in(body(table, first, end), bytes)
-}
-
-pub fn positives_below<'a>(table: &'a [u16], r: u16, bytes: &'a [u8], y: u8) -> bool
-    requires { ⌜ (Ready (now table)) × (0 < r) × (r ≤ rulesIn (now table)) × (atomsIn (now table) ≤ length (now bytes)) ⌝ }
-    ensures { λ x. ⌜ x ≡ all (λ b. ltb (levelByte (now (bytes .entry)) b) y) (rl (codeIn (now (table .entry))) r .positive) ⌝ }
-{
-    let first = list_start(table, Rule(r), 0);
-    let end = list_start(table, Rule(r), 1);
-    all_below(body(table, first, end), bytes, y)
-}
-
-// Whether rule r is kept and each of its B has a level below i.
-fn rule_enters<'a>(table: &'a [u16], r: u16, i: u8, set: &'a [u8], levels: &'a [u8]) -> bool
-    requires { ⌜ (Ready (now table)) × (0 < r) × (r ≤ rulesIn (now table)) × (atomsIn (now table) ≤ length (now set))
-        × (atomsIn (now table) ≤ length (now levels)) ⌝ }
-    ensures { λ x. ⌜ x ≡ enters (setIn (atomsIn (now (table .entry))) (now (set .entry))) (now (levels .entry)) i
-        (rl (codeIn (now (table .entry))) r) ⌝ }
-{
-    if !negatives_out(table, r, set) {
-        return false;
-    }
-    if !positives_in(table, r, levels) {
-        return false;
-    }
-    positives_below(table, r, levels, i)
-}
+ghost use Rattle.level_lists.specs.Bytes.{setIn};
+ghost use Rattle.level_stages.specs.Levels.{fires, firedBytes, levelAfter, firstDifference};
 
 // One rule's turn in round i: its head is given level i if it has none and the rule puts it into stage i.
-fn put_rule<'a>(table: &'a [u16], r: u16, i: u8, set: &'a [u8], levels: &mut [u8]) -> bool
-    requires { ⌜ (Ready (now table)) × (0 < r) × (r ≤ rulesIn (now table)) × (atomsIn (now table) ≤ length (now set))
+fn put_rule<'a>(table: &'a [u16], r: Rule, i: u8, set: &'a [u8], levels: &mut [u8]) -> bool
+    requires { ⌜ (Ready (now table)) × (0 < r .0) × (r .0 ≤ rulesIn (now table)) × (atomsIn (now table) ≤ length (now set))
         × (atomsIn (now table) ≤ length (now levels)) ⌝ }
     ensures { λ x. ⌜ (x ≡ fires (setIn (atomsIn (now (table .entry))) (now (set .entry))) (now (levels .entry)) i
-        (rl (codeIn (now (table .entry))) r))
+        (rl (codeIn (now (table .entry))) (r .0)))
         × (now (levels .exit)
-        ≡ firedBytes (setIn (atomsIn (now (table .entry))) (now (set .entry))) i (rl (codeIn (now (table .entry))) r) (now (levels .entry))) ⌝ }
+        ≡ firedBytes (setIn (atomsIn (now (table .entry))) (now (set .entry))) i (rl (codeIn (now (table .entry))) (r .0)) (now (levels .entry))) ⌝ }
 {
-    let h = head(table, Rule(r)).0;
+    let h = head(table, r);
     if byte_of(&levels[..], h) != 0 {
         return false;
     }
@@ -165,7 +62,7 @@ fn round<'a>(table: &'a [u16], i: u8, set: &'a [u8], levels: &mut [u8]) -> bool
     let mut given = false;
     let mut r: u16 = 0;
     while r < t.sizes.m {
-        let x = put_rule(table, r + 1, i, set, &mut *levels);
+        let x = put_rule(table, Rule(r + 1), i, set, &mut *levels);
         given = disjunction(given, x);
         r += 1;
     }

@@ -56,7 +56,7 @@ use Rattle.reader_laws.specs.Breach.{Breach}
 use Rattle.reader_laws.specs.FirstBytes.{BreachAt}
 use Rattle.reader_laws.specs.Row.{Row, FirstRow, Answers}
 use Rattle.digits.specs.Bytes.{lineText}
-use Rattle.clause_text.specs.Lines.{headerText, refusedText}
+use Rattle.fixed_lines.specs.Lines.{headerText, refusedText}
 use Rattle.clause_runs.specs.Lines.{clauseTotal, linesOf, lineOf, fitting, runIn}
 use Rattle.call_lines_rows.specs.declared.LineVerdict.the-variants.{Written, Refused as LineRefused}
 use Rattle.call_lines_rows.specs.declared.RunVerdict.the-variants.{WrittenRun, RefusedRun}
@@ -71,7 +71,7 @@ use Rattle.call_results.specs.Results.{levelByte, varTotal}
 use Rattle.call_check_rows.specs.declared.CheckVerdict.the-variants.{Model}
 use Rattle.call_check_rows.specs.Check.{checkAnswer, checkAssignment, checkLevels}
 use Rattle.call_check_rows.specs.Rows.{Offers, clauseOf, CheckRow, FirstCheckRow, CheckAnswers, Accepts, Shows, ModelWritten}
-use Rattle.level_stages.specs.Levels.{setIn}
+use Rattle.level_lists.specs.Bytes.{setIn}
 use Rattle.call_fill_rows.specs.declared.FillVerdict.the-variants.{Filled, Refused as FillRefused}
 use Rattle.call_fill_rows.specs.FillOut.{fillAnswer, fillAssignment, fillLevels}
 use Rattle.call_fill_rows.specs.Rows.{FillRow, FirstFillRow, FillAnswers, FillAccepts, Fills}

@@ -12,6 +12,7 @@ use borrow.Author.Tests.{eq-eqb, ne-eqb}
 use Rattle.reader_form.specs.declared.FormState.{FormState}
 use Rattle.reader_form.specs.Automaton.{formStep}
 use Rattle.reader_work.specs.declared.Counts.{Counts}
+use Rattle.reader_work.specs.declared.Token.{Token}
 use Rattle.reader_work.specs.Work.{refusedOf, valueAfter, beginAfter, workOf, workHeads, workStarts, workBodies}
 use Rattle.refusals.specs.declared.TextRefusal.{TextRefusal}
 use Rattle.reader.specs.declared.ReadVerdict.the-variants.{Accepted}
@@ -59,16 +60,15 @@ module _ (t : List ℕ) (i : ℕ) (s w : State) (inv : readFrom s i (drop i t) �
       (record { ends-counts = refl; ends-heads = refl; ends-starts = refl; ends-bodies = refl })
 
 -- the state after a turn, from what the turn's calls give
-pub advanced : (s : State) (i b : ℕ) (p : FormState) (v g : ℕ) (c : Counts) (h st bo : List ℕ)
+pub advanced : (s : State) (i b : ℕ) (p : FormState) (x : Token) (c : Counts) (h st bo : List ℕ)
     → p ≡ formStep (s .k) (s .mode) b
     → c ≡ workOf (p .act) (s .k) (s .value) (s .begin) i (s .counts)
     → h ≡ workHeads (p .act) (s .k) (s .value) (s .counts) (s .heads)
     → st ≡ workStarts (p .act) (s .counts) (s .starts)
     → bo ≡ workBodies (p .act) (s .k) (s .value) (s .counts) (s .bodies)
-    → v ≡ valueAfter (p .act) (s .value) b
-    → g ≡ beginAfter (p .act) (s .begin) i
-    → _≡_ {A = State} (record { k = p .k; mode = p .mode; value = v; begin = g; counts = c; heads = h; starts = st; bodies = bo }) (advance s i b)
-advanced s i b p v g c h st bo ep ec eh es eb ev eg = rw (ec, eh, es, eb, ev, eg, ep)
+    → x ≡ record { k = p .k; value = valueAfter (p .act) (s .value) b; begin = beginAfter (p .act) (s .begin) i }
+    → _≡_ {A = State} (record { k = x .k; mode = p .mode; value = x .value; begin = x .begin; counts = c; heads = h; starts = st; bodies = bo }) (advance s i b)
+advanced s i b p x c h st bo ep ec eh es eb ex = rw (ec, eh, es, eb, ex, ep)
 
 pub dead-of : (k mode b : ℕ) (p : FormState) → p ≡ formStep k mode b → p .mode ≡ 4 → eqb (formStep k mode b .mode) 4 ≡ true
 dead-of k mode b p e h = ap (λ (q : FormState). eqb (q .mode) 4) (sym e) ∙ eq-eqb (p .mode) 4 h

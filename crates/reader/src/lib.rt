@@ -4,21 +4,21 @@ use numbers::HEADS;
 use numbers::STARTS;
 use program::Program;
 use program::empty;
-use reader_fast::Stand;
 use reader_fast::take_lines;
 use reader_form::AT_PLACE;
 use reader_form::DEAD;
 use reader_form::FORM_RULE;
 use reader_form::step;
+use reader_words::Stand;
 use reader_work::Counts;
-use reader_work::begin_after;
+use reader_work::Token;
 use reader_work::refused;
-use reader_work::value_after;
+use reader_work::token_after;
 use reader_work::work;
 use refusals::TextRefusal;
 ghost use mathlib.Core.Path.{_≡_};
 ghost use Rattle.reader_work.specs.Fold.{Ends, readFrom, started};
-ghost use Rattle.reader_fast.specs.Standing.{readRest};
+ghost use Rattle.reader_words.specs.Standing.{readRest};
 ghost use Rattle.reader.specs.Verdict.{refusalOf, refuseOf, readOf};
 ghost use Rattle.reader.specs.Counted.{countedOf};
 
@@ -48,10 +48,12 @@ fn finish(
     ensures { λ r. ⌜ Ends r (now (heads .exit)) (now (starts .exit)) (now (bodies .exit))
         (readRest s (now (heads .entry)) (now (starts .entry)) (now (bodies .entry)) (now (text .entry))) ⌝ }
 {
-    let mut k = s.k;
+    let mut x = Token {
+        k: s.k,
+        value: 0,
+        begin: 0,
+    };
     let mut mode = s.mode;
-    let mut value: u16 = 0;
-    let mut begin: usize = 0;
     let mut c = Counts {
         atoms: s.atoms as u16,
         rules: s.rules,
@@ -63,29 +65,17 @@ fn finish(
     let mut i = s.at;
     while i < text.len() {
         let b = text[i];
-        let p = step(k, mode, b);
+        let p = step(x.k, mode, b);
         let act = p.act;
         if p.mode == DEAD {
             return refused(c, 2, i);
         }
-        c = work(
-            act,
-            k,
-            value,
-            begin,
-            i,
-            c,
-            &mut *heads,
-            &mut *starts,
-            &mut *bodies,
-        );
-        value = value_after(act, value, b);
-        begin = begin_after(act, begin, i);
-        k = p.k;
+        c = work(act, x, i, c, &mut *heads, &mut *starts, &mut *bodies);
+        x = token_after(act, x, p.k, b, i);
         mode = p.mode;
         i += 1;
     }
-    if k != FORM_RULE {
+    if x.k != FORM_RULE {
         return refused(c, 2, i);
     }
     if mode != AT_PLACE {
@@ -94,8 +84,8 @@ fn finish(
     c
 }
 
-// Reads the text into the three arrays, which hold zeros.
-fn read_into(
+// Reads the text into the three arrays, which hold zeros. Its length is not looked at.
+pub fn read_into(
     text: &[u8],
     heads: &mut [u16; HEADS],
     starts: &mut [u16; STARTS],
@@ -118,7 +108,7 @@ fn read_into(
 }
 
 // The refusal of row `number`, from 2 to 7.
-fn refusal(number: u8, spot: usize) -> TextRefusal
+pub fn refusal(number: u8, spot: usize) -> TextRefusal
     ensures { λ r. ⌜ r ≡ refusalOf number spot ⌝ }
 {
     if number == 2 {

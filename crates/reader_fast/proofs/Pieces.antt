@@ -12,11 +12,11 @@ use lib.Dec.{eqb}
 use lib.ListN.{length, getD, set}
 use borrow.Author.Tests.{not-false}
 use Rattle.reader_form.specs.Automaton.{placed, formStep}
-use Rattle.reader_fast.specs.declared.Stand.{Stand}
-use Rattle.reader_fast.specs.declared.ShortNumber.{ShortNumber}
-use Rattle.reader_fast.specs.Standing.{standing, readRest, Goes, GoesHeads, GoesStarts, GoesBodies, hasAt, readyAt, listAt, listingAt, fitsAt, addedTo, shortNumberAt}
-use Rattle.reader_fast.proofs.Words.{word-found}
-use Rattle.reader_fast.proofs.Digits.{Item, Read, short-number-read}
+use Rattle.reader_words.specs.declared.Stand.{Stand}
+use Rattle.reader_words.specs.declared.ShortNumber.{ShortNumber}
+use Rattle.reader_words.specs.Standing.{standing, readRest, Goes, GoesHeads, GoesStarts, GoesBodies, hasAt, readyAt, listAt, listingAt, fitsAt, addedTo, shortNumberAt}
+use Rattle.reader_words.proofs.Words.{word-found}
+use Rattle.reader_words.proofs.Digits.{Item, Read, short-number-read}
 use Rattle.reader_fast.proofs.Tokens.{put, on, shutAs, beforeHead, beforeList, atLineEnd, beforeAtoms, ready-found, begun-from, between-from, shut-from}
 use Rattle.reader_fast.proofs.Tokens.{head-from, first-from, list-cases, closed-from, ListPlace, listing-found, fits-found, atom-behind}
 

@@ -12,14 +12,14 @@ use lib.Dec.{eqb, ltb, leb}
 use lib.ListN.{length, getD, set, drop}
 use borrow.Author.Tests.{eqb-true, ltb-true, ltb-false, leb-false, lt-ltb, le-ltb, lt-leb, ne-eqb}
 use Rattle.reader_form.specs.Automaton.{placed, formAt, digitTest, literalOf, leaveOf, digitOf, itemOf, actAt, formStep}
-use Rattle.reader_fast.specs.declared.Stand.{Stand}
+use Rattle.reader_words.specs.declared.Stand.{Stand}
 use Rattle.reader_work.specs.declared.Counts.{Counts}
-use Rattle.reader_fast.specs.declared.ShortNumber.{ShortNumber}
+use Rattle.reader_words.specs.declared.ShortNumber.{ShortNumber}
 use Rattle.reader_work.specs.Work as Work
 use Rattle.reader_work.specs.Fold.{readFrom}
-use Rattle.reader_fast.specs.Standing.{standing, readRest, Goes, GoesHeads, GoesStarts, hasAt, readyAt, listAt, listingAt, fitsAt, addedTo, shortNumberAt}
-use Rattle.reader_fast.proofs.Words.{word-found}
-use Rattle.reader_fast.proofs.Digits.{Item, Read, within, byte-read, short-number-read}
+use Rattle.reader_words.specs.Standing.{standing, readRest, Goes, GoesHeads, GoesStarts, hasAt, readyAt, listAt, listingAt, fitsAt, addedTo, shortNumberAt}
+use Rattle.reader_words.proofs.Words.{word-found}
+use Rattle.reader_words.proofs.Digits.{Item, Read, within, byte-read, short-number-read}
 
 -- a stand, put at place k
 abbrev pub put : Stand → ℕ → ℕ → Stand

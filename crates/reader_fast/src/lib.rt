@@ -1,4 +1,4 @@
-// Reads many bytes at once where the text has the expected form: fixed bytes, numbers of one to three digits, lists, lines.
+// Reads many bytes of a program text at once where it has the expected form: words, heads, lists, lines.
 //
 // Each function goes on from where the reading stands, or stays there: the rest of the text is read to the same end from the stand that it
 // returns. None of them refuses a text. What they do not take is left to the automaton.
@@ -6,8 +6,6 @@ use numbers::Atom;
 use numbers::BODIES;
 use numbers::HEADS;
 use numbers::MAX_ATOMS;
-use numbers::MAX_BODY_ATOMS;
-use numbers::MAX_RULES;
 use numbers::Rule;
 use numbers::STARTS;
 use numbers::wide;
@@ -19,159 +17,18 @@ use reader_form::FORM_HEAD;
 use reader_form::FORM_NEGATIVE;
 use reader_form::FORM_POSITIVE;
 use reader_form::FORM_RULE;
-use reader_form::is_digit;
+use reader_words::Stand;
+use reader_words::added;
+use reader_words::fits;
+use reader_words::has;
+use reader_words::is_list;
+use reader_words::listing;
+use reader_words::ready;
+use reader_words::short_number_at;
 use reader_work::put_body;
 use reader_work::put_head;
-ghost use Prim.Native.Nat.{_<_};
 ghost use mathlib.Core.Path.{_≡_};
-ghost use Rattle.reader_fast.specs.Standing.{readRest, Goes, GoesHeads, GoesStarts, GoesBodies};
-ghost use Rattle.reader_fast.specs.Standing.{hasAt, shortNumberOf, shortNumberAt, readyAt, listAt, listingAt, fitsAt, addedTo};
-
-// Where the reading stands, with no number begun and nothing refused: the place in the form and its mode, the next byte, what is counted,
-// and the list's last number. The fields leave no gap between them, so a copy moves whole words.
-pub struct Stand {
-    pub k: usize,
-    pub at: usize,
-    pub rules: u16,
-    pub held: u16,
-    pub prev: u16,
-    pub atoms: u8,
-    pub mode: u8,
-}
-
-// A number, and how many digits it has: count 0 stands for no number.
-struct ShortNumber {
-    value: u16,
-    count: usize,
-}
-
-// ---- the text
-
-// Whether the bytes from `at` on begin with `word`.
-fn has<'a>(text: &'a [u8], at: usize, word: &'a [u8]) -> bool
-    ensures { λ r. ⌜ r ≡ hasAt (now (text .entry)) at (now (word .entry)) ⌝ }
-{
-    if text.len() < word.len() {
-        return false;
-    }
-    if text.len() - word.len() < at {
-        return false;
-    }
-    let mut k: usize = 0;
-    while k < word.len() {
-        if text[at + k] != word[k] {
-            return false;
-        }
-        k += 1;
-    }
-    true
-}
-
-// The number of one to three digits, the first not 0, that begins with the bytes a, b and c.
-fn short_number_of(a: u8, b: u8, c: u8) -> ShortNumber
-    ensures { λ r. ⌜ r ≡ shortNumberOf a b c ⌝ }
-{
-    if a < 49 {
-        return ShortNumber { value: 0, count: 0 };
-    }
-    if 57 < a {
-        return ShortNumber { value: 0, count: 0 };
-    }
-    let x = (a - 48) as u16;
-    if !is_digit(b) {
-        return ShortNumber { value: x, count: 1 };
-    }
-    let y = x * 10 + (b - 48) as u16;
-    if !is_digit(c) {
-        return ShortNumber { value: y, count: 2 };
-    }
-    ShortNumber {
-        value: y * 10 + (c - 48) as u16,
-        count: 3,
-    }
-}
-
-// The number of one to three digits at `at`, where four bytes are left.
-fn short_number_at(text: &[u8], at: usize) -> ShortNumber
-    ensures { λ r. ⌜ r ≡ shortNumberAt (now (text .entry)) at ⌝ }
-{
-    if text.len() < 4 {
-        return ShortNumber { value: 0, count: 0 };
-    }
-    if text.len() - 4 < at {
-        return ShortNumber { value: 0, count: 0 };
-    }
-    short_number_of(text[at], text[at + 1], text[at + 2])
-}
-
-// ---- the stand
-
-// Whether the reading stands at place k itself, with fewer than 500 rules.
-fn ready(s: Stand, k: usize) -> bool
-    ensures { λ r. ⌜ r ≡ readyAt s k ⌝ }
-{
-    if s.k != k {
-        return false;
-    }
-    if s.mode != AT_PLACE {
-        return false;
-    }
-    s.rules < MAX_RULES
-}
-
-// Whether place k has a list.
-fn is_list(k: usize) -> bool
-    ensures { λ r. ⌜ r ≡ listAt k ⌝ }
-{
-    if k == FORM_POSITIVE {
-        return true;
-    }
-    k == FORM_NEGATIVE
-}
-
-// Whether the reading stands in a list where a number may begin.
-fn listing(s: Stand) -> bool
-    ensures { λ r. ⌜ r ≡ listingAt s ⌝ }
-{
-    if !is_list(s.k) {
-        return false;
-    }
-    if s.mode == AT_PLACE {
-        return true;
-    }
-    s.mode == AT_SPACE
-}
-
-// Whether the number is an atom above the list's last one, and there is room for it.
-fn fits(s: Stand, value: u16) -> bool
-    ensures { λ r. ⌜ r ≡ fitsAt s value ⌝ }
-{
-    if (s.atoms as u16) < value {
-        return false;
-    }
-    if value <= s.prev {
-        return false;
-    }
-    s.held < MAX_BODY_ATOMS
-}
-
-// The stand with one body atom more, at place k, in `mode`, before byte `at`.
-fn added(s: Stand, value: u16, k: usize, mode: u8, at: usize) -> Stand
-    requires { ⌜ s .held < 500 ⌝ }
-    ensures { λ r. ⌜ r ≡ addedTo s value k mode at ⌝ }
-{
-    Stand {
-        k: k,
-        at: at,
-        rules: s.rules,
-        held: s.held + 1,
-        prev: value,
-        atoms: s.atoms,
-        mode: mode,
-    }
-}
-
-// ---- the parts of the form
+ghost use Rattle.reader_words.specs.Standing.{readRest, Goes, GoesHeads, GoesStarts, GoesBodies};
 
 // Takes the first line.
 fn take_atoms_line(text: &[u8], s: Stand) -> Stand
@@ -295,18 +152,18 @@ fn take_body_atom(text: &[u8], s: Stand, bodies: &mut [u16; BODIES]) -> Stand
     if n.count == 0 {
         return s;
     }
-    if !fits(s, n.value) {
+    if !fits(s, Atom(n.value)) {
         return s;
     }
     let to = s.at + n.count;
     let b = text[to];
     if b == 32 {
         put_body(&mut *bodies, wide(s.held), Atom(n.value));
-        return added(s, n.value, s.k, AT_SPACE, to + 1);
+        return added(s, Atom(n.value), s.k, AT_SPACE, to + 1);
     }
     if b == 41 {
         put_body(&mut *bodies, wide(s.held), Atom(n.value));
-        return added(s, n.value, s.k + 2, AT_PLACE, to + 1);
+        return added(s, Atom(n.value), s.k + 2, AT_PLACE, to + 1);
     }
     s
 }

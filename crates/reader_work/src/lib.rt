@@ -85,7 +85,7 @@ fn grown(value: u16, b: u8) -> u16
 }
 
 // The number being read after byte b with action `act`, which begins it or goes on; there is none otherwise.
-pub fn value_after(act: u8, value: u16, b: u8) -> u16
+fn value_after(act: u8, value: u16, b: u8) -> u16
     ensures { λ r. ⌜ r ≡ valueAfter act value b ⌝ }
 {
     if act == ACT_BEGIN {
@@ -98,7 +98,7 @@ pub fn value_after(act: u8, value: u16, b: u8) -> u16
 }
 
 // Where the number being read begins, 0 where there is none.
-pub fn begin_after(act: u8, begin: usize, i: usize) -> usize
+fn begin_after(act: u8, begin: usize, i: usize) -> usize
     ensures { λ r. ⌜ r ≡ beginAfter act begin i ⌝ }
 {
     if act == ACT_BEGIN {
@@ -261,21 +261,38 @@ fn bracket(act: u8, i: usize, c: Counts, starts: &mut [u16; STARTS]) -> Counts
     close_rule(c)
 }
 
-// What byte i does with action `act` from place k.
+// The place in the form, and the number being read there: its value so far and its first byte, both 0 where there is none.
+pub struct Token {
+    pub k: usize,
+    pub value: u16,
+    pub begin: usize,
+}
+
+// The token after byte b at i with action `act`, which leads to place k.
+pub fn token_after(act: u8, x: Token, k: usize, b: u8, i: usize) -> Token
+    ensures { λ r. ⌜ r ≡ record { k = k; value = valueAfter act (x .value) b; begin = beginAfter act (x .begin) i } ⌝ }
+{
+    Token {
+        k: k,
+        value: value_after(act, x.value, b),
+        begin: begin_after(act, x.begin, i),
+    }
+}
+
+// What byte i does with action `act` at token x.
 pub fn work(
     act: u8,
-    k: usize,
-    value: u16,
-    begin: usize,
+    x: Token,
     i: usize,
     c: Counts,
     heads: &mut [u16; HEADS],
     starts: &mut [u16; STARTS],
     bodies: &mut [u16; BODIES],
 ) -> Counts
-    ensures { λ r. ⌜ (r ≡ workOf act k value begin i c)
-        × ((now (heads .exit) ≡ workHeads act k value c (now (heads .entry)))
-        × ((now (starts .exit) ≡ workStarts act c (now (starts .entry))) × (now (bodies .exit) ≡ workBodies act k value c (now (bodies .entry))))) ⌝ }
+    ensures { λ r. ⌜ (r ≡ workOf act (x .k) (x .value) (x .begin) i c)
+        × ((now (heads .exit) ≡ workHeads act (x .k) (x .value) c (now (heads .entry)))
+        × ((now (starts .exit) ≡ workStarts act c (now (starts .entry)))
+        × (now (bodies .exit) ≡ workBodies act (x .k) (x .value) c (now (bodies .entry))))) ⌝ }
 {
     if act < ACT_END {
         return c;
@@ -284,7 +301,7 @@ pub fn work(
         return c;
     }
     if act == ACT_END {
-        return end_number(k, value, begin, c, &mut *heads, &mut *bodies);
+        return end_number(x.k, x.value, x.begin, c, &mut *heads, &mut *bodies);
     }
     bracket(act, i, c, &mut *starts)
 }

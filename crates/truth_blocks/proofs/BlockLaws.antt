@@ -84,14 +84,14 @@ module _ (A : Assignment) (S : Sizes) (a i : ℕ) where
     -- ---- the clauses of a lower bit
 
     module _ (h : k + 1 < i) {x u v : ℕ} (p : x ≡ levelVar S a (k + 1)) (q : u ≡ nextVar S a i) (s : v ≡ levelVar S a i) {r : Bool}
-        (e : r ≡ (threeTrue A true x false u true v && threeTrue A true x true u false v)) where
+        (e : r ≡ (threeTrue A (var x) (− u) (var v) && threeTrue A (var x) (var u) (− v))) where
       below : suc k < i
       below = omega (arith, h)
 
       both-are : r ≡ (nextClause A S a i (suc (2 * k)) && nextClause A S a i (suc (suc (2 * k))))
       both-are =
-          e ∙ ap (λ (x : ℕ). threeTrue A true x false u true v && threeTrue A true x true u false v) (p ∙ ap (levelVar S a) (add-one k))
-          ∙ ap₂ (λ (u v : ℕ). threeTrue A true (levelVar S a (suc k)) false u true v && threeTrue A true (levelVar S a (suc k)) true u false v) q s
+          e ∙ ap (λ (x : ℕ). threeTrue A (var x) (− u) (var v) && threeTrue A (var x) (var u) (− v)) (p ∙ ap (levelVar S a) (add-one k))
+          ∙ ap₂ (λ (u v : ℕ). threeTrue A (var (levelVar S a (suc k))) (− u) (var v) && threeTrue A (var (levelVar S a (suc k))) (var u) (− v)) q s
           ∙ sym (ap₂ _&&_ (first-by (lt-ltb (suc k) i below)) (second-by (lt-ltb (suc k) i below)))
 
       pub lower-more : r ≡ true → allTo (2 * k) (nextClause A S a i) ≡ true → allTo (2 * (k + 1)) (nextClause A S a i) ≡ true
@@ -139,11 +139,11 @@ module _ (A : Assignment) (S : Sizes) (a i : ℕ) where
               ∙ ap (λ (d : Bool). literalTrue A (cond d (signed s (nextVar S a i)) (signed s (levelVar S a i)))) (ne-eqb (suc (suc k)) i (λ q. omega (arith, q, h)))
 
       pub long-is : {u v : ℕ} → u ≡ nextVar S a i → v ≡ levelVar S a i → {p r : Bool} → allTo (2 * k) (nextClause A S a i) ≡ true → p ≡ lowTo k
-          → r ≡ ((p || twoTrue A false u false v) && (p || twoTrue A true u true v)) → r ≡ nextTrue A S a i
+          → r ≡ ((p || twoTrue A (− u) (− v)) && (p || twoTrue A (var u) (var v))) → r ≡ nextTrue A S a i
       unfolding nextTrue
       long-is q s {p} {r} z e f =
-          f ∙ ap₂ (λ (u v : ℕ). (p || twoTrue A false u false v) && (p || twoTrue A true u true v)) q s
-          ∙ ap (λ (d : Bool). (d || twoTrue A false (nextVar S a i) false (levelVar S a i)) && (d || twoTrue A true (nextVar S a i) true (levelVar S a i))) e
+          f ∙ ap₂ (λ (u v : ℕ). (p || twoTrue A (− u) (− v)) && (p || twoTrue A (var u) (var v))) q s
+          ∙ ap (λ (d : Bool). (d || twoTrue A (− nextVar S a i) (− levelVar S a i)) && (d || twoTrue A (var (nextVar S a i)) (var (levelVar S a i)))) e
           ∙ sym
           (ap (λ (n : ℕ). allTo n (nextClause A S a i)) (twice k h) ∙ two-more
           ∙ ap (λ (d : Bool). (d && nextClause A S a i (suc (2 * k))) && nextClause A S a i (suc (suc (2 * k)))) z
@@ -156,9 +156,9 @@ module _ (A : Assignment) (S : Sizes) (a i : ℕ) where
 
 -- ---- group 3
 
-module _ (A : Assignment) (S : Sizes) (a y : ℕ) {v x : ℕ} (p : v ≡ a) (q : x ≡ levelVar S a (y + 1)) {r : Bool} (e : r ≡ twoTrue A true v false x) where
+module _ (A : Assignment) (S : Sizes) (a y : ℕ) {v x : ℕ} (p : v ≡ a) (q : x ≡ levelVar S a (y + 1)) {r : Bool} (e : r ≡ twoTrue A (var v) (− x)) where
   zero-is : zeroClause A S a (suc y) ≡ r
-  zero-is = sym (e ∙ ap₂ (λ (v x : ℕ). twoTrue A true v false x) p (q ∙ ap (levelVar S a) (add-one y)))
+  zero-is = sym (e ∙ ap₂ (λ (v x : ℕ). twoTrue A (var v) (− x)) p (q ∙ ap (levelVar S a) (add-one y)))
 
   pub zero-more : r ≡ true → allTo y (zeroClause A S a) ≡ true → allTo (y + 1) (zeroClause A S a) ≡ true
   zero-more z h = all-more (zeroClause A S a) h (zero-is ∙ z)

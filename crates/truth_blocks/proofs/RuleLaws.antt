@@ -69,7 +69,7 @@ front-two g (suc n) =
 module _ (A : Assignment) (S : Sizes) (k : ℕ) where
   -- pair j: variable f, which is s(r), and its level below; its level is not below; its next is not below
   abbrev pub belowTrue : ℕ → ℕ → Bool
-  belowTrue f j = twoTrue A false f true (belowVar S (k + j) (S .w))
+  belowTrue f j = twoTrue A (− f) (var (belowVar S (k + j) (S .w)))
 
   abbrev pub notBelow : ℕ → Bool
   notBelow j = literalTrue A (− belowVar S (k + j) (S .w))
@@ -77,9 +77,9 @@ module _ (A : Assignment) (S : Sizes) (k : ℕ) where
   abbrev pub notNext : ℕ → Bool
   notNext j = literalTrue A (− nextBelowVar S (k + j) (S .w))
 
-  module _ (f j : ℕ) {v : ℕ} (q : v ≡ belowVar S (k + (j + 1)) (S .w)) {x : Bool} (e : x ≡ twoTrue A false f true v) where
+  module _ (f j : ℕ) {v : ℕ} (q : v ≡ belowVar S (k + (j + 1)) (S .w)) {x : Bool} (e : x ≡ twoTrue A (− f) (var v)) where
     below-is : belowTrue f (suc j) ≡ x
-    below-is = sym (e ∙ ap (λ (v : ℕ). twoTrue A false f true v) (q ∙ ap (λ (n : ℕ). belowVar S (k + n) (S .w)) (add-one j)))
+    below-is = sym (e ∙ ap (λ (v : ℕ). twoTrue A (− f) (var v)) (q ∙ ap (λ (n : ℕ). belowVar S (k + n) (S .w)) (add-one j)))
 
     pub below-more : x ≡ true → allTo j (belowTrue f) ≡ true → allTo (j + 1) (belowTrue f) ≡ true
     below-more z h = all-more (belowTrue f) {k = j} h (below-is ∙ z)
@@ -90,30 +90,30 @@ module _ (A : Assignment) (S : Sizes) (k : ℕ) where
       ∙ sym (ap (λ (n : ℕ). anyTo n notBelow) (add-one j))
 
   abbrev long : ℕ → ℕ → Bool
-  long r b = twoTrue A true (foundsVar S r) false (bodyVar S r) || anyTo b notBelow
+  long r b = twoTrue A (var (foundsVar S r)) (− bodyVar S r) || anyTo b notBelow
 
   module _ (r b : ℕ) {f : ℕ} (p : f ≡ foundsVar S r) where
-    pub body-fails : {t : ℕ} → t ≡ bodyVar S r → {x : Bool} → x ≡ twoTrue A false f true t → x ≡ false → false ≡ foundsTrue A S r k b
+    pub body-fails : {t : ℕ} → t ≡ bodyVar S r → {x : Bool} → x ≡ twoTrue A (− f) (var t) → x ≡ false → false ≡ foundsTrue A S r k b
     unfolding foundsTrue
     body-fails q e z =
-        sym (ap (λ (d : Bool). (d && allTo b (belowTrue (foundsVar S r))) && long r b) (sym (ap₂ (λ (f t : ℕ). twoTrue A false f true t) p q) ∙ sym e ∙ z))
+        sym (ap (λ (d : Bool). (d && allTo b (belowTrue (foundsVar S r))) && long r b) (sym (ap₂ (λ (f t : ℕ). twoTrue A (− f) (var t)) p q) ∙ sym e ∙ z))
 
-    pub below-fails : (j : ℕ) {v : ℕ} → v ≡ belowVar S (k + (j + 1)) (S .w) → {x : Bool} → x ≡ twoTrue A false f true v → j < b → x ≡ false → false ≡ foundsTrue A S r k b
+    pub below-fails : (j : ℕ) {v : ℕ} → v ≡ belowVar S (k + (j + 1)) (S .w) → {x : Bool} → x ≡ twoTrue A (− f) (var v) → j < b → x ≡ false → false ≡ foundsTrue A S r k b
     unfolding foundsTrue
     below-fails j q e h z =
         sym
-        (ap (λ (d : Bool). (twoTrue A false (foundsVar S r) true (bodyVar S r) && d) && long r b)
+        (ap (λ (d : Bool). (twoTrue A (− foundsVar S r) (var (bodyVar S r)) && d) && long r b)
         (ap (λ (f : ℕ). allTo b (belowTrue f)) (sym p) ∙ not-all b (belowTrue f) j h (below-is f j q e ∙ z))
-        ∙ ap (λ (d : Bool). d && long r b) (and-false (twoTrue A false (foundsVar S r) true (bodyVar S r))))
+        ∙ ap (λ (d : Bool). d && long r b) (and-false (twoTrue A (− foundsVar S r) (var (bodyVar S r)))))
 
-    pub founds-all : {t : ℕ} → t ≡ bodyVar S r → {x : Bool} → x ≡ twoTrue A false f true t → x ≡ true → {j : ℕ} → j ≤ b → b ≤ j → allTo j (belowTrue f) ≡ true
-        → {l : Bool} → l ≡ anyTo j notBelow → {y : Bool} → y ≡ twoTrue A true f false t → (y || l) ≡ foundsTrue A S r k b
+    pub founds-all : {t : ℕ} → t ≡ bodyVar S r → {x : Bool} → x ≡ twoTrue A (− f) (var t) → x ≡ true → {j : ℕ} → j ≤ b → b ≤ j → allTo j (belowTrue f) ≡ true
+        → {l : Bool} → l ≡ anyTo j notBelow → {y : Bool} → y ≡ twoTrue A (var f) (− t) → (y || l) ≡ foundsTrue A S r k b
     unfolding foundsTrue
     founds-all {t} q {x} e z {j} h n a {l} m {y} u =
         sym
-        (ap (λ (d : Bool). (d && allTo b (belowTrue (foundsVar S r))) && long r b) (sym (ap₂ (λ (f t : ℕ). twoTrue A false f true t) p q) ∙ sym e ∙ z)
+        (ap (λ (d : Bool). (d && allTo b (belowTrue (foundsVar S r))) && long r b) (sym (ap₂ (λ (f t : ℕ). twoTrue A (− f) (var t)) p q) ∙ sym e ∙ z)
         ∙ ap (λ (d : Bool). d && long r b) (ap₂ (λ (n f : ℕ). allTo n (belowTrue f)) (sym (le-antisymm h n)) (sym p) ∙ a)
-        ∙ ap₂ _||_ (sym (u ∙ ap₂ (λ (f t : ℕ). twoTrue A true f false t) p q)) (ap (λ (n : ℕ). anyTo n notBelow) (sym (le-antisymm h n)) ∙ sym m))
+        ∙ ap₂ _||_ (sym (u ∙ ap₂ (λ (f t : ℕ). twoTrue A (var f) (− t)) p q)) (ap (λ (n : ℕ). anyTo n notBelow) (sym (le-antisymm h n)) ∙ sym m))
 
   -- ---- the last clause, with pairs; l says that the body is false
 
@@ -135,18 +135,16 @@ module _ (A : Assignment) (S : Sizes) (k : ℕ) where
 
 module _ (A : Assignment) (S : Sizes) (h t : ℕ) where
   abbrev pub factClause : ℕ → Bool
-  factClause j = twoTrue A false t (eqb j 1) (levelVar S h j)
+  factClause j = twoTrue A (− t) (signed (eqb j 1) (levelVar S h j))
 
-  module _ (j : ℕ) {v : ℕ} (q : v ≡ levelVar S h (j + 1)) {d x : Bool} (s : d ≡ eqb j 0) (e : x ≡ twoTrue A false t d v) where
+  module _ (j : ℕ) {v : ℕ} (q : v ≡ levelVar S h (j + 1)) {x : Bool} (e : x ≡ twoTrue A (− t) (signed (eqb (j + 1) 1) v)) where
     fact-is : factClause (suc j) ≡ x
-    fact-is =
-        ap (λ (d : Bool). twoTrue A false t d (levelVar S h (suc j))) (eqb·suc-suc j 0 ∙ sym s)
-        ∙ sym (e ∙ ap (λ (v : ℕ). twoTrue A false t d v) (q ∙ ap (levelVar S h) (add-one j)))
+    fact-is = sym (e ∙ ap (λ (v : ℕ). twoTrue A (− t) (signed (eqb (j + 1) 1) v)) q ∙ ap factClause (add-one j))
 
     pub fact-fails : (r : ℕ) → t ≡ bodyVar S r → j < S .w → x ≡ false → false ≡ factTrue A S r h
     unfolding factTrue
     fact-fails r p l z =
-        sym (not-all (S .w) factClause j l (fact-is ∙ z)) ∙ ap (λ (t : ℕ). allTo (S .w) (λ j. twoTrue A false t (eqb j 1) (levelVar S h j))) p
+        sym (not-all (S .w) factClause j l (fact-is ∙ z)) ∙ ap (λ (t : ℕ). allTo (S .w) (λ j. twoTrue A (− t) (signed (eqb j 1) (levelVar S h j)))) p
 
     pub fact-more : x ≡ true → allTo j factClause ≡ true → allTo (j + 1) factClause ≡ true
     fact-more z a = all-more factClause {k = j} a (fact-is ∙ z)
@@ -154,7 +152,7 @@ module _ (A : Assignment) (S : Sizes) (h t : ℕ) where
   pub fact-all : (r : ℕ) → t ≡ bodyVar S r → {j : ℕ} → j ≤ S .w → S .w ≤ j → allTo j factClause ≡ true → true ≡ factTrue A S r h
   unfolding factTrue
   fact-all r p l n a =
-      sym (ap (λ (n : ℕ). allTo n factClause) (le-antisymm n l) ∙ a) ∙ ap (λ (t : ℕ). allTo (S .w) (λ j. twoTrue A false t (eqb j 1) (levelVar S h j))) p
+      sym (ap (λ (n : ℕ). allTo n factClause) (le-antisymm n l) ∙ a) ∙ ap (λ (t : ℕ). allTo (S .w) (λ j. twoTrue A (− t) (signed (eqb j 1) (levelVar S h j)))) p
 
 -- ---- a rule's clauses, as code goes through them
 
@@ -198,7 +196,7 @@ module _ (A : Assignment) (S : Sizes) (r h k b : ℕ) where
   by-tests y p q s z e f g i =
       ap₂ (λ (p q : Bool). clause-by p q (eqb y (suc (suc b))) (eqb b 0) y) e f ∙ ap₂ (λ (s z : Bool). clause-by p q s z y) g i
 
-  first-clause : clause 1 ≡ twoTrue A false (foundsVar S r) true (bodyVar S r)
+  first-clause : clause 1 ≡ twoTrue A (− foundsVar S r) (var (bodyVar S r))
   first-clause = by-tests 1 true true _ _ refl (le-leb 1 (suc b) (omega arith)) refl refl
 
   -- the clause of pair j
@@ -211,10 +209,10 @@ module _ (A : Assignment) (S : Sizes) (r h k b : ℕ) where
   long-slot l = literalTrue A (three (var (foundsVar S r)) (− bodyVar S r) (− belowVar S (k + (l - 2)) (S .w)) l)
 
   long-by : (n : ℕ) → anyTo (suc (suc n)) long-slot ≡ long A S k r n
-  long-by zero = sym (or-false (twoTrue A true (foundsVar S r) false (bodyVar S r)))
+  long-by zero = sym (or-false (twoTrue A (var (foundsVar S r)) (− bodyVar S r)))
   long-by (suc n) =
       ap₂ _||_ (long-by n) at
-      ∙ or-assoc (twoTrue A true (foundsVar S r) false (bodyVar S r)) (anyTo n (notBelow A S k)) (notBelow A S k (suc n))
+      ∙ or-assoc (twoTrue A (var (foundsVar S r)) (− bodyVar S r)) (anyTo n (notBelow A S k)) (notBelow A S k (suc n))
     where
       less : (n : ℕ) → suc (suc (suc n)) - 2 ≡ suc n
       less n = omega arith
@@ -258,7 +256,7 @@ module _ (A : Assignment) (S : Sizes) (r h k b : ℕ) where
   fact-clause e j =
       by-tests (suc (suc (suc j))) false false false true (ne-eqb (suc (suc (suc j))) 1 (λ q. omega (arith, q))) (lt-leb (suc (suc (suc j))) (suc b) (omega (arith, e)))
       (ne-eqb (suc (suc (suc j))) (suc (suc b)) (λ q. omega (arith, q, e))) (eq-eqb b 0 e)
-      ∙ ap₂ (λ (d : Bool) (n : ℕ). twoTrue A false (bodyVar S r) d (levelVar S h n)) (eqb·suc-suc (suc (suc j)) 2 ∙ eqb·suc-suc (suc j) 1) (less j)
+      ∙ ap₂ (λ (d : Bool) (n : ℕ). twoTrue A (− bodyVar S r) (signed d (levelVar S h n))) (eqb·suc-suc (suc (suc j)) 2 ∙ eqb·suc-suc (suc j) 1) (less j)
     where
       less : (j : ℕ) → suc (suc (suc j)) - 2 ≡ suc j
       less j = omega arith

@@ -22,16 +22,15 @@ use Rattle.encoding.specs.Literal.{Assignment, Literal, literalTrue, clauseTrue
 use Rattle.encoding.specs.Variables.{Sizes, levelVar, nextVar, varCount}
 use Rattle.theory.proofs.Atoms.{atom-pos, atom-le}
 use Rattle.clause_literals.specs.Sizes.{sizesOf, Bounded}
-use Rattle.clause_walk.specs.Walk.{headOf, itemCount, size, slots, slot, clauseAt, slot3, slots4, slot4, size6, slots6, slot6, chainSize, chainSlots, chainSlot, chainFirst, chainNext, chainBit, BlockAt, At}
-use Rattle.clause_slots.specs.declared.Chain.{Chain}
-use Rattle.clause_slots.specs.Signed.{slotLiteral}
+use Rattle.clause_walk.specs.Walk.{headOf, itemCount, size, slots, slot, clauseAt, slot3, slots4, slot4, size6, slots6, slot6, chainSize, chainSlots, chainSlot, chainFirst, chainNext, chainBit, BlockAt, At, groupOf}
+use Rattle.clause_chains.specs.declared.Chain.{Chain}
 use Rattle.clause_tables.specs.declared.Totals.{Totals}
 use Rattle.clause_tables.specs.Tables.{Tabled}
 use Rattle.clause_table_laws.proofs.Elements.{inner-positives, vars-are, rules-are, head-atom, head-is, before-is, before-fits, pairs-fit}
 use Rattle.clause_table_laws.proofs.Bounds.{slot-in}
 use Rattle.clause_layout.specs.BlockChain.{chainOfBlock}
 use Rattle.clause_layout.proofs.Groups.{sizes-are, bounded, atom3, atom4, block4, bits4, size-zero, size-next, size-pair, size-rule, slots-zero, slots-next, slots-pair, slots-rule, slot-zero, slot-next, slot-rule, rule6, span1}
-use Rattle.clause_layout.proofs.BlockChains.{literal-pair}
+use Rattle.clause_layout.proofs.BlockChains.{slot-chain}
 use Rattle.truth_literals.specs.Clauses.{Has, BitIn, bitTrue}
 use Rattle.truth_blocks.specs.Blocks.{nextTrue, zeroTrue, ruleTrue, blockTrue, isWhole, blockPasses}
 use Rattle.truth_blocks.proofs.RuleLaws.{rule-is}
@@ -89,30 +88,12 @@ any-slots : (p : Literal → Bool) (n : ℕ) (f : ℕ → List Literal) (F : ℕ
 any-slots p n f F q =
     any-each p n f ∙ anyTo-ext n (λ l. any p (f l)) (λ l. p (F l)) (λ l h. ap (any p) (q l h) ∙ or-false (p (F (suc l))))
 
-module _ (G : Code) (g a i y l : ℕ) where
-  single5 : g ≡ 5 → slot G g a i y l ≡ slotLiteral (slot G g a i y l) ∷ []
-  unfolding slot
-  single5 e = subst (λ (g : ℕ). slot G g a i y l ≡ slotLiteral (slot G g a i y l) ∷ []) (sym e) refl
-
-  single4 : g ≡ 4 → slot G g a i y l ≡ slotLiteral (slot G g a i y l) ∷ []
-  unfolding slot
-  single4 e = subst (λ (g : ℕ). slot G g a i y l ≡ slotLiteral (slot G g a i y l) ∷ []) (sym e) refl
-
-  single3 : g ≡ 3 → slot G g a i y l ≡ slotLiteral (slot G g a i y l) ∷ []
-  unfolding slot
-  single3 e = subst (λ (g : ℕ). slot G g a i y l ≡ slotLiteral (slot G g a i y l) ∷ []) (sym e) refl
-
-module _ (G : Code) (g a i y l : ℕ) where
-  single6 : g ≡ 6 → slot G g a i y l ≡ slotLiteral (slot G g a i y l) ∷ []
-  unfolding slot
-  single6 e = subst (λ (g : ℕ). slot G g a i y l ≡ slotLiteral (slot G g a i y l) ∷ []) (sym e) refl
-
 items3 : (G : Code) → itemCount G 3 ≡ G .n
-unfolding itemCount
+unfolding itemCount groupOf
 items3 G = refl
 
 items4 : (G : Code) → itemCount G 4 ≡ G .n
-unfolding itemCount
+unfolding itemCount groupOf
 items4 G = refl
 
 -- ---- which blocks are taken whole
@@ -181,9 +162,9 @@ module _ {G : Code} {t : Totals} {hs ss bs ks xs ys : List ℕ} (T : Tabled G t 
 
   -- ---- group 5
 
-  module _ (e : g ≡ 5) {c : Chain} {j : ℕ} (p : c ≡ chainOfBlock G g a i) (q : j ≡ chainBit w i) where
+  module _ (e : g ≡ 5) {c : Chain} {j : ℕ} (p : c ≡ chainOfBlock G a i) (q : j ≡ chainBit w i) where
     chain-slot : (y l : ℕ) → slot G g a i y l ≡ chainSlot (c .z .0) (c .x .0) (c .y .0) (c .g .0) j y l ∷ []
-    chain-slot y l = single5 G g a i y l e ∙ ap (λ (x : Literal). x ∷ []) (sym (literal-pair T R y l e p q refl))
+    chain-slot y l = slot-chain T R y l e p q
 
     pub bit-block : (A : Assignment) → bitTrue A c j ≡ blockTrue G A g a i
     unfolding bitTrue
@@ -207,7 +188,7 @@ module _ {G : Code} {t : Totals} {hs ss bs ks xs ys : List ℕ} (T : Tabled G t 
     unfolding nextTrue
     next-block A =
         block-of A (2 * i) (slots4 i) (slot4 (sizesOf (t .sizes)) a i) (size-next T R e) (λ y B. slots-next T B e refl)
-        (λ y l B. single4 G g a i y l e ∙ ap (λ (x : Literal). x ∷ []) (sym (slot-next T B l e refl)))
+        (λ y l B. slot-next T B l e)
 
     pub next-asks : (vs : List ℕ) → t .vars ≤ length vs
         → (Bounded (t .sizes)) × (0 < a) × (a ≤ 126) × (0 < i) × (i ≤ 7) × (levelVar (sizesOf (t .sizes)) a i ≤ length vs) × (nextVar (sizesOf (t .sizes)) a i ≤ length vs)
@@ -227,7 +208,7 @@ module _ {G : Code} {t : Totals} {hs ss bs ks xs ys : List ℕ} (T : Tabled G t 
     unfolding zeroTrue
     zero-block A =
         block-of A w (λ y. 2) (slot3 (sizesOf (t .sizes)) a) (size-zero T R e) (λ y B. slots-zero T B e)
-        (λ y l B. single3 G g a i y l e ∙ ap (λ (x : Literal). x ∷ []) (sym (slot-zero T B l e refl)))
+        (λ y l B. slot-zero T B l e)
 
     pub zero-asks : (vs : List ℕ) → t .vars ≤ length vs
         → (Bounded (t .sizes)) × (0 < a) × (a ≤ 126) × (a ≤ length vs) × (levelVar (sizesOf (t .sizes)) a w ≤ length vs)
@@ -251,7 +232,7 @@ module _ {G : Code} {t : Totals} {hs ss bs ks xs ys : List ℕ} (T : Tabled G t 
       rule-block A =
           rule-is A (sizesOf (t .sizes)) a h k b
           ∙ block-of A (size6 w b) (slots6 b) (slot6 (sizesOf (t .sizes)) a h k b) (size-rule T R e s refl) (λ y B. slots-rule T B e s refl)
-          (λ y l B. single6 G g a i y l e ∙ ap (λ (x : Literal). x ∷ []) (sym (slot-rule T B l e p q s refl)))
+          (λ y l B. slot-rule T B l e p q s)
 
       pub rule-asks : (vs : List ℕ) → t .vars ≤ length vs
           → (Bounded (t .sizes)) × (0 < a) × (a ≤ t .sizes .m) × (0 < h) × (h ≤ t .sizes .n) × (k + b ≤ 500) × (varCount (sizesOf (t .sizes)) (k + b) ≤ length vs)

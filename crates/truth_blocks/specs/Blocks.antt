@@ -13,9 +13,9 @@ use mathlib.Core.Bool.{Bool, true, false, _&&_, _||_, cond}
 use lib.Dec.{eqb}
 use Rattle.lists.specs.Lists.{allTo, anyTo}
 use Rattle.encoding.specs.Code.{Code}
-use Rattle.encoding.specs.Literal.{Assignment, −_, literalTrue, clauseTrue}
+use Rattle.encoding.specs.Literal.{Assignment, var, −_, literalTrue, clauseTrue}
 use Rattle.encoding.specs.Variables.{Sizes, bodyVar, foundsVar, levelVar, belowVar, nextBelowVar}
-use Rattle.clause_walk.specs.Walk.{slot3, slots4, slot4, size, clauseAt}
+use Rattle.clause_walk.specs.Walk.{signed, slot3, slots4, slot4, size, clauseAt}
 use Rattle.truth_literals.specs.Clauses.{twoTrue}
 
 -- clause y of the block
@@ -34,11 +34,11 @@ zeroTrue A S a = allTo (S .w) (zeroClause A S a)
 -- s(r) and the body, s(r) and each pair's level below, and the long clause
 unfoldable pub foundsTrue : Assignment → Sizes → ℕ → ℕ → ℕ → Bool
 foundsTrue A S r k b =
-    (twoTrue A false (foundsVar S r) true (bodyVar S r) && allTo b (λ j. twoTrue A false (foundsVar S r) true (belowVar S (k + j) (S .w))))
-    && (twoTrue A true (foundsVar S r) false (bodyVar S r) || anyTo b (λ j. literalTrue A (− belowVar S (k + j) (S .w))))
+    (twoTrue A (− foundsVar S r) (var (bodyVar S r)) && allTo b (λ j. twoTrue A (− foundsVar S r) (var (belowVar S (k + j) (S .w)))))
+    && (twoTrue A (var (foundsVar S r)) (− bodyVar S r) || anyTo b (λ j. literalTrue A (− belowVar S (k + j) (S .w))))
 
 unfoldable pub factTrue : Assignment → Sizes → ℕ → ℕ → Bool
-factTrue A S r h = allTo (S .w) (λ j. twoTrue A false (bodyVar S r) (eqb j 1) (levelVar S h j))
+factTrue A S r h = allTo (S .w) (λ j. twoTrue A (− bodyVar S r) (signed (eqb j 1) (levelVar S h j)))
 
 unfoldable pub boundTrue : Assignment → Sizes → ℕ → ℕ → ℕ → Bool
 boundTrue A S r k b = literalTrue A (− bodyVar S r) || anyTo b (λ j. literalTrue A (− nextBelowVar S (k + j) (S .w)))

@@ -2,6 +2,7 @@
 use clause_cells::head;
 use clause_cells::pairs_before;
 use clause_cells::totals;
+use clause_chains::chain_bit;
 use clause_layout::chain_of_block;
 use clause_layout::span;
 use clause_literals::Sizes;
@@ -9,24 +10,29 @@ use clause_literals::below_var;
 use clause_literals::body_var;
 use clause_literals::founds_var;
 use clause_literals::level_var;
+use clause_literals::literal;
+use clause_literals::negated;
 use clause_literals::next_below_var;
 use clause_literals::next_var;
-use clause_slots::chain_bit;
+use clause_literals::with_sign;
 use numbers::Atom;
+use numbers::Pair;
 use numbers::Rule;
 use numbers::Var;
 use numbers::atom_var;
 use truth_literals::bit_holds;
-use truth_literals::signed_holds;
+use truth_literals::holds;
 use truth_literals::three_hold;
 use truth_literals::two_hold;
 ghost use Prim.Native.Nat.{_+_, _≤_, _<_};
 ghost use mathlib.Core.Path.{_≡_};
-ghost use mathlib.Core.Bool.{true, false, _||_, _&&_};
+ghost use mathlib.Core.Bool.{_||_, _&&_};
+ghost use lib.Dec.{eqb};
 ghost use lib.ListN.{length};
+ghost use Rattle.encoding.specs.Literal.{var, −_, literalNumber};
 ghost use Rattle.encoding.specs.Variables.{levelVar, nextVar, varCount};
 ghost use Rattle.clause_literals.specs.Sizes.{sizesOf, Bounded};
-ghost use Rattle.clause_walk.specs.Walk.{BlockAt};
+ghost use Rattle.clause_walk.specs.Walk.{signed, BlockAt};
 ghost use Rattle.clause_tables.specs.Tables.{Ready, codeIn, varsIn};
 ghost use Rattle.truth_literals.specs.Values.{valueIn};
 ghost use Rattle.truth_literals.specs.Clauses.{Has, twoTrue, threeTrue};
@@ -36,22 +42,22 @@ ghost use Rattle.truth_blocks.specs.Blocks.{nextTrue, zeroTrue, foundsTr
 fn lower_holds(x: Var, u: Var, v: Var, assignment: &[u8]) -> bool
     requires { ⌜ (Has (now assignment) (x .0)) × (Has (now assignment) (u .0)) × (Has (now assignment) (v .0)) ⌝ }
     ensures { λ r. ⌜ r
-        ≡ (threeTrue (valueIn (now (assignment .entry))) true (x .0) false (u .0) true (v .0) && threeTrue (valueIn (now (assignment .entry))) true
-        (x .0) true (u .0) false (v .0)) ⌝ }
+        ≡ (threeTrue (valueIn (now (assignment .entry))) (var (x .0)) (− (u .0)) (var (v .0))
+        && threeTrue (valueIn (now (assignment .entry))) (var (x .0)) (var (u .0)) (− (v .0))) ⌝ }
 {
-    three_hold(true, x, false, u, true, v, assignment)
-        & three_hold(true, x, true, u, false, v, assignment)
+    three_hold(literal(x), negated(u), literal(v), assignment)
+        & three_hold(literal(x), literal(u), negated(v), assignment)
 }
 
 // Whether both long clauses are true, where `low` says that some lower bit has 0.
 fn long_hold(low: bool, u: Var, v: Var, assignment: &[u8]) -> bool
     requires { ⌜ (Has (now assignment) (u .0)) × (Has (now assignment) (v .0)) ⌝ }
     ensures { λ r. ⌜ r
-        ≡ ((low || twoTrue (valueIn (now (assignment .entry))) false (u .0) false (v .0)) &&
-        (low || twoTrue (valueIn (now (assignment .entry))) true (u .0) true (v .0))) ⌝ }
+        ≡ ((low || twoTrue (valueIn (now (assignment .entry))) (− (u .0)) (− (v .0)))
+        && (low || twoTrue (valueIn (now (assignment .entry))) (var (u .0)) (var (v .0)))) ⌝ }
 {
-    (low | two_hold(false, u, false, v, assignment))
-        & (low | two_hold(true, u, true, v, assignment))
+    (low | two_hold(negated(u), negated(v), assignment))
+        & (low | two_hold(literal(u), literal(v), assignment))
 }
 
 // Group 4, atom a: whether every clause of block i is true.
@@ -69,10 +75,25 @@ fn next_block_holds(s: Sizes, a: Atom, i: u16, assignment: &[u8]) -> bool
         if !lower_holds(x, u, v, assignment) {
             return false;
         }
-        low = low | signed_holds(false, x, assignment);
+        low = low | holds(negated(x), assignment);
         j += 1;
     }
     long_hold(low, u, v, assignment)
+}
+
+// Whether the clause that x is 0 or y is 1 is true, and the clause that x is 1 or y is 0.
+fn implies(x: Var, y: Var, assignment: &[u8]) -> bool
+    requires { ⌜ (Has (now assignment) (x .0)) × (Has (now assignment) (y .0)) ⌝ }
+    ensures { λ r. ⌜ r ≡ twoTrue (valueIn (now (assignment .entry))) (− (x .0)) (var (y .0)) ⌝ }
+{
+    two_hold(negated(x), literal(y), assignment)
+}
+
+fn implied(x: Var, y: Var, assignment: &[u8]) -> bool
+    requires { ⌜ (Has (now assignment) (x .0)) × (Has (now assignment) (y .0)) ⌝ }
+    ensures { λ r. ⌜ r ≡ twoTrue (valueIn (now (assignment .entry))) (var (x .0)) (− (y .0)) ⌝ }
+{
+    two_hold(literal(x), negated(y), assignment)
 }
 
 // Group 3, atom a: whether every clause of its block is true.
@@ -83,7 +104,9 @@ fn zero_block_holds(s: Sizes, a: Atom, assignment: &[u8]) -> bool
     let w = s.w;
     let mut y: u16 = 0;
     while y < w {
-        if !two_hold(true, atom_var(a), false, level_var(s, a, y + 1), assignment) {
+        let v = atom_var(a);
+        let x = level_var(s, a, y + 1);
+        if !implied(v, x, assignment) {
             return false;
         }
         y += 1;
@@ -98,20 +121,35 @@ fn founds_hold(s: Sizes, r: Rule, k: u16, b: u16, assignment: &[u8]) -> bool
 {
     let f = founds_var(s, r);
     let t = body_var(s, r);
-    if !two_hold(false, f, true, t, assignment) {
+    if !implies(f, t, assignment) {
         return false;
     }
     let mut low = false;
     let mut j: u16 = 0;
     while j < b {
-        let p = below_var(s, k + (j + 1), s.w);
-        if !two_hold(false, f, true, p, assignment) {
+        let p = below_var(s, Pair(k + (j + 1)), s.w);
+        if !implies(f, p, assignment) {
             return false;
         }
-        low = low | signed_holds(false, p, assignment);
+        low = low | holds(negated(p), assignment);
         j += 1;
     }
-    two_hold(true, f, false, t, assignment) | low
+    implied(f, t, assignment) | low
+}
+
+// The literal that is true where v, bit j of a level, is as bit j of the number 1.
+fn bit_of_one(v: Var, j: u16) -> i32
+    ensures { λ x. ⌜ x ≡ literalNumber (signed (eqb j 1) (v .0)) ⌝ }
+{
+    with_sign(j == 1, v)
+}
+
+// Whether variable t, where it is 1, gives bit j of that level its value.
+fn one_bit_holds(t: Var, v: Var, j: u16, assignment: &[u8]) -> bool
+    requires { ⌜ (Has (now assignment) (t .0)) × (Has (now assignment) (v .0)) ⌝ }
+    ensures { λ r. ⌜ r ≡ twoTrue (valueIn (now (assignment .entry))) (− (t .0)) (signed (eqb j 1) (v .0)) ⌝ }
+{
+    two_hold(negated(t), bit_of_one(v, j), assignment)
 }
 
 // Whether a true body without pairs gives the head, h, level 1.
@@ -123,8 +161,7 @@ fn fact_holds(s: Sizes, r: Rule, h: Atom, assignment: &[u8]) -> bool
     let w = s.w;
     let mut j: u16 = 0;
     while j < w {
-        let first = j == 0;
-        if !two_hold(false, t, first, level_var(s, h, j + 1), assignment) {
+        if !one_bit_holds(t, level_var(s, h, j + 1), j + 1, assignment) {
             return false;
         }
         j += 1;
@@ -137,11 +174,11 @@ fn bound_holds(s: Sizes, r: Rule, k: u16, b: u16, assignment: &[u8]) -> bool
     requires { ⌜ (Bounded s) × (0 < r .0) × (r .0 ≤ s .m) × (k + b ≤ 500) × (varCount (sizesOf s) (k + b) ≤ length (now assignment)) ⌝ }
     ensures { λ x. ⌜ x ≡ boundTrue (valueIn (now (assignment .entry))) (sizesOf s) (r .0) k b ⌝ }
 {
-    let mut low = signed_holds(false, body_var(s, r), assignment);
+    let mut low = holds(negated(body_var(s, r)), assignment);
     let mut j: u16 = 0;
     while j < b {
-        let q = next_below_var(s, k + (j + 1), s.w);
-        low = low | signed_holds(false, q, assignment);
+        let q = next_below_var(s, Pair(k + (j + 1)), s.w);
+        low = low | holds(negated(q), assignment);
         j += 1;
     }
     low
@@ -172,7 +209,7 @@ pub fn block_passes<'a>(table: &'a [u16], g: u16, a: u16, i: u16, assignment: &'
 {
     let t = totals(table);
     if g == 5 {
-        let c = chain_of_block(table, g, a, i);
+        let c = chain_of_block(table, Pair(a), i);
         return bit_holds(c, chain_bit(t.sizes.w, i), assignment);
     }
     if g == 4 {

@@ -7,6 +7,7 @@ use native.Mathlib.Omega.{arith}
 use mathlib.Core.Path.{_≡_, refl, sym, _∙_, ap, ap₂, subst}
 use mathlib.Core.Bool.{Bool, true, false, not, _||_, cond, So, false≢true}
 use mathlib.Core.List.{List, [], _∷_}
+use lib.IntN.{ℤ, natAbs}
 use lib.ListN.{length}
 use Rattle.lists.specs.Lists.{all, any, each, first}
 use Rattle.lists.proofs.Bools.{and-left, not-So}
@@ -17,36 +18,33 @@ use mathlib.Core.Logic.{⊎-elim}
 use Rattle.meaning.specs.Program.{isAtom}
 use Rattle.encoding.specs.Code.{Code, clausesOf, variablesOf, its}
 use Rattle.encoding.specs.Literal.{Literal, literalTrue, clauseTrue, variable}
+use Rattle.encoding.proofs.Literals.{number-size}
 use Rattle.clause_walk.specs.Walk.{size, slots, slot, clauseAt, At}
-use Rattle.clause_slots.specs.declared.Signed.{Signed}
-use Rattle.clause_slots.specs.Signed.{literalIn, slotLiteral}
+use Rattle.clause_slots.specs.SlotNumber.{slotNumber}
 use Rattle.clause_tables.specs.declared.Totals.{Totals}
 use Rattle.clause_tables.specs.Tables.{Tabled}
 use Rattle.clause_table_laws.proofs.Elements.{vars-are}
 use Rattle.clause_table_laws.proofs.Bounds.{slot-in}
-use Rattle.clause_layout.specs.Numbers.{pastEmpty}
+use Rattle.clause_heads.specs.NextHead.{pastEmpty}
 use Rattle.clause_layout.proofs.Passed.{passed, passed-each}
 use Rattle.clause_text.specs.Lines.{literalsIn}
-use Rattle.clause_text.proofs.Held.{held-is}
-use Rattle.clause_text.proofs.Clause.{slotted, slot-in as slot-in-clause}
+use Rattle.clause_text.proofs.Clause.{held-next, slot-in as slot-in-clause}
 use Rattle.clause_places.specs.declared.Coordinates.{Coordinates}
 use Rattle.clause_places.specs.declared.Place.{Place}
-use Rattle.clause_places.specs.Places.{placeAt}
+use Rattle.clause_places.specs.Places.{placeAt, furtherBlock}
 use Rattle.clause_places.proofs.Numbers.{number-is, own-number, placed-at, placed-clause, clauses-many}
 use Rattle.clause_places.proofs.BlockPlaces.{along, block-size}
 use Rattle.truth_clauses.specs.Truth.{valueIn, codeFalse, codeFirstFalse}
 use Rattle.truth_blocks.specs.Blocks.{blockTrue, isWhole, blockPasses}
 use Rattle.truth_clauses.specs.Standing.{TrueTo, Standing}
-use Rattle.clause_places.specs.Places.{furtherBlock}
-use Rattle.truth_clauses.proofs.Values.{variable-in}
 use Rattle.clause_places.proofs.Behind.{behind-is, place-listed}
 
 or-false : (a b : Bool) → a ≡ false → b ≡ false → (a || b) ≡ false
 or-false a b p q = ap₂ _||_ p q
 
-held-in : (n : ℕ) (ls : List Literal) → So (all (λ z. isAtom n (variable z)) ls) → variable (slotLiteral ls) ≤ n
+held-in : (n : ℕ) (ls : List Literal) → So (all (λ z. isAtom n (variable z)) ls) → natAbs (slotNumber ls) ≤ n
 held-in n [] u = omega arith
-held-in n (z ∷ ls) u = atom-le n (variable z) (and-left (isAtom n (variable z)) (all (λ z. isAtom n (variable z)) ls) u)
+held-in n (z ∷ ls) u = subst (λ (k : ℕ). k ≤ n) (sym (number-size z)) (atom-le n (variable z) (and-left (isAtom n (variable z)) (all (λ z. isAtom n (variable z)) ls) u))
 
 module _ {G : Code} {t : Totals} {hs ss bs ks xs ys : List ℕ} (T : Tabled G t hs ss bs ks xs ys) where
   module _ {g a i y : ℕ} (A : At G g a i y) (vs : List ℕ) where
@@ -54,10 +52,9 @@ module _ {G : Code} {t : Totals} {hs ss bs ks xs ys : List ℕ} (T : Tabled G t 
     abbrev trueIn : ℕ → Bool
     trueIn l = any (literalTrue (valueIn vs)) (each l (slot G g a i y))
 
-    module _ (x : Signed) {k l : ℕ} (e : k ≡ slots G g a i y) (h : l < k) (q : literalIn x ≡ slotLiteral (slot G g a i y (l + 1))) where
+    module _ {x : ℤ} {k l : ℕ} (e : k ≡ slots G g a i y) (h : l < k) (q : x ≡ slotNumber (slot G g a i y (l + 1))) where
       slot-is : literalsIn x ≡ slot G g a i y (suc l)
-      slot-is =
-          held-is x (slot G g a i y (suc l)) (slotted T A (suc l) (omega arith) (subst (λ (n : ℕ). suc l ≤ n) e h)) (q ∙ ap (λ (n : ℕ). slotLiteral (slot G g a i y n)) (add-one l))
+      slot-is = held-next T A e h q ∙ ap (slot G g a i y) (add-one l)
 
       one-more : {d : Bool} → d ≡ any (literalTrue (valueIn vs)) (literalsIn x) → trueIn (suc l) ≡ (trueIn l || d)
       one-more u =
@@ -78,11 +75,11 @@ module _ {G : Code} {t : Totals} {hs ss bs ks xs ys : List ℕ} (T : Tabled G t 
           ∙ anyTo-in (slots G g a i y) (λ j. any (literalTrue (valueIn vs)) (slot G g a i y j)) l (subst (λ (n : ℕ). l < n) e h) (ap (any (literalTrue (valueIn vs))) (sym slot-is) ∙ sym u ∙ z))
 
       -- its variable has a byte
-      pub variable-fits : t .vars ≤ length vs → x .var .0 ≤ length vs
+      pub variable-fits : t .vars ≤ length vs → natAbs x ≤ length vs
       variable-fits v =
           le-trans
-          (subst (λ (k : ℕ). k ≤ t .vars) (ap variable (sym q) ∙ variable-in x)
-          (subst (λ (k : ℕ). variable (slotLiteral (slot G g a i y (l + 1))) ≤ k) (sym (vars-are G t hs ss bs ks xs ys T))
+          (subst (λ (z : ℤ). natAbs z ≤ t .vars) (sym q)
+          (subst (λ (k : ℕ). natAbs (slotNumber (slot G g a i y (l + 1))) ≤ k) (sym (vars-are G t hs ss bs ks xs ys T))
           (held-in (variablesOf G) (slot G g a i y (l + 1)) in-slot)))
           v
         where

@@ -1,45 +1,35 @@
--- Truth of slots, as code tests it.
+-- Truth of slots, as code tests it: x is the number of a slot, and z what code reads for it.
 -- Assumes nothing.
-use Prim.Native.Nat.{ℕ, _≤_, _<_, _^_}
-use native.Mathlib.Nat.{pos-of-ne-zero}
+use Prim.Native.Nat.{ℕ, zero, suc, _≤_, _<_, _^_}
+use native.Mathlib.Omega.{arith}
 use mathlib.Core.Path.{_≡_, refl, sym, _∙_, ap, subst}
-use mathlib.Core.Bool.{Bool, true, false, _||_, cond}
-use mathlib.Core.List.{List, [], _∷_}
-use lib.IntN.{ℤ, natAbs}
+use mathlib.Core.Bool.{Bool, false, or-false}
+use mathlib.Core.List.{List}
+use lib.IntN.{ℤ, pos, negsuc, natAbs}
 use lib.ListN.{length}
-use borrow.Author.Tests.{eq-eqb, ne-eqb}
 use Rattle.lists.specs.Lists.{any}
-use Rattle.encoding.specs.Literal.{var, −_, literalNumber, literalTrue, variable}
-use Rattle.clause_slots.specs.declared.Signed.{Signed}
-use Rattle.clause_slots.specs.Signed.{literalIn}
+use Rattle.encoding.specs.Literal.{var, −_, literalTrue}
 use Rattle.clause_text.specs.Lines.{literalsIn}
-use Rattle.truth_literals.proofs.Values.{literal-asks, literal-true}
+use Rattle.truth_literals.specs.Clauses.{LiteralIn}
 use Rattle.truth_clauses.specs.Truth.{valueIn, numberTrue}
 
-pub variable-in : (x : Signed) → variable (literalIn x) ≡ x .var .0
-variable-in x = go (x .positive)
-  where
-    go : (d : Bool) → variable (cond d (var (x .var .0)) (− (x .var .0))) ≡ x .var .0
-    go true = refl
-    go false = refl
+module _ (bs : List ℕ) where
+  pub slot-none : {x : ℤ} → x ≡ pos 0 → false ≡ any (literalTrue (valueIn bs)) (literalsIn x)
+  slot-none e = sym (ap (λ (z : ℤ). any (literalTrue (valueIn bs)) (literalsIn z)) e)
 
-pub slot-none : (bs : List ℕ) (x : Signed) → x .var .0 ≡ 0 → false ≡ any (literalTrue (valueIn bs)) (literalsIn x)
-slot-none bs x e = sym (ap (λ (d : Bool). any (literalTrue (valueIn bs)) (cond d [] (literalIn x ∷ []))) (eq-eqb (x .var .0) 0 e))
+  number-some : (x : ℤ) → (x ≡ pos 0 → ⊥) → numberTrue bs x ≡ any (literalTrue (valueIn bs)) (literalsIn x)
+  number-some (pos zero) f = absurd (f refl)
+  number-some (pos (suc n)) f = sym (or-false (literalTrue (valueIn bs) (var (suc n))))
+  number-some (negsuc n) f = sym (or-false (literalTrue (valueIn bs) (− suc n)))
 
-module _ (bs : List ℕ) (x : Signed) (f : x .var .0 ≡ 0 → ⊥) where
-  some : 0 < variable (literalIn x)
-  some = subst (λ (k : ℕ). 0 < k) (sym (variable-in x)) (pos-of-ne-zero f)
+  above : (x : ℤ) → (x ≡ pos 0 → ⊥) → 0 < natAbs x
+  above (pos zero) f = absurd (f refl)
+  above (pos (suc n)) f = omega arith
+  above (negsuc n) f = omega arith
 
-  pub slot-some : {r : Bool} {z : ℤ} → z ≡ literalNumber (literalIn x) → r ≡ numberTrue bs z → r ≡ any (literalTrue (valueIn bs)) (literalsIn x)
-  slot-some p q =
-      literal-true bs (literalIn x) p some q ∙ or-false (literalTrue (valueIn bs) (literalIn x))
-      ∙ sym (ap (λ (d : Bool). any (literalTrue (valueIn bs)) (cond d [] (literalIn x ∷ []))) (ne-eqb (x .var .0) 0 f))
-    where
-      or-false : (d : Bool) → d ≡ (d || false)
-      or-false true = refl
-      or-false false = refl
+  module _ {x z : ℤ} (q : z ≡ x) (f : x ≡ pos 0 → ⊥) where
+    pub slot-some : {r : Bool} → r ≡ numberTrue bs z → r ≡ any (literalTrue (valueIn bs)) (literalsIn x)
+    slot-some u = u ∙ ap (numberTrue bs) q ∙ number-some x f
 
-  pub number-asks : {z : ℤ} → z ≡ literalNumber (literalIn x) → x .var .0 < 2 ^ 16 → x .var .0 ≤ length bs → (natAbs z < 2 ^ 31) × (0 < natAbs z) × (natAbs z ≤ length bs)
-  number-asks p h k =
-      literal-asks bs (literalIn x) p some (subst (λ (n : ℕ). n < 2 ^ 16) (sym (variable-in x)) h)
-      (subst (λ (n : ℕ). n ≤ length bs) (sym (variable-in x)) k)
+    pub slot-asks : natAbs x < 2 ^ 31 → natAbs x ≤ length bs → LiteralIn bs z
+    slot-asks h k = subst (LiteralIn bs) (sym q) (h, above x f, k)

@@ -1,21 +1,19 @@
 // Truth of clauses under an assignment (document 01, "Check and filling out").
 use clause_cells::totals;
-use clause_layout::chain_of_block;
-use clause_layout::literal_in;
-use clause_layout::past_empty;
+use clause_heads::past_empty;
 use clause_layout::size;
+use clause_layout::slot;
 use clause_layout::slots;
 use clause_places::Place;
 use clause_places::further_block;
 use clause_places::next;
 use clause_places::past_block;
 use clause_places::start;
-use clause_slots::Signed;
-use clause_text::literal_number;
 use truth_blocks::block_passes;
 use truth_literals::holds;
-ghost use Prim.Native.Nat.{_+_, _≤_, _<_};
+ghost use Prim.Native.Nat.{_+_, _^_, _≤_, _<_};
 ghost use mathlib.Core.Path.{_≡_};
+ghost use lib.IntN.{natAbs};
 ghost use lib.ListN.{length};
 ghost use Rattle.lists.specs.Lists.{any};
 ghost use Rattle.encoding.specs.Literal.{literalTrue, clauseTrue};
@@ -26,14 +24,14 @@ ghost use Rattle.truth_clauses.specs.Truth.{valueIn, codeFirstFalse};
 ghost use Rattle.truth_clauses.specs.Standing.{Standing};
 
 // Whether a slot holds a true literal.
-fn slot_holds(x: Signed, assignment: &[u8]) -> bool
-    requires { ⌜ x .var .0 ≤ length (now assignment) ⌝ }
+fn slot_holds(x: i32, assignment: &[u8]) -> bool
+    requires { ⌜ (natAbs x < 2 ^ 31) × (natAbs x ≤ length (now assignment)) ⌝ }
     ensures { λ r. ⌜ r ≡ any (literalTrue (valueIn (now (assignment .entry)))) (literalsIn x) ⌝ }
 {
-    if x.var.0 == 0 {
+    if x == 0 {
         return false;
     }
-    holds(literal_number(x), assignment)
+    holds(x, assignment)
 }
 
 // Whether clause y of block i of item a of group g is true.
@@ -43,10 +41,9 @@ fn clause_holds<'a>(table: &'a [u16], g: u16, a: u16, i: u16, y: u16, assignment
 {
     let t = totals(table);
     let k = slots(table, g, a, i, y);
-    let c = chain_of_block(table, g, a, i);
     let mut l: u16 = 0;
     while l < k {
-        let x = literal_in(table, c, g, a, i, y, l + 1);
+        let x = slot(table, g, a, i, y, l + 1);
         if slot_holds(x, assignment) {
             return true;
         }

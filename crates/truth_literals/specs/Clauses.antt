@@ -1,27 +1,38 @@
 -- Truth of clauses of two and three literals, and of a chain's bit.
 --   Has bs v                    variable v has a byte in bs
---   twoTrue, threeTrue          a clause of two literals is true, of three, each by its sign and its variable
+--   LiteralIn bs x              the literal with the number x is of a variable that has a byte in bs
+--   twoTrue, threeTrue          a clause of two literals is true, of three
+--   pairsTrue t z x y g         the three clauses of z and two of x, y and g are true
 --   BitIn bs c i                the variables of bit i of the chain c have bytes in bs
 --   bitTrue A c i               every clause of that bit is true
 -- Assumes nothing.
-use Prim.Native.Nat.{ℕ, _≤_, _<_}
+use Prim.Native.Nat.{ℕ, _≤_, _<_, _^_}
 use mathlib.Core.Path.{_≡_}
-use mathlib.Core.Bool.{Bool, _||_}
+use mathlib.Core.Bool.{Bool, _&&_, _||_}
 use mathlib.Core.List.{List}
+use lib.IntN.{ℤ, natAbs}
 use lib.ListN.{length}
 use Rattle.lists.specs.Lists.{allTo, anyTo}
-use Rattle.encoding.specs.Literal.{Assignment, literalTrue}
-use Rattle.clause_walk.specs.Walk.{signed, chainSize, chainSlots, chainSlot}
-use Rattle.clause_slots.specs.declared.Chain.{Chain}
+use Rattle.encoding.specs.Literal.{Assignment, Literal, literalTrue}
+use Rattle.clause_walk.specs.Walk.{chainSize, chainSlots, chainSlot}
+use Rattle.clause_chains.specs.declared.Chain.{Chain}
 
 abbrev pub Has : List ℕ → ℕ → Type 0
 Has bs v = (0 < v) × (v ≤ length bs)
 
-abbrev pub twoTrue : Assignment → Bool → ℕ → Bool → ℕ → Bool
-twoTrue A p x q y = literalTrue A (signed p x) || literalTrue A (signed q y)
+-- with a negation in an i32
+abbrev pub LiteralIn : List ℕ → ℤ → Type 0
+LiteralIn bs x = (natAbs x < 2 ^ 31) × (0 < natAbs x) × (natAbs x ≤ length bs)
 
-abbrev pub threeTrue : Assignment → Bool → ℕ → Bool → ℕ → Bool → ℕ → Bool
-threeTrue A p x q y s z = (literalTrue A (signed p x) || literalTrue A (signed q y)) || literalTrue A (signed s z)
+abbrev pub twoTrue : Assignment → Literal → Literal → Bool
+twoTrue A x y = literalTrue A x || literalTrue A y
+
+abbrev pub threeTrue : Assignment → Literal → Literal → Literal → Bool
+threeTrue A x y z = (literalTrue A x || literalTrue A y) || literalTrue A z
+
+-- the clauses that have z and two of x, y and g, each literal true as t says
+abbrev pub pairsTrue : (ℤ → Bool) → ℤ → ℤ → ℤ → ℤ → Bool
+pairsTrue t z x y g = (((t z || t x) || t y) && ((t z || t x) || t g)) && ((t z || t y) || t g)
 
 pub record BitIn (bs : List ℕ) (c : Chain) (i : ℕ) : Type 0 where
   pub z-in : Has bs (c .z .0)

@@ -20,18 +20,18 @@ use Rattle.reader.specs.Counted.{countedOf}
 use Rattle.reader.proofs.Counted.{counted-whole}
 use Rattle.reader_laws.specs.Row.{Answers}
 use Rattle.reader_laws.proofs.Contents.{admitted-answer}
-use Rattle.clause_text.specs.Lines.{refusedText}
+use Rattle.fixed_lines.specs.Lines.{refusedText}
 use Rattle.writer_output.specs.Output.{clauseFile, writerRefusalLine, writerVerdictText, writerOutputOf, writerOutput, writerText}
 
-module _ (f : List ℕ) (k : ℕ) {r : ReadResult} (e : r ≡ countedOf f k) where
-  by-verdict : {v : ReadVerdict} → r .verdict ≡ v → writerVerdictText v (clauseFile (decoded (r .program))) ≡ writerOutput f k
+module _ (f : List ℕ) (k : ℕ) {v : ReadVerdict} (e : v ≡ countedOf f k .verdict) where
+  by-verdict : {w : ReadVerdict} → v ≡ w → writerVerdictText w (clauseFile (decoded (countedOf f k .program))) ≡ writerOutput f k
   unfolding writerOutput writerOutputOf
-  by-verdict h = ap (λ (v : ReadVerdict). writerVerdictText v (clauseFile (decoded (r .program)))) (sym h) ∙ ap writerOutputOf e
+  by-verdict h = ap (λ (w : ReadVerdict). writerVerdictText w (clauseFile (decoded (countedOf f k .program)))) (sym h ∙ e)
 
-  pub accepted-output : r .verdict ≡ Accepted → clauseFile (decoded (r .program)) ≡ writerOutput f k
+  pub accepted-output : v ≡ Accepted → clauseFile (decoded (countedOf f k .program)) ≡ writerOutput f k
   accepted-output h = by-verdict h
 
-  pub refused-output : {x : TextRefusal} → r .verdict ≡ Refused x → writerRefusalLine (r .verdict) ≡ writerOutput f k
+  pub refused-output : {x : TextRefusal} → v ≡ Refused x → writerRefusalLine v ≡ writerOutput f k
   refused-output h = ap writerRefusalLine h ∙ by-verdict h
 
 pub front-output : (t : List ℕ) → writerOutput (take 65537 t) (length t) ≡ writerText t

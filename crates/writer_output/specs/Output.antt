@@ -22,7 +22,7 @@ use Rattle.reader.specs.declared.ReadVerdict.{ReadVerdict}
 use Rattle.reader.specs.declared.ReadVerdict.the-variants.{Accepted, Refused}
 use Rattle.reader.specs.Verdict.{readOf}
 use Rattle.reader.specs.Counted.{countedOf}
-use Rattle.clause_text.specs.Lines.{refusedText}
+use Rattle.fixed_lines.specs.Lines.{refusedText}
 use Rattle.clause_places.specs.declared.Place.{Place}
 use Rattle.clause_places.specs.Places.{placeAt}
 use Rattle.io.specs.Counts.{Counts}

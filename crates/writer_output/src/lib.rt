@@ -1,28 +1,27 @@
 // The writer: reads a program text and prints its clause file, or why the text is refused (document 01, "Programs"). What is printed is handed to the
 // output in parts; each function that hands over returns how many bytes it handed.
+use call_table::load_counted;
 use clause_cells::totals;
 use clause_places::Place;
 use clause_places::start;
 use clause_runs::RunPart;
 use clause_runs::put_lines;
 use clause_tables::CELLS;
-use clause_tabling::prepare;
-use clause_text::put_refusal;
 use files::read_open;
-use program::Program;
+use fixed_lines::put_refusal;
 use reader::ReadVerdict;
-use reader::read_counted;
 use refusals::TextRefusal;
 use refusals::text_number;
 use refusals::text_spot;
 ghost use Prim.Native.Nat.{_≤_};
 ghost use mathlib.Core.Path.{_≡_};
 ghost use lib.ListN.{length};
-ghost use Rattle.program.specs.Arrays.{decoded};
+ghost use Rattle.lists.specs.Lists.{joined};
 ghost use Rattle.refusals.specs.Numbers.{textNumber, textSpot};
-ghost use Rattle.clause_tables.specs.Tables.{Stored, Ready, codeIn, clausesIn};
-ghost use Rattle.clause_text.specs.Lines.{refusedText};
-ghost use Rattle.writer_output.specs.Output.{clauseFile, writerRefusalLine, writerOutput, Stands, PartPut};
+ghost use Rattle.clause_tables.specs.Tables.{Ready, codeIn, clausesIn};
+ghost use Rattle.fixed_lines.specs.Lines.{refusedText};
+ghost use Rattle.clause_runs.specs.Lines.{codeLines};
+ghost use Rattle.writer_output.specs.Output.{writerRefusalLine, writerOutput, Stands, PartPut};
 
 // Hands over the line of a refusal.
 fn say_refusal(x: TextRefusal) -> usize
@@ -61,19 +60,17 @@ fn next_part(table: &[u16], c: Place, said: usize, out: &mut [u8]) -> RunPart
     put_lines(table, c, &mut *out)
 }
 
-// Hands over all lines of a program, part after part.
-fn say_lines(p: Program) -> usize
-    requires { ⌜ Stored p ⌝ }
-    ensures { λ r. ⌜ r ≡ length (clauseFile (decoded p)) ⌝ }
+// Hands over all lines of the program of a table, part after part.
+fn say_lines(table: &[u16]) -> usize
+    requires { ⌜ Ready (now table) ⌝ }
+    ensures { λ r. ⌜ r ≡ length (joined (codeLines (codeIn (now (table .entry))))) ⌝ }
 {
-    let mut table = [0u16; CELLS];
-    prepare(p, &mut table);
-    let t = totals(&table);
+    let t = totals(table);
     let mut out = io::large_buffer();
-    let mut c = first_place(&table);
+    let mut c = first_place(table);
     let mut said: usize = 0;
     while c.number <= t.clauses {
-        let part = next_part(&table, c, said, &mut out);
+        let part = next_part(table, c, said, &mut out);
         io::write_all(1, &out[..part.bytes]);
         c = part.place;
         said += part.bytes;
@@ -85,12 +82,12 @@ fn say_lines(p: Program) -> usize
 pub fn say_output(front: &[u8], total: usize) -> usize
     ensures { λ r. ⌜ r ≡ length (writerOutput (now (front .entry)) total) ⌝ }
 {
-    let r = read_counted(front, total);
-    let v = r.verdict;
+    let mut table = [0u16; CELLS];
+    let v = load_counted(front, total, &mut table);
     let ReadVerdict::Accepted = v else {
         return say_refused(v);
     };
-    say_lines(r.program)
+    say_lines(&table)
 }
 
 // Reads a program text from an open file and prints the output.

@@ -4,7 +4,8 @@ use mir.Syntax.{w32}
 use mathlib.Core.Bool.{not}
 use mathlib.Core.Path.{_∙_, ap}
 use borrow.Author.Needs.{needs, sfits-of}
-use Rattle.answer_reader.proofs.Numbers.{digit-from, number-begins, number-small, minus-short, minus-zero, minus-here, minus-other}
+use Rattle.answer_words.proofs.Digits.{digit-from, number-begins, number-small}
+use Rattle.answer_reader.proofs.Numbers.{minus-short, minus-zero, minus-here, minus-other}
 use borrow.Author.Needs.{needs}
 use Rattle.answer_reader.proofs.minus_at.Statement.{statement}
 use Rattle.answer_reader.proofs.minus_at.Tie as tie

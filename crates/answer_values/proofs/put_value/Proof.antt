@@ -1,46 +1,50 @@
-use Rattle.answer_values.proofs.Putting.{put-stray, put-repeated, put-done}
-use Rattle.answer_values.specs.Assign.{numberValue}
-use Prim.Native.Nat.{_^_, _<_}
-use lib.IntN.{ℤ, natAbs}
-use mathlib.Core.Path.{_∙_, ap, sym, subst}
-use native.Mathlib.Omega.{arith}
 use mir.Facts.{toZ-ofZ}
+use native.Mathlib.Omega.{arith}
+use mathlib.Core.Path.{_∙_, ap, sym, subst}
+use lib.IntN.{ℤ, natAbs}
+use Prim.Native.Nat.{_^_, _<_}
+use Rattle.answer_values.specs.Assign.{numberValue}
+use Rattle.answer_values.proofs.Putting.{put-stray, put-within}
 use borrow.Author.Needs.{needs}
 use Rattle.answer_values.proofs.put_value.Statement.{statement}
 use Rattle.answer_values.proofs.put_value.Tie as tie
+use Rattle.answer_values.proofs.put_value.Reads as reads
+use Rattle.answer_values.proofs.put_value.Lts as lts
+use Rattle.answer_values.proofs.literal_value.Reads as literal-value-reads
+use Rattle.answer_values.proofs.put_variable.Reads as put-variable-reads
+use Rattle.clause_literals.proofs.magnitude.Reads as magnitude-reads
 
+-- src/lib.rt:143:13
 magnitude-requires : tie.Need-magnitude-requires
 magnitude-requires c κs = subst (λ (x : ℤ). natAbs x < 2 ^ 31) (sym (toZ-ofZ (c .before .fits .x))) (c .before .pre .1)
 
+-- src/lib.rt:143:13
 cast-k : tie.Need-cast-k
 cast-k c = search needs
 
+-- src/lib.rt:145:9
 returns : tie.Need-returns
 returns c = put-stray _ _ _ (numberValue (c .before .before .before .args .x)) _ _ (c .before .magnitude .ensures ∙ ap natAbs (toZ-ofZ (c .before .before .before .fits .x))) (c .if1 .taken)
 
-sub-if2 : tie.Need-sub-if2
-sub-if2 c = omega (arith, c .before .magnitude .ensures ∙ ap natAbs (toZ-ofZ (c .before .before .before .fits .x)), c .before .before .before .pre .0)
+-- src/lib.rt:147:22
+cast-t8 : tie.Need-cast-t8
+cast-t8 c = search needs
 
-slice-read-if2 : tie.Need-slice-read-if2
-slice-read-if2 c = omega (arith, c .before .before .magnitude .ensures ∙ ap natAbs (toZ-ofZ (c .before .before .before .before .fits .x)), c .before .before .before .before .pre .0, c .before .before .before .before .pre .2, c .before .if1 .left)
-
-returns-2 : tie.Need-returns-2
-returns-2 c = put-repeated _ _ _ (numberValue (c .before .before .before .before .before .args .x)) _ _ (c .before .before .before .magnitude .ensures ∙ ap natAbs (toZ-ofZ (c .before .before .before .before .before .fits .x))) (c .before .before .if1 .left) (c .if2 .taken)
-
+-- src/lib.rt:147:33
 literal-value-requires : tie.Need-literal-value-requires
 literal-value-requires c κs = search needs
 
-sub-assignment : tie.Need-sub-assignment
-sub-assignment c = omega (arith, c .before .before .before .before .magnitude .ensures ∙ ap natAbs (toZ-ofZ (c .before .before .before .before .before .before .fits .x)), c .before .before .before .before .before .before .pre .0)
+-- src/lib.rt:147:5
+put-variable-requires : tie.Need-put-variable-requires
+put-variable-requires c κs = (omega (arith, c .before .before .before .magnitude .ensures ∙ ap natAbs (toZ-ofZ (c .before .before .before .before .before .fits .x)), c .before .before .before .before .before .pre .0), omega (arith, c .before .before .before .before .before .pre .2, c .before .before .if1 .left))
 
-slice-write-assignment : tie.Need-slice-write-assignment
-slice-write-assignment c = omega (arith, c .before .before .before .before .magnitude .ensures ∙ ap natAbs (toZ-ofZ (c .before .before .before .before .before .before .fits .x)), c .before .before .before .before .before .before .pre .0, c .before .before .before .before .before .before .pre .2, c .before .before .before .if1 .left)
-
+-- src/lib.rt:138:1
 same-length : tie.Need-same-length
 same-length c = search needs
 
-returns-3 : tie.Need-returns-3
-returns-3 c = put-done _ _ _ (numberValue (c .before .before .before .before .before .before .args .x)) _ _ (c .before .before .before .before .magnitude .ensures ∙ ap natAbs (toZ-ofZ (c .before .before .before .before .before .before .fits .x))) (c .before .before .before .if1 .left) (c .before .if2 .left) _ (c .literal-value .ensures ∙ ap numberValue (toZ-ofZ (c .before .before .before .before .before .before .fits .x)))
+-- src/lib.rt:138:1
+returns-2 : tie.Need-returns-2
+returns-2 c = put-within _ _ _ (numberValue (c .before .before .before .before .before .before .before .before .args .x)) _ _ (c .before .before .before .before .before .before .magnitude .ensures ∙ ap natAbs (toZ-ofZ (c .before .before .before .before .before .before .before .before .fits .x))) (c .before .before .before .before .before .if1 .left) (c .before .before .before .before .literal-value .ensures ∙ ap numberValue (toZ-ofZ (c .before .before .before .before .before .before .before .before .fits .x))) (c .before .before .put-variable .ensures)
 
 pub put-value-spec : {M : Type 1} → statement M
 put-value-spec =
@@ -49,11 +53,8 @@ put-value-spec =
     magnitude-requires
     cast-k
     returns
-    sub-if2
-    slice-read-if2
-    returns-2
+    cast-t8
     literal-value-requires
-    sub-assignment
-    slice-write-assignment
+    put-variable-requires
     same-length
-    returns-3)
+    returns-2)

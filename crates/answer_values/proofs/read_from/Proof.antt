@@ -30,7 +30,7 @@ enum-known-n : tie.Need-enum-known-n Inv-loop μ-loop
 enum-known-n c = search needs
 
 put-next-value-requires : tie.Need-put-next-value-requires Inv-loop μ-loop
-put-next-value-requires c κs = let w = given-took (now (c .before .before .before .before .before .before .before .before .args .answer)) _ _ (c .before .before .before .before .next-from .ensures) _ _ _ (c .before .before .n .given .1) in (took-positive (now (c .before .before .before .before .before .before .before .before .args .answer)) _ _ _ _ w, took-small (now (c .before .before .before .before .before .before .before .before .args .answer)) _ _ _ _ w, omega (arith, c .before .before .before .before .before .loop .inv .0, c .before .before .before .before .before .before .before .before .pre .1))
+put-next-value-requires c κs = let w = given-took (now (c .before .before .before .before .before .before .before .before .args .answer)) _ _ (c .before .before .before .before .next-from .ensures) _ _ _ (c .before .before .n .given .1) in (took-positive (now (c .before .before .before .before .before .before .before .before .args .answer)) _ _ _ _ w, took-small (now (c .before .before .before .before .before .before .before .before .args .answer)) _ _ _ _ w, omega (arith, c .before .before .before .before .before .loop .inv .0, c .before .before .before .before .before .before .before .before .pre .1), c .before .before .before .before .before .before .before .before .pre .2)
 
 loop-less : tie.Need-loop-less Inv-loop μ-loop
 loop-less c = let w = given-took (now (c .before .before .before .before .before .before .before .before .before .before .before .args .answer)) _ _ (c .before .before .before .before .before .before .before .next-from .ensures) _ _ _ (c .before .before .before .before .before .n .given .1) in omega (arith, w .place .further, w .place .within)

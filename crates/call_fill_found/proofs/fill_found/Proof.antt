@@ -1,18 +1,19 @@
-use borrow.Author.Needs.{needs}
-use lib.ListN.{length, take, drop}
-use lib.Seq.{length-take-le}
-use Prim.Native.Nat.{_≤_}
-use native.Mathlib.Omega.{arith}
-use mathlib.Core.List.{_++_}
-use mathlib.Core.Path.{_≡_, _∙_, sym, ap, subst}
-use denote.Ref.{now}
-use Rattle.call_fill_rows.proofs.Steps.{found-room, founded-refused, founded-accepted, filled-room, front-room}
-use Rattle.lists.specs.Lists.{highest}
-use Rattle.call_results.specs.Results.{trueCount}
-use Rattle.level_stages.specs.Levels.{firstDifference, levelByte}
-use Rattle.clause_tables.specs.Tables.{atomsIn, varsIn}
-use Rattle.clause_tables.specs.declared.Totals.{Totals}
 use Rattle.clause_table_laws.proofs.Cells.{arrays}
+use Rattle.clause_tables.specs.declared.Totals.{Totals}
+use Rattle.clause_tables.specs.Tables.{atomsIn, varsIn}
+use Rattle.level_lists.specs.Bytes.{levelByte}
+use Rattle.level_stages.specs.Levels.{firstDifference}
+use Rattle.call_results.specs.Results.{trueCount}
+use Rattle.lists.specs.Lists.{highest}
+use Rattle.call_fill_rows.proofs.Steps.{found-room, founded-refused, founded-accepted, filled-room, front-room}
+use denote.Ref.{now}
+use mathlib.Core.Path.{_∙_, sym, ap, subst}
+use native.Mathlib.Omega.{arith}
+use Prim.Native.Nat.{_≤_}
+use lib.Seq.{length-take-le}
+use lib.ListN.{length, take, drop}
+use Rattle.digits.proofs.Wrote.{wrote-as}
+use borrow.Author.Needs.{needs}
 use Rattle.call_fill_found.proofs.fill_found.Statement.{statement}
 use Rattle.call_fill_found.proofs.fill_found.Tie as tie
 
@@ -50,7 +51,7 @@ same-length-2 : tie.Need-same-length-2
 same-length-2 c = search needs
 
 returns-2 : tie.Need-returns-2
-returns-2 c = founded-accepted (arrays (c .before .before .before .before .before .before .before .before .before .before .before .before .before .before .before .before .before .before .before .before .before .pre .0)) (now (c .before .before .before .before .before .before .before .before .before .before .before .before .before .before .before .before .before .before .before .before .before .args .set)) (now (c .before .before .before .before .before .before .before .before .before .before .before .before .before .before .before .before .before .before .before .before .before .args .assignment)) (now (c .before .before .before .before .before .before .before .before .before .before .before .before .before .before .before .before .before .before .before .before .before .args .levels)) (drop (atomsIn (now (c .before .before .before .before .before .before .before .before .before .before .before .before .before .before .before .before .before .before .before .before .before .args .table))) (now (c .before .before .before .before .before .before .before .before .before .before .before .before .before .before .before .before .before .before .before .before .before .args .found))) (c .before .before .before .before .before .before .before .before .before .before .before .before .before .before .before .before .before .before .before .before .before .pre .2) (c .before .before .before .before .before .before .before .before .before .before .before .before .before .before .first-difference .ensures ∙ ap (λ (t : Totals). firstDifference (t .sizes .n) (now (c .before .before .before .before .before .before .before .before .before .before .before .before .before .before .before .before .before .before .before .before .before .args .set)) (now (c .before .before .before .before .before .before .before .before .before .before .before .before .before .before .before .before .before .before .before .before .before .args .found))) (c .before .before .before .before .before .before .before .before .before .before .before .before .before .before .before .totals .ensures)) (c .before .before .before .before .before .before .before .before .before .before .before .before .before .if1 .left) (c .before .before .before .before .before .before .before .before .before .before .before .put-filled .ensures) (subst (λ (t : Totals). (c .before .before .before .before .before .before .put-word .result ≡ length (take (t .sizes .n) (now (c .before .before .before .before .before .before .before .before .before .before .before .before .before .before .before .before .before .before .before .before .before .args .found)))) × (c .before .before .before .before .before .before .put-word .last .1 .0 ≡ take (t .sizes .n) (now (c .before .before .before .before .before .before .before .before .before .before .before .before .before .before .before .before .before .before .before .before .before .args .found)) ++ drop (c .before .before .before .before .before .before .put-word .result) (now (c .before .before .before .before .before .before .before .before .before .before .before .before .before .before .before .before .before .before .before .before .before .args .levels)))) (c .before .before .before .before .before .before .before .before .before .before .before .before .before .before .before .totals .ensures) (c .before .before .before .before .before .before .put-word .ensures)) (c .before .before .true-count .ensures ∙ ap (λ (t : Totals). trueCount (t .sizes .n) (c .before .before .before .before .before .before .before .before .before .before .before .put-filled .last .1 .1 .1 .0)) (c .before .before .before .before .before .before .before .before .before .before .before .before .before .before .before .totals .ensures)) (c .highest-of .ensures ∙ ap (λ (t : Totals). highest (t .sizes .n) (levelByte (c .before .before .before .before .before .before .put-word .last .1 .0))) (c .before .before .before .before .before .before .before .before .before .before .before .before .before .before .before .totals .ensures))
+returns-2 c = founded-accepted (arrays (c .before .before .before .before .before .before .before .before .before .before .before .before .before .before .before .before .before .before .before .before .before .pre .0)) (now (c .before .before .before .before .before .before .before .before .before .before .before .before .before .before .before .before .before .before .before .before .before .args .set)) (now (c .before .before .before .before .before .before .before .before .before .before .before .before .before .before .before .before .before .before .before .before .before .args .assignment)) (now (c .before .before .before .before .before .before .before .before .before .before .before .before .before .before .before .before .before .before .before .before .before .args .levels)) (drop (atomsIn (now (c .before .before .before .before .before .before .before .before .before .before .before .before .before .before .before .before .before .before .before .before .before .args .table))) (now (c .before .before .before .before .before .before .before .before .before .before .before .before .before .before .before .before .before .before .before .before .before .args .found))) (c .before .before .before .before .before .before .before .before .before .before .before .before .before .before .before .before .before .before .before .before .before .pre .2) (c .before .before .before .before .before .before .before .before .before .before .before .before .before .before .first-difference .ensures ∙ ap (λ (t : Totals). firstDifference (t .sizes .n) (now (c .before .before .before .before .before .before .before .before .before .before .before .before .before .before .before .before .before .before .before .before .before .args .set)) (now (c .before .before .before .before .before .before .before .before .before .before .before .before .before .before .before .before .before .before .before .before .before .args .found))) (c .before .before .before .before .before .before .before .before .before .before .before .before .before .before .before .totals .ensures)) (c .before .before .before .before .before .before .before .before .before .before .before .before .before .if1 .left) (c .before .before .before .before .before .before .before .before .before .before .before .put-filled .ensures) (wrote-as (ap (λ (t : Totals). take (t .sizes .n) (now (c .before .before .before .before .before .before .before .before .before .before .before .before .before .before .before .before .before .before .before .before .before .args .found))) (c .before .before .before .before .before .before .before .before .before .before .before .before .before .before .before .totals .ensures)) (c .before .before .before .before .before .before .put-word .ensures)) (c .before .before .true-count .ensures ∙ ap (λ (t : Totals). trueCount (t .sizes .n) (c .before .before .before .before .before .before .before .before .before .before .before .put-filled .last .1 .1 .1 .0)) (c .before .before .before .before .before .before .before .before .before .before .before .before .before .before .before .totals .ensures)) (c .highest-of .ensures ∙ ap (λ (t : Totals). highest (t .sizes .n) (levelByte (c .before .before .before .before .before .before .put-word .last .1 .0))) (c .before .before .before .before .before .before .before .before .before .before .before .before .before .before .before .totals .ensures))
 
 pub fill-found-spec : {M : Type 1} → statement M
 fill-found-spec =

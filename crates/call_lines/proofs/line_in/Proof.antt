@@ -1,9 +1,10 @@
+use Rattle.call_lines_rows.proofs.Answer.{need-is, placed-within, placed-asks, placed-line, line-none, line-past, line-short, line-asks, line-written}
+use Rattle.digits.proofs.Wrote.{wrote-as}
 use borrow.Author.Needs.{needs}
 use denote.Ref.{now}
 use lib.ListN.{length, take, drop}
 use Prim.Native.Nat.{_-_}
 use Rattle.clause_places.proofs.Numbers.{own-number}
-use Rattle.call_lines_rows.proofs.Answer.{need-is, placed-within, placed-asks, placed-put, line-none, line-past, line-short, line-asks, line-written}
 use Rattle.clause_table_laws.proofs.Cells.{told}
 use Rattle.clause_tables.specs.declared.Totals.{Totals}
 use native.Mathlib.Omega.{arith}
@@ -48,7 +49,7 @@ same-length : tie.Need-same-length
 same-length c = search needs
 
 returns-4 : tie.Need-returns-4
-returns-4 c = line-written (told (c .before .before .before .before .before .before .before .before .before .before .before .before .before .pre) (c .before .before .before .before .before .before .before .before .before .before .totals .ensures)) (c .before .before .before .before .before .before .before .before .before .before .before .before .before .args .j) (c .before .before .before .before .before .before .before .before .before .before .before .before .before .args .from) (now (c .before .before .before .before .before .before .before .before .before .before .before .before .before .args .buf)) (c .before .before .before .before .before .before .before .before .if1 .left) (need-is (told (c .before .before .before .before .before .before .before .before .before .before .before .before .before .pre) (c .before .before .before .before .before .before .before .before .before .before .totals .ensures)) (c .before .before .before .before .before .before .before .before .before .before .before .before .before .args .j) (c .before .before .before .before .before .before .before .place-of .ensures) (c .before .before .before .before .before .before .line-length .ensures)) (c .before .before .before .before .if3 .left) (placed-put (told (c .before .before .before .before .before .before .before .before .before .before .before .before .before .pre) (c .before .before .before .before .before .before .before .before .before .before .totals .ensures)) (c .before .before .before .before .before .before .before .before .before .before .before .before .before .args .j) (c .before .before .before .before .before .before .before .place-of .ensures) (take (length (now (c .before .before .before .before .before .before .before .before .before .before .before .before .before .args .buf)) - c .before .before .before .before .before .before .before .before .before .before .before .before .before .args .from) (drop (c .before .before .before .before .before .before .before .before .before .before .before .before .before .args .from) (now (c .before .before .before .before .before .before .before .before .before .before .before .before .before .args .buf)))) (c .before .before .put-line .ensures))
+returns-4 c = line-written (told (c .before .before .before .before .before .before .before .before .before .before .before .before .before .pre) (c .before .before .before .before .before .before .before .before .before .before .totals .ensures)) (c .before .before .before .before .before .before .before .before .before .before .before .before .before .args .j) (c .before .before .before .before .before .before .before .before .before .before .before .before .before .args .from) (now (c .before .before .before .before .before .before .before .before .before .before .before .before .before .args .buf)) (c .before .before .before .before .before .before .before .before .if1 .left) (need-is (told (c .before .before .before .before .before .before .before .before .before .before .before .before .before .pre) (c .before .before .before .before .before .before .before .before .before .before .totals .ensures)) (c .before .before .before .before .before .before .before .before .before .before .before .before .before .args .j) (c .before .before .before .before .before .before .before .place-of .ensures) (c .before .before .before .before .before .before .line-length .ensures)) (c .before .before .before .before .if3 .left) (wrote-as (placed-line (told (c .before .before .before .before .before .before .before .before .before .before .before .before .before .pre) (c .before .before .before .before .before .before .before .before .before .before .totals .ensures)) (c .before .before .before .before .before .before .before .before .before .before .before .before .before .args .j) (c .before .before .before .before .before .before .before .place-of .ensures)) (c .before .before .put-line .ensures))
 
 pub line-in-spec : {M : Type 1} → statement M
 line-in-spec =

@@ -1,5 +1,4 @@
-use Rattle.checker_output.specs.Output.{checkerOutput}
-use Rattle.files.proofs.Begun.{begins-counts}
+use Rattle.files.proofs.Begun.{wrote-counts}
 use borrow.Author.Needs.{needs}
 use Rattle.checker_output.proofs.show_model.Statement.{statement}
 use Rattle.checker_output.proofs.show_model.Tie as tie
@@ -35,10 +34,10 @@ put-output-requires : tie.Need-put-output-requires
 put-output-requires c κs = search needs
 
 array-share-prefix-out : tie.Need-array-share-prefix-out
-array-share-prefix-out c = begins-counts _ (checkerOutput _ _ _ _) (c .before .put-output .ensures) .0
+array-share-prefix-out c = wrote-counts (c .before .put-output .ensures) .0
 
 slice-aggregate-write-all : tie.Need-slice-aggregate-write-all
-slice-aggregate-write-all c = begins-counts _ (checkerOutput _ _ _ _) (c .before .before .put-output .ensures) .1
+slice-aggregate-write-all c = wrote-counts (c .before .before .put-output .ensures) .1
 
 write-all-requires : tie.Need-write-all-requires
 write-all-requires c κs = search needs

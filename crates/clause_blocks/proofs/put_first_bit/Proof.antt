@@ -1,76 +1,59 @@
-use Rattle.clause_blocks.specs.Texts.{twoText, threeText, firstText}
-use mathlib.Core.Bool.{true, false}
-use mathlib.Core.List.{_++_}
 use native.Mathlib.Omega.{arith}
-use Rattle.digits.proofs.Begins.{begins-word, begins-more, begins-room, begins-tail, begins-sum, begins-whole, front-fits}
+use Rattle.clause_blocks.proofs.Opposites.{first-as}
+use Rattle.clause_blocks.specs.Texts.{startsText}
+use Rattle.clause_blocks.specs.Numerals.{held}
+use Rattle.digits.proofs.Wrote.{room-as, room-front, wrote-as, wrote-after, after-start, after-room, after-sum, after-kept}
+use Rattle.digits.specs.Bytes.{lineText}
+use mathlib.Core.List.{[], _∷_}
 use borrow.Author.Needs.{needs}
 use Rattle.clause_blocks.proofs.put_first_bit.Statement.{statement}
 use Rattle.clause_blocks.proofs.put_first_bit.Tie as tie
 
-put-two-requires : tie.Need-put-two-requires
-unfolding firstText
-put-two-requires c κs = (front-fits (twoText false (c .before .before .args .z) false (c .before .before .args .x)) (twoText false (c .before .before .args .z) true (c .before .before .args .y)) (front-fits ((twoText false (c .before .before .args .z) false (c .before .before .args .x)) ++ (twoText false (c .before .before .args .z) true (c .before .before .args .y))) (threeText true (c .before .before .args .z) true (c .before .before .args .x) false (c .before .before .args .y)) (c .before .before .pre)))
+opposite-requires : tie.Need-opposite-requires
+opposite-requires c κs = search needs
 
-sub-put-two : tie.Need-sub-put-two
-unfolding firstText
-sub-put-two c = begins-room (begins-word (twoText false (c .before .before .before .before .before .args .z) false (c .before .before .before .before .before .args .x)) (c .before .before .put-two .kept .1 .1 .1 .1 .0) (c .before .before .put-two .ensures)) (twoText false (c .before .before .before .before .before .args .z) true (c .before .before .before .before .before .args .y)) (front-fits ((twoText false (c .before .before .before .before .before .args .z) false (c .before .before .before .before .before .args .x)) ++ (twoText false (c .before .before .before .before .before .args .z) true (c .before .before .before .before .before .args .y))) (threeText true (c .before .before .before .before .before .args .z) true (c .before .before .before .before .before .args .x) false (c .before .before .before .before .before .args .y)) (c .before .before .before .before .before .pre))
+opposite-requires-2 : tie.Need-opposite-requires-2
+opposite-requires-2 c κs = search needs
 
-part-put-two-start : tie.Need-part-put-two-start
-unfolding firstText
-part-put-two-start c = begins-room (begins-word (twoText false (c .before .before .before .before .before .args .z) false (c .before .before .before .before .before .args .x)) (c .before .before .put-two .kept .1 .1 .1 .1 .0) (c .before .before .put-two .ensures)) (twoText false (c .before .before .before .before .before .args .z) true (c .before .before .before .before .before .args .y)) (front-fits ((twoText false (c .before .before .before .before .before .args .z) false (c .before .before .before .before .before .args .x)) ++ (twoText false (c .before .before .before .before .before .args .z) true (c .before .before .before .before .before .args .y))) (threeText true (c .before .before .before .before .before .args .z) true (c .before .before .before .before .before .args .x) false (c .before .before .before .before .before .args .y)) (c .before .before .before .before .before .pre))
+opposite-requires-3 : tie.Need-opposite-requires-3
+opposite-requires-3 c κs = search needs
 
-part-put-two-end : tie.Need-part-put-two-end
-part-put-two-end c = search needs
-
-put-two-requires-2 : tie.Need-put-two-requires-2
-unfolding firstText
-put-two-requires-2 c κs = begins-tail (begins-word (twoText false (c .before .before .before .before .before .before .args .z) false (c .before .before .before .before .before .before .args .x)) (c .before .before .before .put-two .kept .1 .1 .1 .1 .0) (c .before .before .before .put-two .ensures)) (twoText false (c .before .before .before .before .before .before .args .z) true (c .before .before .before .before .before .before .args .y)) (front-fits ((twoText false (c .before .before .before .before .before .before .args .z) false (c .before .before .before .before .before .before .args .x)) ++ (twoText false (c .before .before .before .before .before .before .args .z) true (c .before .before .before .before .before .before .args .y))) (threeText true (c .before .before .before .before .before .before .args .z) true (c .before .before .before .before .before .before .args .x) false (c .before .before .before .before .before .before .args .y)) (c .before .before .before .before .before .before .pre))
-
-add-at : tie.Need-add-at
-unfolding firstText
-add-at c = omega (arith, c .before .before .before .before .before .before .before .before .before .good .1 .1 .1 .0, begins-sum (begins-word (twoText false (c .before .before .before .before .before .before .before .before .before .args .z) false (c .before .before .before .before .before .before .before .before .before .args .x)) (c .before .before .before .before .before .before .put-two .kept .1 .1 .1 .1 .0) (c .before .before .before .before .before .before .put-two .ensures)) (twoText false (c .before .before .before .before .before .before .before .before .before .args .z) true (c .before .before .before .before .before .before .before .before .before .args .y)) (c .before .before .put-two2 .ensures .0) (front-fits ((twoText false (c .before .before .before .before .before .before .before .before .before .args .z) false (c .before .before .before .before .before .before .before .before .before .args .x)) ++ (twoText false (c .before .before .before .before .before .before .before .before .before .args .z) true (c .before .before .before .before .before .before .before .before .before .args .y))) (threeText true (c .before .before .before .before .before .before .before .before .before .args .z) true (c .before .before .before .before .before .before .before .before .before .args .x) false (c .before .before .before .before .before .before .before .before .before .args .y)) (c .before .before .before .before .before .before .before .before .before .pre)))
+put-starts-requires : tie.Need-put-starts-requires
+put-starts-requires c κs = (c .before .before .before .opposite .ensures .0, c .before .before .opposite2 .ensures .0, search needs, room-front (startsText (held (c .before .before .before .opposite .result)) (held (c .before .before .opposite2 .result)) (held (c .before .before .before .before .before .args .y))) (lineText (held (c .before .before .before .before .before .args .z) ∷ held (c .before .before .before .before .before .args .x) ∷ (held (c .before .opposite3 .result)) ∷ [])) (room-as (first-as (held (c .before .before .before .before .before .args .z)) (held (c .before .before .before .before .before .args .x)) (held (c .before .before .before .before .before .args .y)) (c .before .before .before .opposite .ensures .1) (c .before .before .opposite2 .ensures .1) (c .before .opposite3 .ensures .1)) (c .before .before .before .before .before .pre .3)))
 
 sub-put-three : tie.Need-sub-put-three
-unfolding firstText
-sub-put-three c = begins-room (begins-more (begins-word (twoText false (c .before .before .before .before .before .before .before .before .before .args .z) false (c .before .before .before .before .before .before .before .before .before .args .x)) (c .before .before .before .before .before .before .put-two .kept .1 .1 .1 .1 .0) (c .before .before .before .before .before .before .put-two .ensures)) (twoText false (c .before .before .before .before .before .before .before .before .before .args .z) true (c .before .before .before .before .before .before .before .before .before .args .y)) (c .before .before .put-two2 .kept .1 .1 .1 .1 .0) (c .before .before .put-two2 .ensures)) (threeText true (c .before .before .before .before .before .before .before .before .before .args .z) true (c .before .before .before .before .before .before .before .before .before .args .x) false (c .before .before .before .before .before .before .before .before .before .args .y)) (c .before .before .before .before .before .before .before .before .before .pre)
+sub-put-three c = after-start (c .before .before .put-starts .ensures) (lineText (held (c .before .before .before .before .before .before .before .before .args .z) ∷ held (c .before .before .before .before .before .before .before .before .args .x) ∷ (held (c .before .before .before .before .opposite3 .result)) ∷ [])) (room-as (first-as (held (c .before .before .before .before .before .before .before .before .args .z)) (held (c .before .before .before .before .before .before .before .before .args .x)) (held (c .before .before .before .before .before .before .before .before .args .y)) (c .before .before .before .before .before .before .opposite .ensures .1) (c .before .before .before .before .before .opposite2 .ensures .1) (c .before .before .before .before .opposite3 .ensures .1)) (c .before .before .before .before .before .before .before .before .pre .3))
 
 part-put-three-start : tie.Need-part-put-three-start
-unfolding firstText
-part-put-three-start c = begins-room (begins-more (begins-word (twoText false (c .before .before .before .before .before .before .before .before .before .args .z) false (c .before .before .before .before .before .before .before .before .before .args .x)) (c .before .before .before .before .before .before .put-two .kept .1 .1 .1 .1 .0) (c .before .before .before .before .before .before .put-two .ensures)) (twoText false (c .before .before .before .before .before .before .before .before .before .args .z) true (c .before .before .before .before .before .before .before .before .before .args .y)) (c .before .before .put-two2 .kept .1 .1 .1 .1 .0) (c .before .before .put-two2 .ensures)) (threeText true (c .before .before .before .before .before .before .before .before .before .args .z) true (c .before .before .before .before .before .before .before .before .before .args .x) false (c .before .before .before .before .before .before .before .before .before .args .y)) (c .before .before .before .before .before .before .before .before .before .pre)
+part-put-three-start c = after-start (c .before .before .put-starts .ensures) (lineText (held (c .before .before .before .before .before .before .before .before .args .z) ∷ held (c .before .before .before .before .before .before .before .before .args .x) ∷ (held (c .before .before .before .before .opposite3 .result)) ∷ [])) (room-as (first-as (held (c .before .before .before .before .before .before .before .before .args .z)) (held (c .before .before .before .before .before .before .before .before .args .x)) (held (c .before .before .before .before .before .before .before .before .args .y)) (c .before .before .before .before .before .before .opposite .ensures .1) (c .before .before .before .before .before .opposite2 .ensures .1) (c .before .before .before .before .opposite3 .ensures .1)) (c .before .before .before .before .before .before .before .before .pre .3))
 
 part-put-three-end : tie.Need-part-put-three-end
 part-put-three-end c = search needs
 
 put-three-requires : tie.Need-put-three-requires
-unfolding firstText
-put-three-requires c κs = begins-tail (begins-more (begins-word (twoText false (c .before .before .before .before .before .before .before .before .before .before .args .z) false (c .before .before .before .before .before .before .before .before .before .before .args .x)) (c .before .before .before .before .before .before .before .put-two .kept .1 .1 .1 .1 .0) (c .before .before .before .before .before .before .before .put-two .ensures)) (twoText false (c .before .before .before .before .before .before .before .before .before .before .args .z) true (c .before .before .before .before .before .before .before .before .before .before .args .y)) (c .before .before .before .put-two2 .kept .1 .1 .1 .1 .0) (c .before .before .before .put-two2 .ensures)) (threeText true (c .before .before .before .before .before .before .before .before .before .before .args .z) true (c .before .before .before .before .before .before .before .before .before .before .args .x) false (c .before .before .before .before .before .before .before .before .before .before .args .y)) (c .before .before .before .before .before .before .before .before .before .before .pre)
+put-three-requires c κs = (c .before .before .before .before .before .before .before .before .before .pre .0, c .before .before .before .before .before .before .before .before .before .pre .1, c .before .before .before .before .before .opposite3 .ensures .0, after-room (c .before .before .before .put-starts .ensures) (lineText (held (c .before .before .before .before .before .before .before .before .before .args .z) ∷ held (c .before .before .before .before .before .before .before .before .before .args .x) ∷ (held (c .before .before .before .before .before .opposite3 .result)) ∷ [])) (room-as (first-as (held (c .before .before .before .before .before .before .before .before .before .args .z)) (held (c .before .before .before .before .before .before .before .before .before .args .x)) (held (c .before .before .before .before .before .before .before .before .before .args .y)) (c .before .before .before .before .before .before .before .opposite .ensures .1) (c .before .before .before .before .before .before .opposite2 .ensures .1) (c .before .before .before .before .before .opposite3 .ensures .1)) (c .before .before .before .before .before .before .before .before .before .pre .3)))
 
-add-at-2 : tie.Need-add-at-2
-unfolding firstText
-add-at-2 c = omega (arith, c .before .before .before .before .before .before .before .before .before .before .before .before .before .good .1 .1 .1 .0, begins-sum (begins-more (begins-word (twoText false (c .before .before .before .before .before .before .before .before .before .before .before .before .before .args .z) false (c .before .before .before .before .before .before .before .before .before .before .before .before .before .args .x)) (c .before .before .before .before .before .before .before .before .before .before .put-two .kept .1 .1 .1 .1 .0) (c .before .before .before .before .before .before .before .before .before .before .put-two .ensures)) (twoText false (c .before .before .before .before .before .before .before .before .before .before .before .before .before .args .z) true (c .before .before .before .before .before .before .before .before .before .before .before .before .before .args .y)) (c .before .before .before .before .before .before .put-two2 .kept .1 .1 .1 .1 .0) (c .before .before .before .before .before .before .put-two2 .ensures)) (threeText true (c .before .before .before .before .before .before .before .before .before .before .before .before .before .args .z) true (c .before .before .before .before .before .before .before .before .before .before .before .before .before .args .x) false (c .before .before .before .before .before .before .before .before .before .before .before .before .before .args .y)) (c .before .before .put-three .ensures .0) (c .before .before .before .before .before .before .before .before .before .before .before .before .before .pre))
+add-result : tie.Need-add-result
+add-result c = omega (arith, c .before .before .before .before .before .before .before .before .before .before .before .before .good .1 .1 .1 .0, after-sum (c .before .before .before .before .before .before .put-starts .ensures) (lineText (held (c .before .before .before .before .before .before .before .before .before .before .before .before .args .z) ∷ held (c .before .before .before .before .before .before .before .before .before .before .before .before .args .x) ∷ (held (c .before .before .before .before .before .before .before .before .opposite3 .result)) ∷ [])) (room-as (first-as (held (c .before .before .before .before .before .before .before .before .before .before .before .before .args .z)) (held (c .before .before .before .before .before .before .before .before .before .before .before .before .args .x)) (held (c .before .before .before .before .before .before .before .before .before .before .before .before .args .y)) (c .before .before .before .before .before .before .before .before .before .before .opposite .ensures .1) (c .before .before .before .before .before .before .before .before .before .opposite2 .ensures .1) (c .before .before .before .before .before .before .before .before .opposite3 .ensures .1)) (c .before .before .before .before .before .before .before .before .before .before .before .before .pre .3)) (c .before .before .put-three .ensures .count))
 
 same-length : tie.Need-same-length
-unfolding firstText
-same-length c = (begins-more (begins-more (begins-word (twoText false (c .before .before .before .before .before .before .before .before .before .before .before .before .before .args .z) false (c .before .before .before .before .before .before .before .before .before .before .before .before .before .args .x)) (c .before .before .before .before .before .before .before .before .before .before .put-two .kept .1 .1 .1 .1 .0) (c .before .before .before .before .before .before .before .before .before .before .put-two .ensures)) (twoText false (c .before .before .before .before .before .before .before .before .before .before .before .before .before .args .z) true (c .before .before .before .before .before .before .before .before .before .before .before .before .before .args .y)) (c .before .before .before .before .before .before .put-two2 .kept .1 .1 .1 .1 .0) (c .before .before .before .before .before .before .put-two2 .ensures)) (threeText true (c .before .before .before .before .before .before .before .before .before .before .before .before .before .args .z) true (c .before .before .before .before .before .before .before .before .before .before .before .before .before .args .x) false (c .before .before .before .before .before .before .before .before .before .before .before .before .before .args .y)) (c .before .before .put-three .kept .1 .1 .1 .1 .1 .1 .0) (c .before .before .put-three .ensures)) .same
+same-length c = after-kept (c .before .before .before .before .before .before .put-starts .ensures) (lineText (held (c .before .before .before .before .before .before .before .before .before .before .before .before .args .z) ∷ held (c .before .before .before .before .before .before .before .before .before .before .before .before .args .x) ∷ (held (c .before .before .before .before .before .before .before .before .opposite3 .result)) ∷ [])) (room-as (first-as (held (c .before .before .before .before .before .before .before .before .before .before .before .before .args .z)) (held (c .before .before .before .before .before .before .before .before .before .before .before .before .args .x)) (held (c .before .before .before .before .before .before .before .before .before .before .before .before .args .y)) (c .before .before .before .before .before .before .before .before .before .before .opposite .ensures .1) (c .before .before .before .before .before .before .before .before .before .opposite2 .ensures .1) (c .before .before .before .before .before .before .before .before .opposite3 .ensures .1)) (c .before .before .before .before .before .before .before .before .before .before .before .before .pre .3)) (c .before .before .put-three .ensures)
 
 returns : tie.Need-returns
-unfolding firstText
-returns c = begins-whole (begins-more (begins-more (begins-word (twoText false (c .before .before .before .before .before .before .before .before .before .before .before .before .before .args .z) false (c .before .before .before .before .before .before .before .before .before .before .before .before .before .args .x)) (c .before .before .before .before .before .before .before .before .before .before .put-two .kept .1 .1 .1 .1 .0) (c .before .before .before .before .before .before .before .before .before .before .put-two .ensures)) (twoText false (c .before .before .before .before .before .before .before .before .before .before .before .before .before .args .z) true (c .before .before .before .before .before .before .before .before .before .before .before .before .before .args .y)) (c .before .before .before .before .before .before .put-two2 .kept .1 .1 .1 .1 .0) (c .before .before .before .before .before .before .put-two2 .ensures)) (threeText true (c .before .before .before .before .before .before .before .before .before .before .before .before .before .args .z) true (c .before .before .before .before .before .before .before .before .before .before .before .before .before .args .x) false (c .before .before .before .before .before .before .before .before .before .before .before .before .before .args .y)) (c .before .before .put-three .kept .1 .1 .1 .1 .1 .1 .0) (c .before .before .put-three .ensures))
+returns c = wrote-as (first-as (held (c .before .before .before .before .before .before .before .before .before .before .before .before .args .z)) (held (c .before .before .before .before .before .before .before .before .before .before .before .before .args .x)) (held (c .before .before .before .before .before .before .before .before .before .before .before .before .args .y)) (c .before .before .before .before .before .before .before .before .before .before .opposite .ensures .1) (c .before .before .before .before .before .before .before .before .before .opposite2 .ensures .1) (c .before .before .before .before .before .before .before .before .opposite3 .ensures .1)) (wrote-after (c .before .before .before .before .before .before .put-starts .ensures) (lineText (held (c .before .before .before .before .before .before .before .before .before .before .before .before .args .z) ∷ held (c .before .before .before .before .before .before .before .before .before .before .before .before .args .x) ∷ (held (c .before .before .before .before .before .before .before .before .opposite3 .result)) ∷ [])) (c .before .before .put-three .ensures))
 
 pub put-first-bit-spec : {M : Type 1} → statement M
 put-first-bit-spec =
     tie.close
     (tie.spec
-    put-two-requires
-    sub-put-two
-    part-put-two-start
-    part-put-two-end
-    put-two-requires-2
-    add-at
+    opposite-requires
+    opposite-requires-2
+    opposite-requires-3
+    put-starts-requires
     sub-put-three
     part-put-three-start
     part-put-three-end
     put-three-requires
-    add-at-2
+    add-result
     same-length
     returns)

@@ -1,48 +1,47 @@
-use Rattle.clause_blocks.proofs.NextBlocks.{turn-fits, turn-next}
-use Rattle.clause_blocks.specs.Texts.{signText, lowerText}
-use Rattle.clause_text.proofs.SlotLine.{block-whole}
-use Rattle.digits.proofs.Begins.{Begins, begins-none, begins-more, begins-room, begins-tail, begins-sum, begins-whole}
-use Rattle.digits.specs.Digits.{digitsOf}
-use Rattle.clause_literals.specs.Sizes.{sizesOf}
-use Rattle.encoding.specs.Variables.{levelVar}
 use borrow.Author.Needs.{needs}
-use mathlib.Core.Bool.{false}
-use mathlib.Core.Path.{refl, ap}
-use native.Mathlib.Omega.{arith}
+use Rattle.clause_blocks.proofs.Numerals.{lower-word}
+use Rattle.clause_blocks.specs.Texts.{lowerWord, lowerText}
+use Rattle.digits.proofs.Wrote.{wrote-none, wrote-row, row-start, row-room, row-sum, rows-whole, rows-kept}
+use Rattle.digits.specs.Bytes.{Wrote}
+use Rattle.clause_literals.specs.Sizes.{sizesOf}
 use Prim.Native.Nat.{_-_, _≤_}
 use denote.Ref.{now}
+use native.Mathlib.Omega.{arith}
 use Rattle.clause_blocks.proofs.put_lower.Statement.{statement}
 use Rattle.clause_blocks.proofs.put_lower.Tie as tie
 
 abbrev Inv-loop : tie.InvT-loop
-Inv-loop s a k buf₀ j₀ at₀ buf j at = (j ≤ k) × Begins buf₀ buf (lowerText (sizesOf s) (a .0) j) at
+Inv-loop s a k buf₀ j₀ at₀ buf j at = (j ≤ k) × Wrote (lowerText (sizesOf s) (a .0) j) buf₀ buf at
 
 abbrev μ-loop : tie.MeasureT-loop
 μ-loop s a k buf₀ j₀ at₀ buf j at = k - j
 
 loop-holds : tie.Need-loop-holds Inv-loop μ-loop
-loop-holds c = (search needs, begins-none (now (c .before .args .buf)))
+loop-holds c = (search needs, wrote-none (now (c .before .args .buf)))
 
-add-level-digits : tie.Need-add-level-digits Inv-loop μ-loop
-add-level-digits c = search needs
+add-level-numeral : tie.Need-add-level-numeral Inv-loop μ-loop
+add-level-numeral c = search needs
 
-level-digits-requires : tie.Need-level-digits-requires Inv-loop μ-loop
-level-digits-requires c κs = (c .before .before .before .pre .0, c .before .before .before .pre .1, c .before .before .before .pre .2, omega arith, omega (arith, c .loop-test .taken, c .before .before .before .pre .3))
+level-numeral-requires : tie.Need-level-numeral-requires Inv-loop μ-loop
+level-numeral-requires c κs = (c .before .before .before .pre .0, c .before .before .before .pre .1, c .before .before .before .pre .2, omega arith, omega (arith, c .loop-test .taken, c .before .before .before .pre .3))
 
-sub-put-sign : tie.Need-sub-put-sign Inv-loop μ-loop
-sub-put-sign c = begins-room (c .before .before .loop .inv .1) (signText false (c .level-digits .result)) (turn-fits (λ j. signText false (digitsOf (levelVar (sizesOf (c .before .before .before .before .args .s)) (c .before .before .before .before .args .a .0) j))) (c .before .loop-test .taken) (ap (signText false) (c .level-digits .ensures)) (c .before .before .before .before .pre .4))
+opposite-requires : tie.Need-opposite-requires Inv-loop μ-loop
+opposite-requires c κs = search needs
 
-part-put-sign-start : tie.Need-part-put-sign-start Inv-loop μ-loop
-part-put-sign-start c = begins-room (c .before .before .loop .inv .1) (signText false (c .level-digits .result)) (turn-fits (λ j. signText false (digitsOf (levelVar (sizesOf (c .before .before .before .before .args .s)) (c .before .before .before .before .args .a .0) j))) (c .before .loop-test .taken) (ap (signText false) (c .level-digits .ensures)) (c .before .before .before .before .pre .4))
+sub-put-numeral : tie.Need-sub-put-numeral Inv-loop μ-loop
+sub-put-numeral c = row-start (lowerWord (sizesOf (c .before .before .before .before .before .args .s)) (c .before .before .before .before .before .args .a .0)) (c .before .before .before .loop .j) (c .before .before .before .loop .inv .1) (lower-word (c .opposite .result) (c .opposite .ensures .1) (c .before .level-numeral .ensures .1)) (c .before .before .loop-test .taken) (c .before .before .before .before .before .pre .4)
 
-part-put-sign-end : tie.Need-part-put-sign-end Inv-loop μ-loop
-part-put-sign-end c = search needs
+part-put-numeral-start : tie.Need-part-put-numeral-start Inv-loop μ-loop
+part-put-numeral-start c = row-start (lowerWord (sizesOf (c .before .before .before .before .before .args .s)) (c .before .before .before .before .before .args .a .0)) (c .before .before .before .loop .j) (c .before .before .before .loop .inv .1) (lower-word (c .opposite .result) (c .opposite .ensures .1) (c .before .level-numeral .ensures .1)) (c .before .before .loop-test .taken) (c .before .before .before .before .before .pre .4)
 
-put-sign-requires : tie.Need-put-sign-requires Inv-loop μ-loop
-put-sign-requires c κs = begins-tail (c .before .before .before .loop .inv .1) (signText false (c .before .level-digits .result)) (turn-fits (λ j. signText false (digitsOf (levelVar (sizesOf (c .before .before .before .before .before .args .s)) (c .before .before .before .before .before .args .a .0) j))) (c .before .before .loop-test .taken) (ap (signText false) (c .before .level-digits .ensures)) (c .before .before .before .before .before .pre .4))
+part-put-numeral-end : tie.Need-part-put-numeral-end Inv-loop μ-loop
+part-put-numeral-end c = search needs
+
+put-numeral-requires : tie.Need-put-numeral-requires Inv-loop μ-loop
+put-numeral-requires c κs = (c .before .opposite .ensures .0, row-room (lowerWord (sizesOf (c .before .before .before .before .before .before .args .s)) (c .before .before .before .before .before .before .args .a .0)) (c .before .before .before .before .loop .j) (c .before .before .before .before .loop .inv .1) (lower-word (c .before .opposite .result) (c .before .opposite .ensures .1) (c .before .before .level-numeral .ensures .1)) (c .before .before .before .loop-test .taken) (c .before .before .before .before .before .before .pre .4))
 
 add-at : tie.Need-add-at Inv-loop μ-loop
-add-at c = omega (arith, c .before .before .before .before .before .before .before .before .good .1 .1 .1 .0, begins-sum (c .before .before .before .before .before .before .loop .inv .1) (signText false (c .before .before .before .before .level-digits .result)) (c .before .before .put-sign .ensures .0) (turn-fits (λ j. signText false (digitsOf (levelVar (sizesOf (c .before .before .before .before .before .before .before .before .args .s)) (c .before .before .before .before .before .before .before .before .args .a .0) j))) (c .before .before .before .before .before .loop-test .taken) (ap (signText false) (c .before .before .before .before .level-digits .ensures)) (c .before .before .before .before .before .before .before .before .pre .4)))
+add-at c = search (needs, row-sum (lowerWord (sizesOf (c .before .before .before .before .before .before .before .before .before .args .s)) (c .before .before .before .before .before .before .before .before .before .args .a .0)) (c .before .before .before .before .before .before .before .loop .j) (c .before .before .before .before .before .before .before .loop .inv .1) (lower-word (c .before .before .before .before .opposite .result) (c .before .before .before .before .opposite .ensures .1) (c .before .before .before .before .before .level-numeral .ensures .1)) (c .before .before .before .before .before .before .loop-test .taken) (c .before .before .before .before .before .before .before .before .before .pre .4) (c .before .before .put-numeral .ensures .count))
 
 add-j : tie.Need-add-j Inv-loop μ-loop
 add-j c = search needs
@@ -51,13 +50,13 @@ loop-less : tie.Need-loop-less Inv-loop μ-loop
 loop-less c = search needs
 
 loop-again : tie.Need-loop-again Inv-loop μ-loop
-loop-again c = (search needs, turn-next (λ j. signText false (digitsOf (levelVar (sizesOf (c .before .before .before .before .before .before .before .before .args .s)) (c .before .before .before .before .before .before .before .before .args .a .0) j))) (c .before .before .before .before .before .loop-test .taken) (ap (signText false) (c .before .before .before .before .level-digits .ensures)) (begins-more (c .before .before .before .before .before .before .loop .inv .1) (signText false (c .before .before .before .before .level-digits .result)) (c .before .before .put-sign .kept .1 .1 .0) (c .before .before .put-sign .ensures)))
+loop-again c = (search needs, wrote-row (lowerWord (sizesOf (c .before .before .before .before .before .before .before .before .before .args .s)) (c .before .before .before .before .before .before .before .before .before .args .a .0)) (c .before .before .before .before .before .before .before .loop .j) (c .before .before .before .before .before .before .before .loop .inv .1) (lower-word (c .before .before .before .before .opposite .result) (c .before .before .before .before .opposite .ensures .1) (c .before .before .before .before .before .level-numeral .ensures .1)) (c .before .before .put-numeral .ensures))
 
 same-length : tie.Need-same-length Inv-loop μ-loop
-same-length c = c .before .loop .inv .1 .same
+same-length c = rows-kept (lowerWord (sizesOf (c .before .before .before .args .s)) (c .before .before .before .args .a .0)) (c .before .loop .inv .0) (c .before .before .before .pre .4) (c .before .loop .inv .1)
 
 returns : tie.Need-returns Inv-loop μ-loop
-returns c = begins-whole (block-whole (λ j. signText false (digitsOf (levelVar (sizesOf (c .before .before .before .args .s)) (c .before .before .before .args .a .0) j))) refl (c .before .loop .inv .0) (c .loop-test .left) (c .before .loop .inv .1))
+returns c = rows-whole (lowerWord (sizesOf (c .before .before .before .args .s)) (c .before .before .before .args .a .0)) (c .before .loop .inv .0) (c .loop-test .left) (c .before .loop .inv .1)
 
 pub put-lower-spec : {M : Type 1} → statement M
 put-lower-spec =
@@ -66,12 +65,13 @@ put-lower-spec =
     Inv-loop
     μ-loop
     loop-holds
-    add-level-digits
-    level-digits-requires
-    sub-put-sign
-    part-put-sign-start
-    part-put-sign-end
-    put-sign-requires
+    add-level-numeral
+    level-numeral-requires
+    opposite-requires
+    sub-put-numeral
+    part-put-numeral-start
+    part-put-numeral-end
+    put-numeral-requires
     add-at
     add-j
     loop-less

@@ -1,148 +1,61 @@
-use Rattle.clause_blocks.specs.Texts.{threeText, nextText}
-use mathlib.Core.Bool.{true, false}
-use mathlib.Core.List.{_++_}
 use native.Mathlib.Omega.{arith}
-use Rattle.digits.proofs.Begins.{begins-word, begins-more, begins-room, begins-tail, begins-sum, begins-whole, front-fits}
+use Rattle.clause_blocks.proofs.Opposites.{next-as}
+use Rattle.clause_blocks.specs.Texts.{halfText}
+use Rattle.clause_blocks.specs.Numerals.{held}
+use Rattle.digits.proofs.Wrote.{room-as, room-front, wrote-as, wrote-after, after-start, after-room, after-sum, after-kept}
 use borrow.Author.Needs.{needs}
 use Rattle.clause_blocks.proofs.put_next_bit.Statement.{statement}
 use Rattle.clause_blocks.proofs.put_next_bit.Tie as tie
 
-put-three-requires : tie.Need-put-three-requires
-unfolding nextText
-put-three-requires c κs = (front-fits (threeText false (c .before .before .args .z) false (c .before .before .args .x) true (c .before .before .args .y)) (threeText false (c .before .before .args .z) false (c .before .before .args .x) true (c .before .before .args .g)) (front-fits ((threeText false (c .before .before .args .z) false (c .before .before .args .x) true (c .before .before .args .y)) ++ (threeText false (c .before .before .args .z) false (c .before .before .args .x) true (c .before .before .args .g))) (threeText false (c .before .before .args .z) true (c .before .before .args .y) true (c .before .before .args .g)) (front-fits (((threeText false (c .before .before .args .z) false (c .before .before .args .x) true (c .before .before .args .y)) ++ (threeText false (c .before .before .args .z) false (c .before .before .args .x) true (c .before .before .args .g))) ++ (threeText false (c .before .before .args .z) true (c .before .before .args .y) true (c .before .before .args .g))) (threeText true (c .before .before .args .z) true (c .before .before .args .x) false (c .before .before .args .y)) (front-fits ((((threeText false (c .before .before .args .z) false (c .before .before .args .x) true (c .before .before .args .y)) ++ (threeText false (c .before .before .args .z) false (c .before .before .args .x) true (c .before .before .args .g))) ++ (threeText false (c .before .before .args .z) true (c .before .before .args .y) true (c .before .before .args .g))) ++ (threeText true (c .before .before .args .z) true (c .before .before .args .x) false (c .before .before .args .y))) (threeText true (c .before .before .args .z) true (c .before .before .args .x) false (c .before .before .args .g)) (front-fits (((((threeText false (c .before .before .args .z) false (c .before .before .args .x) true (c .before .before .args .y)) ++ (threeText false (c .before .before .args .z) false (c .before .before .args .x) true (c .before .before .args .g))) ++ (threeText false (c .before .before .args .z) true (c .before .before .args .y) true (c .before .before .args .g))) ++ (threeText true (c .before .before .args .z) true (c .before .before .args .x) false (c .before .before .args .y))) ++ (threeText true (c .before .before .args .z) true (c .before .before .args .x) false (c .before .before .args .g))) (threeText true (c .before .before .args .z) false (c .before .before .args .y) false (c .before .before .args .g)) (c .before .before .pre))))))
+opposite-requires : tie.Need-opposite-requires
+opposite-requires c κs = search needs
 
-sub-put-three : tie.Need-sub-put-three
-unfolding nextText
-sub-put-three c = begins-room (begins-word (threeText false (c .before .before .before .before .before .args .z) false (c .before .before .before .before .before .args .x) true (c .before .before .before .before .before .args .y)) (c .before .before .put-three .kept .1 .1 .1 .1 .1 .1 .0) (c .before .before .put-three .ensures)) (threeText false (c .before .before .before .before .before .args .z) false (c .before .before .before .before .before .args .x) true (c .before .before .before .before .before .args .g)) (front-fits ((threeText false (c .before .before .before .before .before .args .z) false (c .before .before .before .before .before .args .x) true (c .before .before .before .before .before .args .y)) ++ (threeText false (c .before .before .before .before .before .args .z) false (c .before .before .before .before .before .args .x) true (c .before .before .before .before .before .args .g))) (threeText false (c .before .before .before .before .before .args .z) true (c .before .before .before .before .before .args .y) true (c .before .before .before .before .before .args .g)) (front-fits (((threeText false (c .before .before .before .before .before .args .z) false (c .before .before .before .before .before .args .x) true (c .before .before .before .before .before .args .y)) ++ (threeText false (c .before .before .before .before .before .args .z) false (c .before .before .before .before .before .args .x) true (c .before .before .before .before .before .args .g))) ++ (threeText false (c .before .before .before .before .before .args .z) true (c .before .before .before .before .before .args .y) true (c .before .before .before .before .before .args .g))) (threeText true (c .before .before .before .before .before .args .z) true (c .before .before .before .before .before .args .x) false (c .before .before .before .before .before .args .y)) (front-fits ((((threeText false (c .before .before .before .before .before .args .z) false (c .before .before .before .before .before .args .x) true (c .before .before .before .before .before .args .y)) ++ (threeText false (c .before .before .before .before .before .args .z) false (c .before .before .before .before .before .args .x) true (c .before .before .before .before .before .args .g))) ++ (threeText false (c .before .before .before .before .before .args .z) true (c .before .before .before .before .before .args .y) true (c .before .before .before .before .before .args .g))) ++ (threeText true (c .before .before .before .before .before .args .z) true (c .before .before .before .before .before .args .x) false (c .before .before .before .before .before .args .y))) (threeText true (c .before .before .before .before .before .args .z) true (c .before .before .before .before .before .args .x) false (c .before .before .before .before .before .args .g)) (front-fits (((((threeText false (c .before .before .before .before .before .args .z) false (c .before .before .before .before .before .args .x) true (c .before .before .before .before .before .args .y)) ++ (threeText false (c .before .before .before .before .before .args .z) false (c .before .before .before .before .before .args .x) true (c .before .before .before .before .before .args .g))) ++ (threeText false (c .before .before .before .before .before .args .z) true (c .before .before .before .before .before .args .y) true (c .before .before .before .before .before .args .g))) ++ (threeText true (c .before .before .before .before .before .args .z) true (c .before .before .before .before .before .args .x) false (c .before .before .before .before .before .args .y))) ++ (threeText true (c .before .before .before .before .before .args .z) true (c .before .before .before .before .before .args .x) false (c .before .before .before .before .before .args .g))) (threeText true (c .before .before .before .before .before .args .z) false (c .before .before .before .before .before .args .y) false (c .before .before .before .before .before .args .g)) (c .before .before .before .before .before .pre)))))
+opposite-requires-2 : tie.Need-opposite-requires-2
+opposite-requires-2 c κs = search needs
 
-part-put-three-start : tie.Need-part-put-three-start
-unfolding nextText
-part-put-three-start c = begins-room (begins-word (threeText false (c .before .before .before .before .before .args .z) false (c .before .before .before .before .before .args .x) true (c .before .before .before .before .before .args .y)) (c .before .before .put-three .kept .1 .1 .1 .1 .1 .1 .0) (c .before .before .put-three .ensures)) (threeText false (c .before .before .before .before .before .args .z) false (c .before .before .before .before .before .args .x) true (c .before .before .before .before .before .args .g)) (front-fits ((threeText false (c .before .before .before .before .before .args .z) false (c .before .before .before .before .before .args .x) true (c .before .before .before .before .before .args .y)) ++ (threeText false (c .before .before .before .before .before .args .z) false (c .before .before .before .before .before .args .x) true (c .before .before .before .before .before .args .g))) (threeText false (c .before .before .before .before .before .args .z) true (c .before .before .before .before .before .args .y) true (c .before .before .before .before .before .args .g)) (front-fits (((threeText false (c .before .before .before .before .before .args .z) false (c .before .before .before .before .before .args .x) true (c .before .before .before .before .before .args .y)) ++ (threeText false (c .before .before .before .before .before .args .z) false (c .before .before .before .before .before .args .x) true (c .before .before .before .before .before .args .g))) ++ (threeText false (c .before .before .before .before .before .args .z) true (c .before .before .before .before .before .args .y) true (c .before .before .before .before .before .args .g))) (threeText true (c .before .before .before .before .before .args .z) true (c .before .before .before .before .before .args .x) false (c .before .before .before .before .before .args .y)) (front-fits ((((threeText false (c .before .before .before .before .before .args .z) false (c .before .before .before .before .before .args .x) true (c .before .before .before .before .before .args .y)) ++ (threeText false (c .before .before .before .before .before .args .z) false (c .before .before .before .before .before .args .x) true (c .before .before .before .before .before .args .g))) ++ (threeText false (c .before .before .before .before .before .args .z) true (c .before .before .before .before .before .args .y) true (c .before .before .before .before .before .args .g))) ++ (threeText true (c .before .before .before .before .before .args .z) true (c .before .before .before .before .before .args .x) false (c .before .before .before .before .before .args .y))) (threeText true (c .before .before .before .before .before .args .z) true (c .before .before .before .before .before .args .x) false (c .before .before .before .before .before .args .g)) (front-fits (((((threeText false (c .before .before .before .before .before .args .z) false (c .before .before .before .before .before .args .x) true (c .before .before .before .before .before .args .y)) ++ (threeText false (c .before .before .before .before .before .args .z) false (c .before .before .before .before .before .args .x) true (c .before .before .before .before .before .args .g))) ++ (threeText false (c .before .before .before .before .before .args .z) true (c .before .before .before .before .before .args .y) true (c .before .before .before .before .before .args .g))) ++ (threeText true (c .before .before .before .before .before .args .z) true (c .before .before .before .before .before .args .x) false (c .before .before .before .before .before .args .y))) ++ (threeText true (c .before .before .before .before .before .args .z) true (c .before .before .before .before .before .args .x) false (c .before .before .before .before .before .args .g))) (threeText true (c .before .before .before .before .before .args .z) false (c .before .before .before .before .before .args .y) false (c .before .before .before .before .before .args .g)) (c .before .before .before .before .before .pre)))))
+opposite-requires-3 : tie.Need-opposite-requires-3
+opposite-requires-3 c κs = search needs
 
-part-put-three-end : tie.Need-part-put-three-end
-part-put-three-end c = search needs
+opposite-requires-4 : tie.Need-opposite-requires-4
+opposite-requires-4 c κs = search needs
 
-put-three-requires-2 : tie.Need-put-three-requires-2
-unfolding nextText
-put-three-requires-2 c κs = begins-tail (begins-word (threeText false (c .before .before .before .before .before .before .args .z) false (c .before .before .before .before .before .before .args .x) true (c .before .before .before .before .before .before .args .y)) (c .before .before .before .put-three .kept .1 .1 .1 .1 .1 .1 .0) (c .before .before .before .put-three .ensures)) (threeText false (c .before .before .before .before .before .before .args .z) false (c .before .before .before .before .before .before .args .x) true (c .before .before .before .before .before .before .args .g)) (front-fits ((threeText false (c .before .before .before .before .before .before .args .z) false (c .before .before .before .before .before .before .args .x) true (c .before .before .before .before .before .before .args .y)) ++ (threeText false (c .before .before .before .before .before .before .args .z) false (c .before .before .before .before .before .before .args .x) true (c .before .before .before .before .before .before .args .g))) (threeText false (c .before .before .before .before .before .before .args .z) true (c .before .before .before .before .before .before .args .y) true (c .before .before .before .before .before .before .args .g)) (front-fits (((threeText false (c .before .before .before .before .before .before .args .z) false (c .before .before .before .before .before .before .args .x) true (c .before .before .before .before .before .before .args .y)) ++ (threeText false (c .before .before .before .before .before .before .args .z) false (c .before .before .before .before .before .before .args .x) true (c .before .before .before .before .before .before .args .g))) ++ (threeText false (c .before .before .before .before .before .before .args .z) true (c .before .before .before .before .before .before .args .y) true (c .before .before .before .before .before .before .args .g))) (threeText true (c .before .before .before .before .before .before .args .z) true (c .before .before .before .before .before .before .args .x) false (c .before .before .before .before .before .before .args .y)) (front-fits ((((threeText false (c .before .before .before .before .before .before .args .z) false (c .before .before .before .before .before .before .args .x) true (c .before .before .before .before .before .before .args .y)) ++ (threeText false (c .before .before .before .before .before .before .args .z) false (c .before .before .before .before .before .before .args .x) true (c .before .before .before .before .before .before .args .g))) ++ (threeText false (c .before .before .before .before .before .before .args .z) true (c .before .before .before .before .before .before .args .y) true (c .before .before .before .before .before .before .args .g))) ++ (threeText true (c .before .before .before .before .before .before .args .z) true (c .before .before .before .before .before .before .args .x) false (c .before .before .before .before .before .before .args .y))) (threeText true (c .before .before .before .before .before .before .args .z) true (c .before .before .before .before .before .before .args .x) false (c .before .before .before .before .before .before .args .g)) (front-fits (((((threeText false (c .before .before .before .before .before .before .args .z) false (c .before .before .before .before .before .before .args .x) true (c .before .before .before .before .before .before .args .y)) ++ (threeText false (c .before .before .before .before .before .before .args .z) false (c .before .before .before .before .before .before .args .x) true (c .before .before .before .before .before .before .args .g))) ++ (threeText false (c .before .before .before .before .before .before .args .z) true (c .before .before .before .before .before .before .args .y) true (c .before .before .before .before .before .before .args .g))) ++ (threeText true (c .before .before .before .before .before .before .args .z) true (c .before .before .before .before .before .before .args .x) false (c .before .before .before .before .before .before .args .y))) ++ (threeText true (c .before .before .before .before .before .before .args .z) true (c .before .before .before .before .before .before .args .x) false (c .before .before .before .before .before .before .args .g))) (threeText true (c .before .before .before .before .before .before .args .z) false (c .before .before .before .before .before .before .args .y) false (c .before .before .before .before .before .before .args .g)) (c .before .before .before .before .before .before .pre)))))
+put-half-requires : tie.Need-put-half-requires
+put-half-requires c κs = (c .before .before .before .before .opposite .ensures .0, c .before .before .before .opposite2 .ensures .0, c .before .before .before .before .before .before .pre .2, c .before .before .before .before .before .before .pre .3, room-front (halfText (held (c .before .before .before .before .opposite .result)) (held (c .before .before .before .opposite2 .result)) (held (c .before .before .before .before .before .before .args .y)) (held (c .before .before .before .before .before .before .args .g))) (halfText (held (c .before .before .before .before .before .before .args .z)) (held (c .before .before .before .before .before .before .args .x)) (held (c .before .before .opposite3 .result)) (held (c .before .opposite4 .result))) (room-as (next-as (held (c .before .before .before .before .before .before .args .z)) (held (c .before .before .before .before .before .before .args .x)) (held (c .before .before .before .before .before .before .args .y)) (held (c .before .before .before .before .before .before .args .g)) (c .before .before .before .before .opposite .ensures .1) (c .before .before .before .opposite2 .ensures .1) (c .before .before .opposite3 .ensures .1) (c .before .opposite4 .ensures .1)) (c .before .before .before .before .before .before .pre .4)))
 
-add-at : tie.Need-add-at
-unfolding nextText
-add-at c = omega (arith, c .before .before .before .before .before .before .before .before .before .good .1 .1 .1 .1 .0, begins-sum (begins-word (threeText false (c .before .before .before .before .before .before .before .before .before .args .z) false (c .before .before .before .before .before .before .before .before .before .args .x) true (c .before .before .before .before .before .before .before .before .before .args .y)) (c .before .before .before .before .before .before .put-three .kept .1 .1 .1 .1 .1 .1 .0) (c .before .before .before .before .before .before .put-three .ensures)) (threeText false (c .before .before .before .before .before .before .before .before .before .args .z) false (c .before .before .before .before .before .before .before .before .before .args .x) true (c .before .before .before .before .before .before .before .before .before .args .g)) (c .before .before .put-three2 .ensures .0) (front-fits ((threeText false (c .before .before .before .before .before .before .before .before .before .args .z) false (c .before .before .before .before .before .before .before .before .before .args .x) true (c .before .before .before .before .before .before .before .before .before .args .y)) ++ (threeText false (c .before .before .before .before .before .before .before .before .before .args .z) false (c .before .before .before .before .before .before .before .before .before .args .x) true (c .before .before .before .before .before .before .before .before .before .args .g))) (threeText false (c .before .before .before .before .before .before .before .before .before .args .z) true (c .before .before .before .before .before .before .before .before .before .args .y) true (c .before .before .before .before .before .before .before .before .before .args .g)) (front-fits (((threeText false (c .before .before .before .before .before .before .before .before .before .args .z) false (c .before .before .before .before .before .before .before .before .before .args .x) true (c .before .before .before .before .before .before .before .before .before .args .y)) ++ (threeText false (c .before .before .before .before .before .before .before .before .before .args .z) false (c .before .before .before .before .before .before .before .before .before .args .x) true (c .before .before .before .before .before .before .before .before .before .args .g))) ++ (threeText false (c .before .before .before .before .before .before .before .before .before .args .z) true (c .before .before .before .before .before .before .before .before .before .args .y) true (c .before .before .before .before .before .before .before .before .before .args .g))) (threeText true (c .before .before .before .before .before .before .before .before .before .args .z) true (c .before .before .before .before .before .before .before .before .before .args .x) false (c .before .before .before .before .before .before .before .before .before .args .y)) (front-fits ((((threeText false (c .before .before .before .before .before .before .before .before .before .args .z) false (c .before .before .before .before .before .before .before .before .before .args .x) true (c .before .before .before .before .before .before .before .before .before .args .y)) ++ (threeText false (c .before .before .before .before .before .before .before .before .before .args .z) false (c .before .before .before .before .before .before .before .before .before .args .x) true (c .before .before .before .before .before .before .before .before .before .args .g))) ++ (threeText false (c .before .before .before .before .before .before .before .before .before .args .z) true (c .before .before .before .before .before .before .before .before .before .args .y) true (c .before .before .before .before .before .before .before .before .before .args .g))) ++ (threeText true (c .before .before .before .before .before .before .before .before .before .args .z) true (c .before .before .before .before .before .before .before .before .before .args .x) false (c .before .before .before .before .before .before .before .before .before .args .y))) (threeText true (c .before .before .before .before .before .before .before .before .before .args .z) true (c .before .before .before .before .before .before .before .before .before .args .x) false (c .before .before .before .before .before .before .before .before .before .args .g)) (front-fits (((((threeText false (c .before .before .before .before .before .before .before .before .before .args .z) false (c .before .before .before .before .before .before .before .before .before .args .x) true (c .before .before .before .before .before .before .before .before .before .args .y)) ++ (threeText false (c .before .before .before .before .before .before .before .before .before .args .z) false (c .before .before .before .before .before .before .before .before .before .args .x) true (c .before .before .before .before .before .before .before .before .before .args .g))) ++ (threeText false (c .before .before .before .before .before .before .before .before .before .args .z) true (c .before .before .before .before .before .before .before .before .before .args .y) true (c .before .before .before .before .before .before .before .before .before .args .g))) ++ (threeText true (c .before .before .before .before .before .before .before .before .before .args .z) true (c .before .before .before .before .before .before .before .before .before .args .x) false (c .before .before .before .before .before .before .before .before .before .args .y))) ++ (threeText true (c .before .before .before .before .before .before .before .before .before .args .z) true (c .before .before .before .before .before .before .before .before .before .args .x) false (c .before .before .before .before .before .before .before .before .before .args .g))) (threeText true (c .before .before .before .before .before .before .before .before .before .args .z) false (c .before .before .before .before .before .before .before .before .before .args .y) false (c .before .before .before .before .before .before .before .before .before .args .g)) (c .before .before .before .before .before .before .before .before .before .pre))))))
+sub-put-half : tie.Need-sub-put-half
+sub-put-half c = after-start (c .before .before .put-half .ensures) (halfText (held (c .before .before .before .before .before .before .before .before .before .args .z)) (held (c .before .before .before .before .before .before .before .before .before .args .x)) (held (c .before .before .before .before .before .opposite3 .result)) (held (c .before .before .before .before .opposite4 .result))) (room-as (next-as (held (c .before .before .before .before .before .before .before .before .before .args .z)) (held (c .before .before .before .before .before .before .before .before .before .args .x)) (held (c .before .before .before .before .before .before .before .before .before .args .y)) (held (c .before .before .before .before .before .before .before .before .before .args .g)) (c .before .before .before .before .before .before .before .opposite .ensures .1) (c .before .before .before .before .before .before .opposite2 .ensures .1) (c .before .before .before .before .before .opposite3 .ensures .1) (c .before .before .before .before .opposite4 .ensures .1)) (c .before .before .before .before .before .before .before .before .before .pre .4))
 
-sub-put-three-2 : tie.Need-sub-put-three-2
-unfolding nextText
-sub-put-three-2 c = begins-room (begins-more (begins-word (threeText false (c .before .before .before .before .before .before .before .before .before .args .z) false (c .before .before .before .before .before .before .before .before .before .args .x) true (c .before .before .before .before .before .before .before .before .before .args .y)) (c .before .before .before .before .before .before .put-three .kept .1 .1 .1 .1 .1 .1 .0) (c .before .before .before .before .before .before .put-three .ensures)) (threeText false (c .before .before .before .before .before .before .before .before .before .args .z) false (c .before .before .before .before .before .before .before .before .before .args .x) true (c .before .before .before .before .before .before .before .before .before .args .g)) (c .before .before .put-three2 .kept .1 .1 .1 .1 .1 .1 .0) (c .before .before .put-three2 .ensures)) (threeText false (c .before .before .before .before .before .before .before .before .before .args .z) true (c .before .before .before .before .before .before .before .before .before .args .y) true (c .before .before .before .before .before .before .before .before .before .args .g)) (front-fits (((threeText false (c .before .before .before .before .before .before .before .before .before .args .z) false (c .before .before .before .before .before .before .before .before .before .args .x) true (c .before .before .before .before .before .before .before .before .before .args .y)) ++ (threeText false (c .before .before .before .before .before .before .before .before .before .args .z) false (c .before .before .before .before .before .before .before .before .before .args .x) true (c .before .before .before .before .before .before .before .before .before .args .g))) ++ (threeText false (c .before .before .before .before .before .before .before .before .before .args .z) true (c .before .before .before .before .before .before .before .before .before .args .y) true (c .before .before .before .before .before .before .before .before .before .args .g))) (threeText true (c .before .before .before .before .before .before .before .before .before .args .z) true (c .before .before .before .before .before .before .before .before .before .args .x) false (c .before .before .before .before .before .before .before .before .before .args .y)) (front-fits ((((threeText false (c .before .before .before .before .before .before .before .before .before .args .z) false (c .before .before .before .before .before .before .before .before .before .args .x) true (c .before .before .before .before .before .before .before .before .before .args .y)) ++ (threeText false (c .before .before .before .before .before .before .before .before .before .args .z) false (c .before .before .before .before .before .before .before .before .before .args .x) true (c .before .before .before .before .before .before .before .before .before .args .g))) ++ (threeText false (c .before .before .before .before .before .before .before .before .before .args .z) true (c .before .before .before .before .before .before .before .before .before .args .y) true (c .before .before .before .before .before .before .before .before .before .args .g))) ++ (threeText true (c .before .before .before .before .before .before .before .before .before .args .z) true (c .before .before .before .before .before .before .before .before .before .args .x) false (c .before .before .before .before .before .before .before .before .before .args .y))) (threeText true (c .before .before .before .before .before .before .before .before .before .args .z) true (c .before .before .before .before .before .before .before .before .before .args .x) false (c .before .before .before .before .before .before .before .before .before .args .g)) (front-fits (((((threeText false (c .before .before .before .before .before .before .before .before .before .args .z) false (c .before .before .before .before .before .before .before .before .before .args .x) true (c .before .before .before .before .before .before .before .before .before .args .y)) ++ (threeText false (c .before .before .before .before .before .before .before .before .before .args .z) false (c .before .before .before .before .before .before .before .before .before .args .x) true (c .before .before .before .before .before .before .before .before .before .args .g))) ++ (threeText false (c .before .before .before .before .before .before .before .before .before .args .z) true (c .before .before .before .before .before .before .before .before .before .args .y) true (c .before .before .before .before .before .before .before .before .before .args .g))) ++ (threeText true (c .before .before .before .before .before .before .before .before .before .args .z) true (c .before .before .before .before .before .before .before .before .before .args .x) false (c .before .before .before .before .before .before .before .before .before .args .y))) ++ (threeText true (c .before .before .before .before .before .before .before .before .before .args .z) true (c .before .before .before .before .before .before .before .before .before .args .x) false (c .before .before .before .before .before .before .before .before .before .args .g))) (threeText true (c .before .before .before .before .before .before .before .before .before .args .z) false (c .before .before .before .before .before .before .before .before .before .args .y) false (c .before .before .before .before .before .before .before .before .before .args .g)) (c .before .before .before .before .before .before .before .before .before .pre))))
+part-put-half-start : tie.Need-part-put-half-start
+part-put-half-start c = after-start (c .before .before .put-half .ensures) (halfText (held (c .before .before .before .before .before .before .before .before .before .args .z)) (held (c .before .before .before .before .before .before .before .before .before .args .x)) (held (c .before .before .before .before .before .opposite3 .result)) (held (c .before .before .before .before .opposite4 .result))) (room-as (next-as (held (c .before .before .before .before .before .before .before .before .before .args .z)) (held (c .before .before .before .before .before .before .before .before .before .args .x)) (held (c .before .before .before .before .before .before .before .before .before .args .y)) (held (c .before .before .before .before .before .before .before .before .before .args .g)) (c .before .before .before .before .before .before .before .opposite .ensures .1) (c .before .before .before .before .before .before .opposite2 .ensures .1) (c .before .before .before .before .before .opposite3 .ensures .1) (c .before .before .before .before .opposite4 .ensures .1)) (c .before .before .before .before .before .before .before .before .before .pre .4))
 
-part-put-three-start-2 : tie.Need-part-put-three-start-2
-unfolding nextText
-part-put-three-start-2 c = begins-room (begins-more (begins-word (threeText false (c .before .before .before .before .before .before .before .before .before .args .z) false (c .before .before .before .before .before .before .before .before .before .args .x) true (c .before .before .before .before .before .before .before .before .before .args .y)) (c .before .before .before .before .before .before .put-three .kept .1 .1 .1 .1 .1 .1 .0) (c .before .before .before .before .before .before .put-three .ensures)) (threeText false (c .before .before .before .before .before .before .before .before .before .args .z) false (c .before .before .before .before .before .before .before .before .before .args .x) true (c .before .before .before .before .before .before .before .before .before .args .g)) (c .before .before .put-three2 .kept .1 .1 .1 .1 .1 .1 .0) (c .before .before .put-three2 .ensures)) (threeText false (c .before .before .before .before .before .before .before .before .before .args .z) true (c .before .before .before .before .before .before .before .before .before .args .y) true (c .before .before .before .before .before .before .before .before .before .args .g)) (front-fits (((threeText false (c .before .before .before .before .before .before .before .before .before .args .z) false (c .before .before .before .before .before .before .before .before .before .args .x) true (c .before .before .before .before .before .before .before .before .before .args .y)) ++ (threeText false (c .before .before .before .before .before .before .before .before .before .args .z) false (c .before .before .before .before .before .before .before .before .before .args .x) true (c .before .before .before .before .before .before .before .before .before .args .g))) ++ (threeText false (c .before .before .before .before .before .before .before .before .before .args .z) true (c .before .before .before .before .before .before .before .before .before .args .y) true (c .before .before .before .before .before .before .before .before .before .args .g))) (threeText true (c .before .before .before .before .before .before .before .before .before .args .z) true (c .before .before .before .before .before .before .before .before .before .args .x) false (c .before .before .before .before .before .before .before .before .before .args .y)) (front-fits ((((threeText false (c .before .before .before .before .before .before .before .before .before .args .z) false (c .before .before .before .before .before .before .before .before .before .args .x) true (c .before .before .before .before .before .before .before .before .before .args .y)) ++ (threeText false (c .before .before .before .before .before .before .before .before .before .args .z) false (c .before .before .before .before .before .before .before .before .before .args .x) true (c .before .before .before .before .before .before .before .before .before .args .g))) ++ (threeText false (c .before .before .before .before .before .before .before .before .before .args .z) true (c .before .before .before .before .before .before .before .before .before .args .y) true (c .before .before .before .before .before .before .before .before .before .args .g))) ++ (threeText true (c .before .before .before .before .before .before .before .before .before .args .z) true (c .before .before .before .before .before .before .before .before .before .args .x) false (c .before .before .before .before .before .before .before .before .before .args .y))) (threeText true (c .before .before .before .before .before .before .before .before .before .args .z) true (c .before .before .before .before .before .before .before .before .before .args .x) false (c .before .before .before .before .before .before .before .before .before .args .g)) (front-fits (((((threeText false (c .before .before .before .before .before .before .before .before .before .args .z) false (c .before .before .before .before .before .before .before .before .before .args .x) true (c .before .before .before .before .before .before .before .before .before .args .y)) ++ (threeText false (c .before .before .before .before .before .before .before .before .before .args .z) false (c .before .before .before .before .before .before .before .before .before .args .x) true (c .before .before .before .before .before .before .before .before .before .args .g))) ++ (threeText false (c .before .before .before .before .before .before .before .before .before .args .z) true (c .before .before .before .before .before .before .before .before .before .args .y) true (c .before .before .before .before .before .before .before .before .before .args .g))) ++ (threeText true (c .before .before .before .before .before .before .before .before .before .args .z) true (c .before .before .before .before .before .before .before .before .before .args .x) false (c .before .before .before .before .before .before .before .before .before .args .y))) ++ (threeText true (c .before .before .before .before .before .before .before .before .before .args .z) true (c .before .before .before .before .before .before .before .before .before .args .x) false (c .before .before .before .before .before .before .before .before .before .args .g))) (threeText true (c .before .before .before .before .before .before .before .before .before .args .z) false (c .before .before .before .before .before .before .before .before .before .args .y) false (c .before .before .before .before .before .before .before .before .before .args .g)) (c .before .before .before .before .before .before .before .before .before .pre))))
+part-put-half-end : tie.Need-part-put-half-end
+part-put-half-end c = search needs
 
-part-put-three-end-2 : tie.Need-part-put-three-end-2
-part-put-three-end-2 c = search needs
+put-half-requires-2 : tie.Need-put-half-requires-2
+put-half-requires-2 c κs = (c .before .before .before .before .before .before .before .before .before .before .pre .0, c .before .before .before .before .before .before .before .before .before .before .pre .1, c .before .before .before .before .before .before .opposite3 .ensures .0, c .before .before .before .before .before .opposite4 .ensures .0, after-room (c .before .before .before .put-half .ensures) (halfText (held (c .before .before .before .before .before .before .before .before .before .before .args .z)) (held (c .before .before .before .before .before .before .before .before .before .before .args .x)) (held (c .before .before .before .before .before .before .opposite3 .result)) (held (c .before .before .before .before .before .opposite4 .result))) (room-as (next-as (held (c .before .before .before .before .before .before .before .before .before .before .args .z)) (held (c .before .before .before .before .before .before .before .before .before .before .args .x)) (held (c .before .before .before .before .before .before .before .before .before .before .args .y)) (held (c .before .before .before .before .before .before .before .before .before .before .args .g)) (c .before .before .before .before .before .before .before .before .opposite .ensures .1) (c .before .before .before .before .before .before .before .opposite2 .ensures .1) (c .before .before .before .before .before .before .opposite3 .ensures .1) (c .before .before .before .before .before .opposite4 .ensures .1)) (c .before .before .before .before .before .before .before .before .before .before .pre .4)))
 
-put-three-requires-3 : tie.Need-put-three-requires-3
-unfolding nextText
-put-three-requires-3 c κs = begins-tail (begins-more (begins-word (threeText false (c .before .before .before .before .before .before .before .before .before .before .args .z) false (c .before .before .before .before .before .before .before .before .before .before .args .x) true (c .before .before .before .before .before .before .before .before .before .before .args .y)) (c .before .before .before .before .before .before .before .put-three .kept .1 .1 .1 .1 .1 .1 .0) (c .before .before .before .before .before .before .before .put-three .ensures)) (threeText false (c .before .before .before .before .before .before .before .before .before .before .args .z) false (c .before .before .before .before .before .before .before .before .before .before .args .x) true (c .before .before .before .before .before .before .before .before .before .before .args .g)) (c .before .before .before .put-three2 .kept .1 .1 .1 .1 .1 .1 .0) (c .before .before .before .put-three2 .ensures)) (threeText false (c .before .before .before .before .before .before .before .before .before .before .args .z) true (c .before .before .before .before .before .before .before .before .before .before .args .y) true (c .before .before .before .before .before .before .before .before .before .before .args .g)) (front-fits (((threeText false (c .before .before .before .before .before .before .before .before .before .before .args .z) false (c .before .before .before .before .before .before .before .before .before .before .args .x) true (c .before .before .before .before .before .before .before .before .before .before .args .y)) ++ (threeText false (c .before .before .before .before .before .before .before .before .before .before .args .z) false (c .before .before .before .before .before .before .before .before .before .before .args .x) true (c .before .before .before .before .before .before .before .before .before .before .args .g))) ++ (threeText false (c .before .before .before .before .before .before .before .before .before .before .args .z) true (c .before .before .before .before .before .before .before .before .before .before .args .y) true (c .before .before .before .before .before .before .before .before .before .before .args .g))) (threeText true (c .before .before .before .before .before .before .before .before .before .before .args .z) true (c .before .before .before .before .before .before .before .before .before .before .args .x) false (c .before .before .before .before .before .before .before .before .before .before .args .y)) (front-fits ((((threeText false (c .before .before .before .before .before .before .before .before .before .before .args .z) false (c .before .before .before .before .before .before .before .before .before .before .args .x) true (c .before .before .before .before .before .before .before .before .before .before .args .y)) ++ (threeText false (c .before .before .before .before .before .before .before .before .before .before .args .z) false (c .before .before .before .before .before .before .before .before .before .before .args .x) true (c .before .before .before .before .before .before .before .before .before .before .args .g))) ++ (threeText false (c .before .before .before .before .before .before .before .before .before .before .args .z) true (c .before .before .before .before .before .before .before .before .before .before .args .y) true (c .before .before .before .before .before .before .before .before .before .before .args .g))) ++ (threeText true (c .before .before .before .before .before .before .before .before .before .before .args .z) true (c .before .before .before .before .before .before .before .before .before .before .args .x) false (c .before .before .before .before .before .before .before .before .before .before .args .y))) (threeText true (c .before .before .before .before .before .before .before .before .before .before .args .z) true (c .before .before .before .before .before .before .before .before .before .before .args .x) false (c .before .before .before .before .before .before .before .before .before .before .args .g)) (front-fits (((((threeText false (c .before .before .before .before .before .before .before .before .before .before .args .z) false (c .before .before .before .before .before .before .before .before .before .before .args .x) true (c .before .before .before .before .before .before .before .before .before .before .args .y)) ++ (threeText false (c .before .before .before .before .before .before .before .before .before .before .args .z) false (c .before .before .before .before .before .before .before .before .before .before .args .x) true (c .before .before .before .before .before .before .before .before .before .before .args .g))) ++ (threeText false (c .before .before .before .before .before .before .before .before .before .before .args .z) true (c .before .before .before .before .before .before .before .before .before .before .args .y) true (c .before .before .before .before .before .before .before .before .before .before .args .g))) ++ (threeText true (c .before .before .before .before .before .before .before .before .before .before .args .z) true (c .before .before .before .before .before .before .before .before .before .before .args .x) false (c .before .before .before .before .before .before .before .before .before .before .args .y))) ++ (threeText true (c .before .before .before .before .before .before .before .before .before .before .args .z) true (c .before .before .before .before .before .before .before .before .before .before .args .x) false (c .before .before .before .before .before .before .before .before .before .before .args .g))) (threeText true (c .before .before .before .before .before .before .before .before .before .before .args .z) false (c .before .before .before .before .before .before .before .before .before .before .args .y) false (c .before .before .before .before .before .before .before .before .before .before .args .g)) (c .before .before .before .before .before .before .before .before .before .before .pre))))
-
-add-at-2 : tie.Need-add-at-2
-unfolding nextText
-add-at-2 c = omega (arith, c .before .before .before .before .before .before .before .before .before .before .before .before .before .good .1 .1 .1 .1 .0, begins-sum (begins-more (begins-word (threeText false (c .before .before .before .before .before .before .before .before .before .before .before .before .before .args .z) false (c .before .before .before .before .before .before .before .before .before .before .before .before .before .args .x) true (c .before .before .before .before .before .before .before .before .before .before .before .before .before .args .y)) (c .before .before .before .before .before .before .before .before .before .before .put-three .kept .1 .1 .1 .1 .1 .1 .0) (c .before .before .before .before .before .before .before .before .before .before .put-three .ensures)) (threeText false (c .before .before .before .before .before .before .before .before .before .before .before .before .before .args .z) false (c .before .before .before .before .before .before .before .before .before .before .before .before .before .args .x) true (c .before .before .before .before .before .before .before .before .before .before .before .before .before .args .g)) (c .before .before .before .before .before .before .put-three2 .kept .1 .1 .1 .1 .1 .1 .0) (c .before .before .before .before .before .before .put-three2 .ensures)) (threeText false (c .before .before .before .before .before .before .before .before .before .before .before .before .before .args .z) true (c .before .before .before .before .before .before .before .before .before .before .before .before .before .args .y) true (c .before .before .before .before .before .before .before .before .before .before .before .before .before .args .g)) (c .before .before .put-three3 .ensures .0) (front-fits (((threeText false (c .before .before .before .before .before .before .before .before .before .before .before .before .before .args .z) false (c .before .before .before .before .before .before .before .before .before .before .before .before .before .args .x) true (c .before .before .before .before .before .before .before .before .before .before .before .before .before .args .y)) ++ (threeText false (c .before .before .before .before .before .before .before .before .before .before .before .before .before .args .z) false (c .before .before .before .before .before .before .before .before .before .before .before .before .before .args .x) true (c .before .before .before .before .before .before .before .before .before .before .before .before .before .args .g))) ++ (threeText false (c .before .before .before .before .before .before .before .before .before .before .before .before .before .args .z) true (c .before .before .before .before .before .before .before .before .before .before .before .before .before .args .y) true (c .before .before .before .before .before .before .before .before .before .before .before .before .before .args .g))) (threeText true (c .before .before .before .before .before .before .before .before .before .before .before .before .before .args .z) true (c .before .before .before .before .before .before .before .before .before .before .before .before .before .args .x) false (c .before .before .before .before .before .before .before .before .before .before .before .before .before .args .y)) (front-fits ((((threeText false (c .before .before .before .before .before .before .before .before .before .before .before .before .before .args .z) false (c .before .before .before .before .before .before .before .before .before .before .before .before .before .args .x) true (c .before .before .before .before .before .before .before .before .before .before .before .before .before .args .y)) ++ (threeText false (c .before .before .before .before .before .before .before .before .before .before .before .before .before .args .z) false (c .before .before .before .before .before .before .before .before .before .before .before .before .before .args .x) true (c .before .before .before .before .before .before .before .before .before .before .before .before .before .args .g))) ++ (threeText false (c .before .before .before .before .before .before .before .before .before .before .before .before .before .args .z) true (c .before .before .before .before .before .before .before .before .before .before .before .before .before .args .y) true (c .before .before .before .before .before .before .before .before .before .before .before .before .before .args .g))) ++ (threeText true (c .before .before .before .before .before .before .before .before .before .before .before .before .before .args .z) true (c .before .before .before .before .before .before .before .before .before .before .before .before .before .args .x) false (c .before .before .before .before .before .before .before .before .before .before .before .before .before .args .y))) (threeText true (c .before .before .before .before .before .before .before .before .before .before .before .before .before .args .z) true (c .before .before .before .before .before .before .before .before .before .before .before .before .before .args .x) false (c .before .before .before .before .before .before .before .before .before .before .before .before .before .args .g)) (front-fits (((((threeText false (c .before .before .before .before .before .before .before .before .before .before .before .before .before .args .z) false (c .before .before .before .before .before .before .before .before .before .before .before .before .before .args .x) true (c .before .before .before .before .before .before .before .before .before .before .before .before .before .args .y)) ++ (threeText false (c .before .before .before .before .before .before .before .before .before .before .before .before .before .args .z) false (c .before .before .before .before .before .before .before .before .before .before .before .before .before .args .x) true (c .before .before .before .before .before .before .before .before .before .before .before .before .before .args .g))) ++ (threeText false (c .before .before .before .before .before .before .before .before .before .before .before .before .before .args .z) true (c .before .before .before .before .before .before .before .before .before .before .before .before .before .args .y) true (c .before .before .before .before .before .before .before .before .before .before .before .before .before .args .g))) ++ (threeText true (c .before .before .before .before .before .before .before .before .before .before .before .before .before .args .z) true (c .before .before .before .before .before .before .before .before .before .before .before .before .before .args .x) false (c .before .before .before .before .before .before .before .before .before .before .before .before .before .args .y))) ++ (threeText true (c .before .before .before .before .before .before .before .before .before .before .before .before .before .args .z) true (c .before .before .before .before .before .before .before .before .before .before .before .before .before .args .x) false (c .before .before .before .before .before .before .before .before .before .before .before .before .before .args .g))) (threeText true (c .before .before .before .before .before .before .before .before .before .before .before .before .before .args .z) false (c .before .before .before .before .before .before .before .before .before .before .before .before .before .args .y) false (c .before .before .before .before .before .before .before .before .before .before .before .before .before .args .g)) (c .before .before .before .before .before .before .before .before .before .before .before .before .before .pre)))))
-
-sub-put-three-3 : tie.Need-sub-put-three-3
-unfolding nextText
-sub-put-three-3 c = begins-room (begins-more (begins-more (begins-word (threeText false (c .before .before .before .before .before .before .before .before .before .before .before .before .before .args .z) false (c .before .before .before .before .before .before .before .before .before .before .before .before .before .args .x) true (c .before .before .before .before .before .before .before .before .before .before .before .before .before .args .y)) (c .before .before .before .before .before .before .before .before .before .before .put-three .kept .1 .1 .1 .1 .1 .1 .0) (c .before .before .before .before .before .before .before .before .before .before .put-three .ensures)) (threeText false (c .before .before .before .before .before .before .before .before .before .before .before .before .before .args .z) false (c .before .before .before .before .before .before .before .before .before .before .before .before .before .args .x) true (c .before .before .before .before .before .before .before .before .before .before .before .before .before .args .g)) (c .before .before .before .before .before .before .put-three2 .kept .1 .1 .1 .1 .1 .1 .0) (c .before .before .before .before .before .before .put-three2 .ensures)) (threeText false (c .before .before .before .before .before .before .before .before .before .before .before .before .before .args .z) true (c .before .before .before .before .before .before .before .before .before .before .before .before .before .args .y) true (c .before .before .before .before .before .before .before .before .before .before .before .before .before .args .g)) (c .before .before .put-three3 .kept .1 .1 .1 .1 .1 .1 .0) (c .before .before .put-three3 .ensures)) (threeText true (c .before .before .before .before .before .before .before .before .before .before .before .before .before .args .z) true (c .before .before .before .before .before .before .before .before .before .before .before .before .before .args .x) false (c .before .before .before .before .before .before .before .before .before .before .before .before .before .args .y)) (front-fits ((((threeText false (c .before .before .before .before .before .before .before .before .before .before .before .before .before .args .z) false (c .before .before .before .before .before .before .before .before .before .before .before .before .before .args .x) true (c .before .before .before .before .before .before .before .before .before .before .before .before .before .args .y)) ++ (threeText false (c .before .before .before .before .before .before .before .before .before .before .before .before .before .args .z) false (c .before .before .before .before .before .before .before .before .before .before .before .before .before .args .x) true (c .before .before .before .before .before .before .before .before .before .before .before .before .before .args .g))) ++ (threeText false (c .before .before .before .before .before .before .before .before .before .before .before .before .before .args .z) true (c .before .before .before .before .before .before .before .before .before .before .before .before .before .args .y) true (c .before .before .before .before .before .before .before .before .before .before .before .before .before .args .g))) ++ (threeText true (c .before .before .before .before .before .before .before .before .before .before .before .before .before .args .z) true (c .before .before .before .before .before .before .before .before .before .before .before .before .before .args .x) false (c .before .before .before .before .before .before .before .before .before .before .before .before .before .args .y))) (threeText true (c .before .before .before .before .before .before .before .before .before .before .before .before .before .args .z) true (c .before .before .before .before .before .before .before .before .before .before .before .before .before .args .x) false (c .before .before .before .before .before .before .before .before .before .before .before .before .before .args .g)) (front-fits (((((threeText false (c .before .before .before .before .before .before .before .before .before .before .before .before .before .args .z) false (c .before .before .before .before .before .before .before .before .before .before .before .before .before .args .x) true (c .before .before .before .before .before .before .before .before .before .before .before .before .before .args .y)) ++ (threeText false (c .before .before .before .before .before .before .before .before .before .before .before .before .before .args .z) false (c .before .before .before .before .before .before .before .before .before .before .before .before .before .args .x) true (c .before .before .before .before .before .before .before .before .before .before .before .before .before .args .g))) ++ (threeText false (c .before .before .before .before .before .before .before .before .before .before .before .before .before .args .z) true (c .before .before .before .before .before .before .before .before .before .before .before .before .before .args .y) true (c .before .before .before .before .before .before .before .before .before .before .before .before .before .args .g))) ++ (threeText true (c .before .before .before .before .before .before .before .before .before .before .before .before .before .args .z) true (c .before .before .before .before .before .before .before .before .before .before .before .before .before .args .x) false (c .before .before .before .before .before .before .before .before .before .before .before .before .before .args .y))) ++ (threeText true (c .before .before .before .before .before .before .before .before .before .before .before .before .before .args .z) true (c .before .before .before .before .before .before .before .before .before .before .before .before .before .args .x) false (c .before .before .before .before .before .before .before .before .before .before .before .before .before .args .g))) (threeText true (c .before .before .before .before .before .before .before .before .before .before .before .before .before .args .z) false (c .before .before .before .before .before .before .before .before .before .before .before .before .before .args .y) false (c .before .before .before .before .before .before .before .before .before .before .before .before .before .args .g)) (c .before .before .before .before .before .before .before .before .before .before .before .before .before .pre)))
-
-part-put-three-start-3 : tie.Need-part-put-three-start-3
-unfolding nextText
-part-put-three-start-3 c = begins-room (begins-more (begins-more (begins-word (threeText false (c .before .before .before .before .before .before .before .before .before .before .before .before .before .args .z) false (c .before .before .before .before .before .before .before .before .before .before .before .before .before .args .x) true (c .before .before .before .before .before .before .before .before .before .before .before .before .before .args .y)) (c .before .before .before .before .before .before .before .before .before .before .put-three .kept .1 .1 .1 .1 .1 .1 .0) (c .before .before .before .before .before .before .before .before .before .before .put-three .ensures)) (threeText false (c .before .before .before .before .before .before .before .before .before .before .before .before .before .args .z) false (c .before .before .before .before .before .before .before .before .before .before .before .before .before .args .x) true (c .before .before .before .before .before .before .before .before .before .before .before .before .before .args .g)) (c .before .before .before .before .before .before .put-three2 .kept .1 .1 .1 .1 .1 .1 .0) (c .before .before .before .before .before .before .put-three2 .ensures)) (threeText false (c .before .before .before .before .before .before .before .before .before .before .before .before .before .args .z) true (c .before .before .before .before .before .before .before .before .before .before .before .before .before .args .y) true (c .before .before .before .before .before .before .before .before .before .before .before .before .before .args .g)) (c .before .before .put-three3 .kept .1 .1 .1 .1 .1 .1 .0) (c .before .before .put-three3 .ensures)) (threeText true (c .before .before .before .before .before .before .before .before .before .before .before .before .before .args .z) true (c .before .before .before .before .before .before .before .before .before .before .before .before .before .args .x) false (c .before .before .before .before .before .before .before .before .before .before .before .before .before .args .y)) (front-fits ((((threeText false (c .before .before .before .before .before .before .before .before .before .before .before .before .before .args .z) false (c .before .before .before .before .before .before .before .before .before .before .before .before .before .args .x) true (c .before .before .before .before .before .before .before .before .before .before .before .before .before .args .y)) ++ (threeText false (c .before .before .before .before .before .before .before .before .before .before .before .before .before .args .z) false (c .before .before .before .before .before .before .before .before .before .before .before .before .before .args .x) true (c .before .before .before .before .before .before .before .before .before .before .before .before .before .args .g))) ++ (threeText false (c .before .before .before .before .before .before .before .before .before .before .before .before .before .args .z) true (c .before .before .before .before .before .before .before .before .before .before .before .before .before .args .y) true (c .before .before .before .before .before .before .before .before .before .before .before .before .before .args .g))) ++ (threeText true (c .before .before .before .before .before .before .before .before .before .before .before .before .before .args .z) true (c .before .before .before .before .before .before .before .before .before .before .before .before .before .args .x) false (c .before .before .before .before .before .before .before .before .before .before .before .before .before .args .y))) (threeText true (c .before .before .before .before .before .before .before .before .before .before .before .before .before .args .z) true (c .before .before .before .before .before .before .before .before .before .before .before .before .before .args .x) false (c .before .before .before .before .before .before .before .before .before .before .before .before .before .args .g)) (front-fits (((((threeText false (c .before .before .before .before .before .before .before .before .before .before .before .before .before .args .z) false (c .before .before .before .before .before .before .before .before .before .before .before .before .before .args .x) true (c .before .before .before .before .before .before .before .before .before .before .before .before .before .args .y)) ++ (threeText false (c .before .before .before .before .before .before .before .before .before .before .before .before .before .args .z) false (c .before .before .before .before .before .before .before .before .before .before .before .before .before .args .x) true (c .before .before .before .before .before .before .before .before .before .before .before .before .before .args .g))) ++ (threeText false (c .before .before .before .before .before .before .before .before .before .before .before .before .before .args .z) true (c .before .before .before .before .before .before .before .before .before .before .before .before .before .args .y) true (c .before .before .before .before .before .before .before .before .before .before .before .before .before .args .g))) ++ (threeText true (c .before .before .before .before .before .before .before .before .before .before .before .before .before .args .z) true (c .before .before .before .before .before .before .before .before .before .before .before .before .before .args .x) false (c .before .before .before .before .before .before .before .before .before .before .before .before .before .args .y))) ++ (threeText true (c .before .before .before .before .before .before .before .before .before .before .before .before .before .args .z) true (c .before .before .before .before .before .before .before .before .before .before .before .before .before .args .x) false (c .before .before .before .before .before .before .before .before .before .before .before .before .before .args .g))) (threeText true (c .before .before .before .before .before .before .before .before .before .before .before .before .before .args .z) false (c .before .before .before .before .before .before .before .before .before .before .before .before .before .args .y) false (c .before .before .before .before .before .before .before .before .before .before .before .before .before .args .g)) (c .before .before .before .before .before .before .before .before .before .before .before .before .before .pre)))
-
-part-put-three-end-3 : tie.Need-part-put-three-end-3
-part-put-three-end-3 c = search needs
-
-put-three-requires-4 : tie.Need-put-three-requires-4
-unfolding nextText
-put-three-requires-4 c κs = begins-tail (begins-more (begins-more (begins-word (threeText false (c .before .before .before .before .before .before .before .before .before .before .before .before .before .before .args .z) false (c .before .before .before .before .before .before .before .before .before .before .before .before .before .before .args .x) true (c .before .before .before .before .before .before .before .before .before .before .before .before .before .before .args .y)) (c .before .before .before .before .before .before .before .before .before .before .before .put-three .kept .1 .1 .1 .1 .1 .1 .0) (c .before .before .before .before .before .before .before .before .before .before .before .put-three .ensures)) (threeText false (c .before .before .before .before .before .before .before .before .before .before .before .before .before .before .args .z) false (c .before .before .before .before .before .before .before .before .before .before .before .before .before .before .args .x) true (c .before .before .before .before .before .before .before .before .before .before .before .before .before .before .args .g)) (c .before .before .before .before .before .before .before .put-three2 .kept .1 .1 .1 .1 .1 .1 .0) (c .before .before .before .before .before .before .before .put-three2 .ensures)) (threeText false (c .before .before .before .before .before .before .before .before .before .before .before .before .before .before .args .z) true (c .before .before .before .before .before .before .before .before .before .before .before .before .before .before .args .y) true (c .before .before .before .before .before .before .before .before .before .before .before .before .before .before .args .g)) (c .before .before .before .put-three3 .kept .1 .1 .1 .1 .1 .1 .0) (c .before .before .before .put-three3 .ensures)) (threeText true (c .before .before .before .before .before .before .before .before .before .before .before .before .before .before .args .z) true (c .before .before .before .before .before .before .before .before .before .before .before .before .before .before .args .x) false (c .before .before .before .before .before .before .before .before .before .before .before .before .before .before .args .y)) (front-fits ((((threeText false (c .before .before .before .before .before .before .before .before .before .before .before .before .before .before .args .z) false (c .before .before .before .before .before .before .before .before .before .before .before .before .before .before .args .x) true (c .before .before .before .before .before .before .before .before .before .before .before .before .before .before .args .y)) ++ (threeText false (c .before .before .before .before .before .before .before .before .before .before .before .before .before .before .args .z) false (c .before .before .before .before .before .before .before .before .before .before .before .before .before .before .args .x) true (c .before .before .before .before .before .before .before .before .before .before .before .before .before .before .args .g))) ++ (threeText false (c .before .before .before .before .before .before .before .before .before .before .before .before .before .before .args .z) true (c .before .before .before .before .before .before .before .before .before .before .before .before .before .before .args .y) true (c .before .before .before .before .before .before .before .before .before .before .before .before .before .before .args .g))) ++ (threeText true (c .before .before .before .before .before .before .before .before .before .before .before .before .before .before .args .z) true (c .before .before .before .before .before .before .before .before .before .before .before .before .before .before .args .x) false (c .before .before .before .before .before .before .before .before .before .before .before .before .before .before .args .y))) (threeText true (c .before .before .before .before .before .before .before .before .before .before .before .before .before .before .args .z) true (c .before .before .before .before .before .before .before .before .before .before .before .before .before .before .args .x) false (c .before .before .before .before .before .before .before .before .before .before .before .before .before .before .args .g)) (front-fits (((((threeText false (c .before .before .before .before .before .before .before .before .before .before .before .before .before .before .args .z) false (c .before .before .before .before .before .before .before .before .before .before .before .before .before .before .args .x) true (c .before .before .before .before .before .before .before .before .before .before .before .before .before .before .args .y)) ++ (threeText false (c .before .before .before .before .before .before .before .before .before .before .before .before .before .before .args .z) false (c .before .before .before .before .before .before .before .before .before .before .before .before .before .before .args .x) true (c .before .before .before .before .before .before .before .before .before .before .before .before .before .before .args .g))) ++ (threeText false (c .before .before .before .before .before .before .before .before .before .before .before .before .before .before .args .z) true (c .before .before .before .before .before .before .before .before .before .before .before .before .before .before .args .y) true (c .before .before .before .before .before .before .before .before .before .before .before .before .before .before .args .g))) ++ (threeText true (c .before .before .before .before .before .before .before .before .before .before .before .before .before .before .args .z) true (c .before .before .before .before .before .before .before .before .before .before .before .before .before .before .args .x) false (c .before .before .before .before .before .before .before .before .before .before .before .before .before .before .args .y))) ++ (threeText true (c .before .before .before .before .before .before .before .before .before .before .before .before .before .before .args .z) true (c .before .before .before .before .before .before .before .before .before .before .before .before .before .before .args .x) false (c .before .before .before .before .before .before .before .before .before .before .before .before .before .before .args .g))) (threeText true (c .before .before .before .before .before .before .before .before .before .before .before .before .before .before .args .z) false (c .before .before .before .before .before .before .before .before .before .before .before .before .before .before .args .y) false (c .before .before .before .before .before .before .before .before .before .before .before .before .before .before .args .g)) (c .before .before .before .before .before .before .before .before .before .before .before .before .before .before .pre)))
-
-add-at-3 : tie.Need-add-at-3
-unfolding nextText
-add-at-3 c = omega (arith, c .before .before .before .before .before .before .before .before .before .before .before .before .before .before .before .before .before .good .1 .1 .1 .1 .0, begins-sum (begins-more (begins-more (begins-word (threeText false (c .before .before .before .before .before .before .before .before .before .before .before .before .before .before .before .before .before .args .z) false (c .before .before .before .before .before .before .before .before .before .before .before .before .before .before .before .before .before .args .x) true (c .before .before .before .before .before .before .before .before .before .before .before .before .before .before .before .before .before .args .y)) (c .before .before .before .before .before .before .before .before .before .before .before .before .before .before .put-three .kept .1 .1 .1 .1 .1 .1 .0) (c .before .before .before .before .before .before .before .before .before .before .before .before .before .before .put-three .ensures)) (threeText false (c .before .before .before .before .before .before .before .before .before .before .before .before .before .before .before .before .before .args .z) false (c .before .before .before .before .before .before .before .before .before .before .before .before .before .before .before .before .before .args .x) true (c .before .before .before .before .before .before .before .before .before .before .before .before .before .before .before .before .before .args .g)) (c .before .before .before .before .before .before .before .before .before .before .put-three2 .kept .1 .1 .1 .1 .1 .1 .0) (c .before .before .before .before .before .before .before .before .before .before .put-three2 .ensures)) (threeText false (c .before .before .before .before .before .before .before .before .before .before .before .before .before .before .before .before .before .args .z) true (c .before .before .before .before .before .before .before .before .before .before .before .before .before .before .before .before .before .args .y) true (c .before .before .before .before .before .before .before .before .before .before .before .before .before .before .before .before .before .args .g)) (c .before .before .before .before .before .before .put-three3 .kept .1 .1 .1 .1 .1 .1 .0) (c .before .before .before .before .before .before .put-three3 .ensures)) (threeText true (c .before .before .before .before .before .before .before .before .before .before .before .before .before .before .before .before .before .args .z) true (c .before .before .before .before .before .before .before .before .before .before .before .before .before .before .before .before .before .args .x) false (c .before .before .before .before .before .before .before .before .before .before .before .before .before .before .before .before .before .args .y)) (c .before .before .put-three4 .ensures .0) (front-fits ((((threeText false (c .before .before .before .before .before .before .before .before .before .before .before .before .before .before .before .before .before .args .z) false (c .before .before .before .before .before .before .before .before .before .before .before .before .before .before .before .before .before .args .x) true (c .before .before .before .before .before .before .before .before .before .before .before .before .before .before .before .before .before .args .y)) ++ (threeText false (c .before .before .before .before .before .before .before .before .before .before .before .before .before .before .before .before .before .args .z) false (c .before .before .before .before .before .before .before .before .before .before .before .before .before .before .before .before .before .args .x) true (c .before .before .before .before .before .before .before .before .before .before .before .before .before .before .before .before .before .args .g))) ++ (threeText false (c .before .before .before .before .before .before .before .before .before .before .before .before .before .before .before .before .before .args .z) true (c .before .before .before .before .before .before .before .before .before .before .before .before .before .before .before .before .before .args .y) true (c .before .before .before .before .before .before .before .before .before .before .before .before .before .before .before .before .before .args .g))) ++ (threeText true (c .before .before .before .before .before .before .before .before .before .before .before .before .before .before .before .before .before .args .z) true (c .before .before .before .before .before .before .before .before .before .before .before .before .before .before .before .before .before .args .x) false (c .before .before .before .before .before .before .before .before .before .before .before .before .before .before .before .before .before .args .y))) (threeText true (c .before .before .before .before .before .before .before .before .before .before .before .before .before .before .before .before .before .args .z) true (c .before .before .before .before .before .before .before .before .before .before .before .before .before .before .before .before .before .args .x) false (c .before .before .before .before .before .before .before .before .before .before .before .before .before .before .before .before .before .args .g)) (front-fits (((((threeText false (c .before .before .before .before .before .before .before .before .before .before .before .before .before .before .before .before .before .args .z) false (c .before .before .before .before .before .before .before .before .before .before .before .before .before .before .before .before .before .args .x) true (c .before .before .before .before .before .before .before .before .before .before .before .before .before .before .before .before .before .args .y)) ++ (threeText false (c .before .before .before .before .before .before .before .before .before .before .before .before .before .before .before .before .before .args .z) false (c .before .before .before .before .before .before .before .before .before .before .before .before .before .before .before .before .before .args .x) true (c .before .before .before .before .before .before .before .before .before .before .before .before .before .before .before .before .before .args .g))) ++ (threeText false (c .before .before .before .before .before .before .before .before .before .before .before .before .before .before .before .before .before .args .z) true (c .before .before .before .before .before .before .before .before .before .before .before .before .before .before .before .before .before .args .y) true (c .before .before .before .before .before .before .before .before .before .before .before .before .before .before .before .before .before .args .g))) ++ (threeText true (c .before .before .before .before .before .before .before .before .before .before .before .before .before .before .before .before .before .args .z) true (c .before .before .before .before .before .before .before .before .before .before .before .before .before .before .before .before .before .args .x) false (c .before .before .before .before .before .before .before .before .before .before .before .before .before .before .before .before .before .args .y))) ++ (threeText true (c .before .before .before .before .before .before .before .before .before .before .before .before .before .before .before .before .before .args .z) true (c .before .before .before .before .before .before .before .before .before .before .before .before .before .before .before .before .before .args .x) false (c .before .before .before .before .before .before .before .before .before .before .before .before .before .before .before .before .before .args .g))) (threeText true (c .before .before .before .before .before .before .before .before .before .before .before .before .before .before .before .before .before .args .z) false (c .before .before .before .before .before .before .before .before .before .before .before .before .before .before .before .before .before .args .y) false (c .before .before .before .before .before .before .before .before .before .before .before .before .before .before .before .before .before .args .g)) (c .before .before .before .before .before .before .before .before .before .before .before .before .before .before .before .before .before .pre))))
-
-sub-put-three-4 : tie.Need-sub-put-three-4
-unfolding nextText
-sub-put-three-4 c = begins-room (begins-more (begins-more (begins-more (begins-word (threeText false (c .before .before .before .before .before .before .before .before .before .before .before .before .before .before .before .before .before .args .z) false (c .before .before .before .before .before .before .before .before .before .before .before .before .before .before .before .before .before .args .x) true (c .before .before .before .before .before .before .before .before .before .before .before .before .before .before .before .before .before .args .y)) (c .before .before .before .before .before .before .before .before .before .before .before .before .before .before .put-three .kept .1 .1 .1 .1 .1 .1 .0) (c .before .before .before .before .before .before .before .before .before .before .before .before .before .before .put-three .ensures)) (threeText false (c .before .before .before .before .before .before .before .before .before .before .before .before .before .before .before .before .before .args .z) false (c .before .before .before .before .before .before .before .before .before .before .before .before .before .before .before .before .before .args .x) true (c .before .before .before .before .before .before .before .before .before .before .before .before .before .before .before .before .before .args .g)) (c .before .before .before .before .before .before .before .before .before .before .put-three2 .kept .1 .1 .1 .1 .1 .1 .0) (c .before .before .before .before .before .before .before .before .before .before .put-three2 .ensures)) (threeText false (c .before .before .before .before .before .before .before .before .before .before .before .before .before .before .before .before .before .args .z) true (c .before .before .before .before .before .before .before .before .before .before .before .before .before .before .before .before .before .args .y) true (c .before .before .before .before .before .before .before .before .before .before .before .before .before .before .before .before .before .args .g)) (c .before .before .before .before .before .before .put-three3 .kept .1 .1 .1 .1 .1 .1 .0) (c .before .before .before .before .before .before .put-three3 .ensures)) (threeText true (c .before .before .before .before .before .before .before .before .before .before .before .before .before .before .before .before .before .args .z) true (c .before .before .before .before .before .before .before .before .before .before .before .before .before .before .before .before .before .args .x) false (c .before .before .before .before .before .before .before .before .before .before .before .before .before .before .before .before .before .args .y)) (c .before .before .put-three4 .kept .1 .1 .1 .1 .1 .1 .0) (c .before .before .put-three4 .ensures)) (threeText true (c .before .before .before .before .before .before .before .before .before .before .before .before .before .before .before .before .before .args .z) true (c .before .before .before .before .before .before .before .before .before .before .before .before .before .before .before .before .before .args .x) false (c .before .before .before .before .before .before .before .before .before .before .before .before .before .before .before .before .before .args .g)) (front-fits (((((threeText false (c .before .before .before .before .before .before .before .before .before .before .before .before .before .before .before .before .before .args .z) false (c .before .before .before .before .before .before .before .before .before .before .before .before .before .before .before .before .before .args .x) true (c .before .before .before .before .before .before .before .before .before .before .before .before .before .before .before .before .before .args .y)) ++ (threeText false (c .before .before .before .before .before .before .before .before .before .before .before .before .before .before .before .before .before .args .z) false (c .before .before .before .before .before .before .before .before .before .before .before .before .before .before .before .before .before .args .x) true (c .before .before .before .before .before .before .before .before .before .before .before .before .before .before .before .before .before .args .g))) ++ (threeText false (c .before .before .before .before .before .before .before .before .before .before .before .before .before .before .before .before .before .args .z) true (c .before .before .before .before .before .before .before .before .before .before .before .before .before .before .before .before .before .args .y) true (c .before .before .before .before .before .before .before .before .before .before .before .before .before .before .before .before .before .args .g))) ++ (threeText true (c .before .before .before .before .before .before .before .before .before .before .before .before .before .before .before .before .before .args .z) true (c .before .before .before .before .before .before .before .before .before .before .before .before .before .before .before .before .before .args .x) false (c .before .before .before .before .before .before .before .before .before .before .before .before .before .before .before .before .before .args .y))) ++ (threeText true (c .before .before .before .before .before .before .before .before .before .before .before .before .before .before .before .before .before .args .z) true (c .before .before .before .before .before .before .before .before .before .before .before .before .before .before .before .before .before .args .x) false (c .before .before .before .before .before .before .before .before .before .before .before .before .before .before .before .before .before .args .g))) (threeText true (c .before .before .before .before .before .before .before .before .before .before .before .before .before .before .before .before .before .args .z) false (c .before .before .before .before .before .before .before .before .before .before .before .before .before .before .before .before .before .args .y) false (c .before .before .before .before .before .before .before .before .before .before .before .before .before .before .before .before .before .args .g)) (c .before .before .before .before .before .before .before .before .before .before .before .before .before .before .before .before .before .pre))
-
-part-put-three-start-4 : tie.Need-part-put-three-start-4
-unfolding nextText
-part-put-three-start-4 c = begins-room (begins-more (begins-more (begins-more (begins-word (threeText false (c .before .before .before .before .before .before .before .before .before .before .before .before .before .before .before .before .before .args .z) false (c .before .before .before .before .before .before .before .before .before .before .before .before .before .before .before .before .before .args .x) true (c .before .before .before .before .before .before .before .before .before .before .before .before .before .before .before .before .before .args .y)) (c .before .before .before .before .before .before .before .before .before .before .before .before .before .before .put-three .kept .1 .1 .1 .1 .1 .1 .0) (c .before .before .before .before .before .before .before .before .before .before .before .before .before .before .put-three .ensures)) (threeText false (c .before .before .before .before .before .before .before .before .before .before .before .before .before .before .before .before .before .args .z) false (c .before .before .before .before .before .before .before .before .before .before .before .before .before .before .before .before .before .args .x) true (c .before .before .before .before .before .before .before .before .before .before .before .before .before .before .before .before .before .args .g)) (c .before .before .before .before .before .before .before .before .before .before .put-three2 .kept .1 .1 .1 .1 .1 .1 .0) (c .before .before .before .before .before .before .before .before .before .before .put-three2 .ensures)) (threeText false (c .before .before .before .before .before .before .before .before .before .before .before .before .before .before .before .before .before .args .z) true (c .before .before .before .before .before .before .before .before .before .before .before .before .before .before .before .before .before .args .y) true (c .before .before .before .before .before .before .before .before .before .before .before .before .before .before .before .before .before .args .g)) (c .before .before .before .before .before .before .put-three3 .kept .1 .1 .1 .1 .1 .1 .0) (c .before .before .before .before .before .before .put-three3 .ensures)) (threeText true (c .before .before .before .before .before .before .before .before .before .before .before .before .before .before .before .before .before .args .z) true (c .before .before .before .before .before .before .before .before .before .before .before .before .before .before .before .before .before .args .x) false (c .before .before .before .before .before .before .before .before .before .before .before .before .before .before .before .before .before .args .y)) (c .before .before .put-three4 .kept .1 .1 .1 .1 .1 .1 .0) (c .before .before .put-three4 .ensures)) (threeText true (c .before .before .before .before .before .before .before .before .before .before .before .before .before .before .before .before .before .args .z) true (c .before .before .before .before .before .before .before .before .before .before .before .before .before .before .before .before .before .args .x) false (c .before .before .before .before .before .before .before .before .before .before .before .before .before .before .before .before .before .args .g)) (front-fits (((((threeText false (c .before .before .before .before .before .before .before .before .before .before .before .before .before .before .before .before .before .args .z) false (c .before .before .before .before .before .before .before .before .before .before .before .before .before .before .before .before .before .args .x) true (c .before .before .before .before .before .before .before .before .before .before .before .before .before .before .before .before .before .args .y)) ++ (threeText false (c .before .before .before .before .before .before .before .before .before .before .before .before .before .before .before .before .before .args .z) false (c .before .before .before .before .before .before .before .before .before .before .before .before .before .before .before .before .before .args .x) true (c .before .before .before .before .before .before .before .before .before .before .before .before .before .before .before .before .before .args .g))) ++ (threeText false (c .before .before .before .before .before .before .before .before .before .before .before .before .before .before .before .before .before .args .z) true (c .before .before .before .before .before .before .before .before .before .before .before .before .before .before .before .before .before .args .y) true (c .before .before .before .before .before .before .before .before .before .before .before .before .before .before .before .before .before .args .g))) ++ (threeText true (c .before .before .before .before .before .before .before .before .before .before .before .before .before .before .before .before .before .args .z) true (c .before .before .before .before .before .before .before .before .before .before .before .before .before .before .before .before .before .args .x) false (c .before .before .before .before .before .before .before .before .before .before .before .before .before .before .before .before .before .args .y))) ++ (threeText true (c .before .before .before .before .before .before .before .before .before .before .before .before .before .before .before .before .before .args .z) true (c .before .before .before .before .before .before .before .before .before .before .before .before .before .before .before .before .before .args .x) false (c .before .before .before .before .before .before .before .before .before .before .before .before .before .before .before .before .before .args .g))) (threeText true (c .before .before .before .before .before .before .before .before .before .before .before .before .before .before .before .before .before .args .z) false (c .before .before .before .before .before .before .before .before .before .before .before .before .before .before .before .before .before .args .y) false (c .before .before .before .before .before .before .before .before .before .before .before .before .before .before .before .before .before .args .g)) (c .before .before .before .before .before .before .before .before .before .before .before .before .before .before .before .before .before .pre))
-
-part-put-three-end-4 : tie.Need-part-put-three-end-4
-part-put-three-end-4 c = search needs
-
-put-three-requires-5 : tie.Need-put-three-requires-5
-unfolding nextText
-put-three-requires-5 c κs = begins-tail (begins-more (begins-more (begins-more (begins-word (threeText false (c .before .before .before .before .before .before .before .before .before .before .before .before .before .before .before .before .before .before .args .z) false (c .before .before .before .before .before .before .before .before .before .before .before .before .before .before .before .before .before .before .args .x) true (c .before .before .before .before .before .before .before .before .before .before .before .before .before .before .before .before .before .before .args .y)) (c .before .before .before .before .before .before .before .before .before .before .before .before .before .before .before .put-three .kept .1 .1 .1 .1 .1 .1 .0) (c .before .before .before .before .before .before .before .before .before .before .before .before .before .before .before .put-three .ensures)) (threeText false (c .before .before .before .before .before .before .before .before .before .before .before .before .before .before .before .before .before .before .args .z) false (c .before .before .before .before .before .before .before .before .before .before .before .before .before .before .before .before .before .before .args .x) true (c .before .before .before .before .before .before .before .before .before .before .before .before .before .before .before .before .before .before .args .g)) (c .before .before .before .before .before .before .before .before .before .before .before .put-three2 .kept .1 .1 .1 .1 .1 .1 .0) (c .before .before .before .before .before .before .before .before .before .before .before .put-three2 .ensures)) (threeText false (c .before .before .before .before .before .before .before .before .before .before .before .before .before .before .before .before .before .before .args .z) true (c .before .before .before .before .before .before .before .before .before .before .before .before .before .before .before .before .before .before .args .y) true (c .before .before .before .before .before .before .before .before .before .before .before .before .before .before .before .before .before .before .args .g)) (c .before .before .before .before .before .before .before .put-three3 .kept .1 .1 .1 .1 .1 .1 .0) (c .before .before .before .before .before .before .before .put-three3 .ensures)) (threeText true (c .before .before .before .before .before .before .before .before .before .before .before .before .before .before .before .before .before .before .args .z) true (c .before .before .before .before .before .before .before .before .before .before .before .before .before .before .before .before .before .before .args .x) false (c .before .before .before .before .before .before .before .before .before .before .before .before .before .before .before .before .before .before .args .y)) (c .before .before .before .put-three4 .kept .1 .1 .1 .1 .1 .1 .0) (c .before .before .before .put-three4 .ensures)) (threeText true (c .before .before .before .before .before .before .before .before .before .before .before .before .before .before .before .before .before .before .args .z) true (c .before .before .before .before .before .before .before .before .before .before .before .before .before .before .before .before .before .before .args .x) false (c .before .before .before .before .before .before .before .before .before .before .before .before .before .before .before .before .before .before .args .g)) (front-fits (((((threeText false (c .before .before .before .before .before .before .before .before .before .before .before .before .before .before .before .before .before .before .args .z) false (c .before .before .before .before .before .before .before .before .before .before .before .before .before .before .before .before .before .before .args .x) true (c .before .before .before .before .before .before .before .before .before .before .before .before .before .before .before .before .before .before .args .y)) ++ (threeText false (c .before .before .before .before .before .before .before .before .before .before .before .before .before .before .before .before .before .before .args .z) false (c .before .before .before .before .before .before .before .before .before .before .before .before .before .before .before .before .before .before .args .x) true (c .before .before .before .before .before .before .before .before .before .before .before .before .before .before .before .before .before .before .args .g))) ++ (threeText false (c .before .before .before .before .before .before .before .before .before .before .before .before .before .before .before .before .before .before .args .z) true (c .before .before .before .before .before .before .before .before .before .before .before .before .before .before .before .before .before .before .args .y) true (c .before .before .before .before .before .before .before .before .before .before .before .before .before .before .before .before .before .before .args .g))) ++ (threeText true (c .before .before .before .before .before .before .before .before .before .before .before .before .before .before .before .before .before .before .args .z) true (c .before .before .before .before .before .before .before .before .before .before .before .before .before .before .before .before .before .before .args .x) false (c .before .before .before .before .before .before .before .before .before .before .before .before .before .before .before .before .before .before .args .y))) ++ (threeText true (c .before .before .before .before .before .before .before .before .before .before .before .before .before .before .before .before .before .before .args .z) true (c .before .before .before .before .before .before .before .before .before .before .before .before .before .before .before .before .before .before .args .x) false (c .before .before .before .before .before .before .before .before .before .before .before .before .before .before .before .before .before .before .args .g))) (threeText true (c .before .before .before .before .before .before .before .before .before .before .before .before .before .before .before .before .before .before .args .z) false (c .before .before .before .before .before .before .before .before .before .before .before .before .before .before .before .before .before .before .args .y) false (c .before .before .before .before .before .before .before .before .before .before .before .before .before .before .before .before .before .before .args .g)) (c .before .before .before .before .before .before .before .before .before .before .before .before .before .before .before .before .before .before .pre))
-
-add-at-4 : tie.Need-add-at-4
-unfolding nextText
-add-at-4 c = omega (arith, c .before .before .before .before .before .before .before .before .before .before .before .before .before .before .before .before .before .before .before .before .before .good .1 .1 .1 .1 .0, begins-sum (begins-more (begins-more (begins-more (begins-word (threeText false (c .before .before .before .before .before .before .before .before .before .before .before .before .before .before .before .before .before .before .before .before .before .args .z) false (c .before .before .before .before .before .before .before .before .before .before .before .before .before .before .before .before .before .before .before .before .before .args .x) true (c .before .before .before .before .before .before .before .before .before .before .before .before .before .before .before .before .before .before .before .before .before .args .y)) (c .before .before .before .before .before .before .before .before .before .before .before .before .before .before .before .before .before .before .put-three .kept .1 .1 .1 .1 .1 .1 .0) (c .before .before .before .before .before .before .before .before .before .before .before .before .before .before .before .before .before .before .put-three .ensures)) (threeText false (c .before .before .before .before .before .before .before .before .before .before .before .before .before .before .before .before .before .before .before .before .before .args .z) false (c .before .before .before .before .before .before .before .before .before .before .before .before .before .before .before .before .before .before .before .before .before .args .x) true (c .before .before .before .before .before .before .before .before .before .before .before .before .before .before .before .before .before .before .before .before .before .args .g)) (c .before .before .before .before .before .before .before .before .before .before .before .before .before .before .put-three2 .kept .1 .1 .1 .1 .1 .1 .0) (c .before .before .before .before .before .before .before .before .before .before .before .before .before .before .put-three2 .ensures)) (threeText false (c .before .before .before .before .before .before .before .before .before .before .before .before .before .before .before .before .before .before .before .before .before .args .z) true (c .before .before .before .before .before .before .before .before .before .before .before .before .before .before .before .before .before .before .before .before .before .args .y) true (c .before .before .before .before .before .before .before .before .before .before .before .before .before .before .before .before .before .before .before .before .before .args .g)) (c .before .before .before .before .before .before .before .before .before .before .put-three3 .kept .1 .1 .1 .1 .1 .1 .0) (c .before .before .before .before .before .before .before .before .before .before .put-three3 .ensures)) (threeText true (c .before .before .before .before .before .before .before .before .before .before .before .before .before .before .before .before .before .before .before .before .before .args .z) true (c .before .before .before .before .before .before .before .before .before .before .before .before .before .before .before .before .before .before .before .before .before .args .x) false (c .before .before .before .before .before .before .before .before .before .before .before .before .before .before .before .before .before .before .before .before .before .args .y)) (c .before .before .before .before .before .before .put-three4 .kept .1 .1 .1 .1 .1 .1 .0) (c .before .before .before .before .before .before .put-three4 .ensures)) (threeText true (c .before .before .before .before .before .before .before .before .before .before .before .before .before .before .before .before .before .before .before .before .before .args .z) true (c .before .before .before .before .before .before .before .before .before .before .before .before .before .before .before .before .before .before .before .before .before .args .x) false (c .before .before .before .before .before .before .before .before .before .before .before .before .before .before .before .before .before .before .before .before .before .args .g)) (c .before .before .put-three5 .ensures .0) (front-fits (((((threeText false (c .before .before .before .before .before .before .before .before .before .before .before .before .before .before .before .before .before .before .before .before .before .args .z) false (c .before .before .before .before .before .before .before .before .before .before .before .before .before .before .before .before .before .before .before .before .before .args .x) true (c .before .before .before .before .before .before .before .before .before .before .before .before .before .before .before .before .before .before .before .before .before .args .y)) ++ (threeText false (c .before .before .before .before .before .before .before .before .before .before .before .before .before .before .before .before .before .before .before .before .before .args .z) false (c .before .before .before .before .before .before .before .before .before .before .before .before .before .before .before .before .before .before .before .before .before .args .x) true (c .before .before .before .before .before .before .before .before .before .before .before .before .before .before .before .before .before .before .before .before .before .args .g))) ++ (threeText false (c .before .before .before .before .before .before .before .before .before .before .before .before .before .before .before .before .before .before .before .before .before .args .z) true (c .before .before .before .before .before .before .before .before .before .before .before .before .before .before .before .before .before .before .before .before .before .args .y) true (c .before .before .before .before .before .before .before .before .before .before .before .before .before .before .before .before .before .before .before .before .before .args .g))) ++ (threeText true (c .before .before .before .before .before .before .before .before .before .before .before .before .before .before .before .before .before .before .before .before .before .args .z) true (c .before .before .before .before .before .before .before .before .before .before .before .before .before .before .before .before .before .before .before .before .before .args .x) false (c .before .before .before .before .before .before .before .before .before .before .before .before .before .before .before .before .before .before .before .before .before .args .y))) ++ (threeText true (c .before .before .before .before .before .before .before .before .before .before .before .before .before .before .before .before .before .before .before .before .before .args .z) true (c .before .before .before .before .before .before .before .before .before .before .before .before .before .before .before .before .before .before .before .before .before .args .x) false (c .before .before .before .before .before .before .before .before .before .before .before .before .before .before .before .before .before .before .before .before .before .args .g))) (threeText true (c .before .before .before .before .before .before .before .before .before .before .before .before .before .before .before .before .before .before .before .before .before .args .z) false (c .before .before .before .before .before .before .before .before .before .before .before .before .before .before .before .before .before .before .before .before .before .args .y) false (c .before .before .before .before .before .before .before .before .before .before .before .before .before .before .before .before .before .before .before .before .before .args .g)) (c .before .before .before .before .before .before .before .before .before .before .before .before .before .before .before .before .before .before .before .before .before .pre)))
-
-sub-put-three-5 : tie.Need-sub-put-three-5
-unfolding nextText
-sub-put-three-5 c = begins-room (begins-more (begins-more (begins-more (begins-more (begins-word (threeText false (c .before .before .before .before .before .before .before .before .before .before .before .before .before .before .before .before .before .before .before .before .before .args .z) false (c .before .before .before .before .before .before .before .before .before .before .before .before .before .before .before .before .before .before .before .before .before .args .x) true (c .before .before .before .before .before .before .before .before .before .before .before .before .before .before .before .before .before .before .before .before .before .args .y)) (c .before .before .before .before .before .before .before .before .before .before .before .before .before .before .before .before .before .before .put-three .kept .1 .1 .1 .1 .1 .1 .0) (c .before .before .before .before .before .before .before .before .before .before .before .before .before .before .before .before .before .before .put-three .ensures)) (threeText false (c .before .before .before .before .before .before .before .before .before .before .before .before .before .before .before .before .before .before .before .before .before .args .z) false (c .before .before .before .before .before .before .before .before .before .before .before .before .before .before .before .before .before .before .before .before .before .args .x) true (c .before .before .before .before .before .before .before .before .before .before .before .before .before .before .before .before .before .before .before .before .before .args .g)) (c .before .before .before .before .before .before .before .before .before .before .before .before .before .before .put-three2 .kept .1 .1 .1 .1 .1 .1 .0) (c .before .before .before .before .before .before .before .before .before .before .before .before .before .before .put-three2 .ensures)) (threeText false (c .before .before .before .before .before .before .before .before .before .before .before .before .before .before .before .before .before .before .before .before .before .args .z) true (c .before .before .before .before .before .before .before .before .before .before .before .before .before .before .before .before .before .before .before .before .before .args .y) true (c .before .before .before .before .before .before .before .before .before .before .before .before .before .before .before .before .before .before .before .before .before .args .g)) (c .before .before .before .before .before .before .before .before .before .before .put-three3 .kept .1 .1 .1 .1 .1 .1 .0) (c .before .before .before .before .before .before .before .before .before .before .put-three3 .ensures)) (threeText true (c .before .before .before .before .before .before .before .before .before .before .before .before .before .before .before .before .before .before .before .before .before .args .z) true (c .before .before .before .before .before .before .before .before .before .before .before .before .before .before .before .before .before .before .before .before .before .args .x) false (c .before .before .before .before .before .before .before .before .before .before .before .before .before .before .before .before .before .before .before .before .before .args .y)) (c .before .before .before .before .before .before .put-three4 .kept .1 .1 .1 .1 .1 .1 .0) (c .before .before .before .before .before .before .put-three4 .ensures)) (threeText true (c .before .before .before .before .before .before .before .before .before .before .before .before .before .before .before .before .before .before .before .before .before .args .z) true (c .before .before .before .before .before .before .before .before .before .before .before .before .before .before .before .before .before .before .before .before .before .args .x) false (c .before .before .before .before .before .before .before .before .before .before .before .before .before .before .before .before .before .before .before .before .before .args .g)) (c .before .before .put-three5 .kept .1 .1 .1 .1 .1 .1 .0) (c .before .before .put-three5 .ensures)) (threeText true (c .before .before .before .before .before .before .before .before .before .before .before .before .before .before .before .before .before .before .before .before .before .args .z) false (c .before .before .before .before .before .before .before .before .before .before .before .before .before .before .before .before .before .before .before .before .before .args .y) false (c .before .before .before .before .before .before .before .before .before .before .before .before .before .before .before .before .before .before .before .before .before .args .g)) (c .before .before .before .before .before .before .before .before .before .before .before .before .before .before .before .before .before .before .before .before .before .pre)
-
-part-put-three-start-5 : tie.Need-part-put-three-start-5
-unfolding nextText
-part-put-three-start-5 c = begins-room (begins-more (begins-more (begins-more (begins-more (begins-word (threeText false (c .before .before .before .before .before .before .before .before .before .before .before .before .before .before .before .before .before .before .before .before .before .args .z) false (c .before .before .before .before .before .before .before .before .before .before .before .before .before .before .before .before .before .before .before .before .before .args .x) true (c .before .before .before .before .before .before .before .before .before .before .before .before .before .before .before .before .before .before .before .before .before .args .y)) (c .before .before .before .before .before .before .before .before .before .before .before .before .before .before .before .before .before .before .put-three .kept .1 .1 .1 .1 .1 .1 .0) (c .before .before .before .before .before .before .before .before .before .before .before .before .before .before .before .before .before .before .put-three .ensures)) (threeText false (c .before .before .before .before .before .before .before .before .before .before .before .before .before .before .before .before .before .before .before .before .before .args .z) false (c .before .before .before .before .before .before .before .before .before .before .before .before .before .before .before .before .before .before .before .before .before .args .x) true (c .before .before .before .before .before .before .before .before .before .before .before .before .before .before .before .before .before .before .before .before .before .args .g)) (c .before .before .before .before .before .before .before .before .before .before .before .before .before .before .put-three2 .kept .1 .1 .1 .1 .1 .1 .0) (c .before .before .before .before .before .before .before .before .before .before .before .before .before .before .put-three2 .ensures)) (threeText false (c .before .before .before .before .before .before .before .before .before .before .before .before .before .before .before .before .before .before .before .before .before .args .z) true (c .before .before .before .before .before .before .before .before .before .before .before .before .before .before .before .before .before .before .before .before .before .args .y) true (c .before .before .before .before .before .before .before .before .before .before .before .before .before .before .before .before .before .before .before .before .before .args .g)) (c .before .before .before .before .before .before .before .before .before .before .put-three3 .kept .1 .1 .1 .1 .1 .1 .0) (c .before .before .before .before .before .before .before .before .before .before .put-three3 .ensures)) (threeText true (c .before .before .before .before .before .before .before .before .before .before .before .before .before .before .before .before .before .before .before .before .before .args .z) true (c .before .before .before .before .before .before .before .before .before .before .before .before .before .before .before .before .before .before .before .before .before .args .x) false (c .before .before .before .before .before .before .before .before .before .before .before .before .before .before .before .before .before .before .before .before .before .args .y)) (c .before .before .before .before .before .before .put-three4 .kept .1 .1 .1 .1 .1 .1 .0) (c .before .before .before .before .before .before .put-three4 .ensures)) (threeText true (c .before .before .before .before .before .before .before .before .before .before .before .before .before .before .before .before .before .before .before .before .before .args .z) true (c .before .before .before .before .before .before .before .before .before .before .before .before .before .before .before .before .before .before .before .before .before .args .x) false (c .before .before .before .before .before .before .before .before .before .before .before .before .before .before .before .before .before .before .before .before .before .args .g)) (c .before .before .put-three5 .kept .1 .1 .1 .1 .1 .1 .0) (c .before .before .put-three5 .ensures)) (threeText true (c .before .before .before .before .before .before .before .before .before .before .before .before .before .before .before .before .before .before .before .before .before .args .z) false (c .before .before .before .before .before .before .before .before .before .before .before .before .before .before .before .before .before .before .before .before .before .args .y) false (c .before .before .before .before .before .before .before .before .before .before .before .before .before .before .before .before .before .before .before .before .before .args .g)) (c .before .before .before .before .before .before .before .before .before .before .before .before .before .before .before .before .before .before .before .before .before .pre)
-
-part-put-three-end-5 : tie.Need-part-put-three-end-5
-part-put-three-end-5 c = search needs
-
-put-three-requires-6 : tie.Need-put-three-requires-6
-unfolding nextText
-put-three-requires-6 c κs = begins-tail (begins-more (begins-more (begins-more (begins-more (begins-word (threeText false (c .before .before .before .before .before .before .before .before .before .before .before .before .before .before .before .before .before .before .before .before .before .before .args .z) false (c .before .before .before .before .before .before .before .before .before .before .before .before .before .before .before .before .before .before .before .before .before .before .args .x) true (c .before .before .before .before .before .before .before .before .before .before .before .before .before .before .before .before .before .before .before .before .before .before .args .y)) (c .before .before .before .before .before .before .before .before .before .before .before .before .before .before .before .before .before .before .before .put-three .kept .1 .1 .1 .1 .1 .1 .0) (c .before .before .before .before .before .before .before .before .before .before .before .before .before .before .before .before .before .before .before .put-three .ensures)) (threeText false (c .before .before .before .before .before .before .before .before .before .before .before .before .before .before .before .before .before .before .before .before .before .before .args .z) false (c .before .before .before .before .before .before .before .before .before .before .before .before .before .before .before .before .before .before .before .before .before .before .args .x) true (c .before .before .before .before .before .before .before .before .before .before .before .before .before .before .before .before .before .before .before .before .before .before .args .g)) (c .before .before .before .before .before .before .before .before .before .before .before .before .before .before .before .put-three2 .kept .1 .1 .1 .1 .1 .1 .0) (c .before .before .before .before .before .before .before .before .before .before .before .before .before .before .before .put-three2 .ensures)) (threeText false (c .before .before .before .before .before .before .before .before .before .before .before .before .before .before .before .before .before .before .before .before .before .before .args .z) true (c .before .before .before .before .before .before .before .before .before .before .before .before .before .before .before .before .before .before .before .before .before .before .args .y) true (c .before .before .before .before .before .before .before .before .before .before .before .before .before .before .before .before .before .before .before .before .before .before .args .g)) (c .before .before .before .before .before .before .before .before .before .before .before .put-three3 .kept .1 .1 .1 .1 .1 .1 .0) (c .before .before .before .before .before .before .before .before .before .before .before .put-three3 .ensures)) (threeText true (c .before .before .before .before .before .before .before .before .before .before .before .before .before .before .before .before .before .before .before .before .before .before .args .z) true (c .before .before .before .before .before .before .before .before .before .before .before .before .before .before .before .before .before .before .before .before .before .before .args .x) false (c .before .before .before .before .before .before .before .before .before .before .before .before .before .before .before .before .before .before .before .before .before .before .args .y)) (c .before .before .before .before .before .before .before .put-three4 .kept .1 .1 .1 .1 .1 .1 .0) (c .before .before .before .before .before .before .before .put-three4 .ensures)) (threeText true (c .before .before .before .before .before .before .before .before .before .before .before .before .before .before .before .before .before .before .before .before .before .before .args .z) true (c .before .before .before .before .before .before .before .before .before .before .before .before .before .before .before .before .before .before .before .before .before .before .args .x) false (c .before .before .before .before .before .before .before .before .before .before .before .before .before .before .before .before .before .before .before .before .before .before .args .g)) (c .before .before .before .put-three5 .kept .1 .1 .1 .1 .1 .1 .0) (c .before .before .before .put-three5 .ensures)) (threeText true (c .before .before .before .before .before .before .before .before .before .before .before .before .before .before .before .before .before .before .before .before .before .before .args .z) false (c .before .before .before .before .before .before .before .before .before .before .before .before .before .before .before .before .before .before .before .before .before .before .args .y) false (c .before .before .before .before .before .before .before .before .before .before .before .before .before .before .before .before .before .before .before .before .before .before .args .g)) (c .before .before .before .before .before .before .before .before .before .before .before .before .before .before .before .before .before .before .before .before .before .before .pre)
-
-add-at-5 : tie.Need-add-at-5
-unfolding nextText
-add-at-5 c = omega (arith, c .before .before .before .before .before .before .before .before .before .before .before .before .before .before .before .before .before .before .before .before .before .before .before .before .before .good .1 .1 .1 .1 .0, begins-sum (begins-more (begins-more (begins-more (begins-more (begins-word (threeText false (c .before .before .before .before .before .before .before .before .before .before .before .before .before .before .before .before .before .before .before .before .before .before .before .before .before .args .z) false (c .before .before .before .before .before .before .before .before .before .before .before .before .before .before .before .before .before .before .before .before .before .before .before .before .before .args .x) true (c .before .before .before .before .before .before .before .before .before .before .before .before .before .before .before .before .before .before .before .before .before .before .before .before .before .args .y)) (c .before .before .before .before .before .before .before .before .before .before .before .before .before .before .before .before .before .before .before .before .before .before .put-three .kept .1 .1 .1 .1 .1 .1 .0) (c .before .before .before .before .before .before .before .before .before .before .before .before .before .before .before .before .before .before .before .before .before .before .put-three .ensures)) (threeText false (c .before .before .before .before .before .before .before .before .before .before .before .before .before .before .before .before .before .before .before .before .before .before .before .before .before .args .z) false (c .before .before .before .before .before .before .before .before .before .before .before .before .before .before .before .before .before .before .before .before .before .before .before .before .before .args .x) true (c .before .before .before .before .before .before .before .before .before .before .before .before .before .before .before .before .before .before .before .before .before .before .before .before .before .args .g)) (c .before .before .before .before .before .before .before .before .before .before .before .before .before .before .before .before .before .before .put-three2 .kept .1 .1 .1 .1 .1 .1 .0) (c .before .before .before .before .before .before .before .before .before .before .before .before .before .before .before .before .before .before .put-three2 .ensures)) (threeText false (c .before .before .before .before .before .before .before .before .before .before .before .before .before .before .before .before .before .before .before .before .before .before .before .before .before .args .z) true (c .before .before .before .before .before .before .before .before .before .before .before .before .before .before .before .before .before .before .before .before .before .before .before .before .before .args .y) true (c .before .before .before .before .before .before .before .before .before .before .before .before .before .before .before .before .before .before .before .before .before .before .before .before .before .args .g)) (c .before .before .before .before .before .before .before .before .before .before .before .before .before .before .put-three3 .kept .1 .1 .1 .1 .1 .1 .0) (c .before .before .before .before .before .before .before .before .before .before .before .before .before .before .put-three3 .ensures)) (threeText true (c .before .before .before .before .before .before .before .before .before .before .before .before .before .before .before .before .before .before .before .before .before .before .before .before .before .args .z) true (c .before .before .before .before .before .before .before .before .before .before .before .before .before .before .before .before .before .before .before .before .before .before .before .before .before .args .x) false (c .before .before .before .before .before .before .before .before .before .before .before .before .before .before .before .before .before .before .before .before .before .before .before .before .before .args .y)) (c .before .before .before .before .before .before .before .before .before .before .put-three4 .kept .1 .1 .1 .1 .1 .1 .0) (c .before .before .before .before .before .before .before .before .before .before .put-three4 .ensures)) (threeText true (c .before .before .before .before .before .before .before .before .before .before .before .before .before .before .before .before .before .before .before .before .before .before .before .before .before .args .z) true (c .before .before .before .before .before .before .before .before .before .before .before .before .before .before .before .before .before .before .before .before .before .before .before .before .before .args .x) false (c .before .before .before .before .before .before .before .before .before .before .before .before .before .before .before .before .before .before .before .before .before .before .before .before .before .args .g)) (c .before .before .before .before .before .before .put-three5 .kept .1 .1 .1 .1 .1 .1 .0) (c .before .before .before .before .before .before .put-three5 .ensures)) (threeText true (c .before .before .before .before .before .before .before .before .before .before .before .before .before .before .before .before .before .before .before .before .before .before .before .before .before .args .z) false (c .before .before .before .before .before .before .before .before .before .before .before .before .before .before .before .before .before .before .before .before .before .before .before .before .before .args .y) false (c .before .before .before .before .before .before .before .before .before .before .before .before .before .before .before .before .before .before .before .before .before .before .before .before .before .args .g)) (c .before .before .put-three6 .ensures .0) (c .before .before .before .before .before .before .before .before .before .before .before .before .before .before .before .before .before .before .before .before .before .before .before .before .before .pre))
+add-result : tie.Need-add-result
+add-result c = omega (arith, c .before .before .before .before .before .before .before .before .before .before .before .before .before .good .1 .1 .1 .1 .0, after-sum (c .before .before .before .before .before .before .put-half .ensures) (halfText (held (c .before .before .before .before .before .before .before .before .before .before .before .before .before .args .z)) (held (c .before .before .before .before .before .before .before .before .before .before .before .before .before .args .x)) (held (c .before .before .before .before .before .before .before .before .before .opposite3 .result)) (held (c .before .before .before .before .before .before .before .before .opposite4 .result))) (room-as (next-as (held (c .before .before .before .before .before .before .before .before .before .before .before .before .before .args .z)) (held (c .before .before .before .before .before .before .before .before .before .before .before .before .before .args .x)) (held (c .before .before .before .before .before .before .before .before .before .before .before .before .before .args .y)) (held (c .before .before .before .before .before .before .before .before .before .before .before .before .before .args .g)) (c .before .before .before .before .before .before .before .before .before .before .before .opposite .ensures .1) (c .before .before .before .before .before .before .before .before .before .before .opposite2 .ensures .1) (c .before .before .before .before .before .before .before .before .before .opposite3 .ensures .1) (c .before .before .before .before .before .before .before .before .opposite4 .ensures .1)) (c .before .before .before .before .before .before .before .before .before .before .before .before .before .pre .4)) (c .before .before .put-half2 .ensures .count))
 
 same-length : tie.Need-same-length
-unfolding nextText
-same-length c = (begins-more (begins-more (begins-more (begins-more (begins-more (begins-word (threeText false (c .before .before .before .before .before .before .before .before .before .before .before .before .before .before .before .before .before .before .before .before .before .before .before .before .before .args .z) false (c .before .before .before .before .before .before .before .before .before .before .before .before .before .before .before .before .before .before .before .before .before .before .before .before .before .args .x) true (c .before .before .before .before .before .before .before .before .before .before .before .before .before .before .before .before .before .before .before .before .before .before .before .before .before .args .y)) (c .before .before .before .before .before .before .before .before .before .before .before .before .before .before .before .before .before .before .before .before .before .before .put-three .kept .1 .1 .1 .1 .1 .1 .0) (c .before .before .before .before .before .before .before .before .before .before .before .before .before .before .before .before .before .before .before .before .before .before .put-three .ensures)) (threeText false (c .before .before .before .before .before .before .before .before .before .before .before .before .before .before .before .before .before .before .before .before .before .before .before .before .before .args .z) false (c .before .before .before .before .before .before .before .before .before .before .before .before .before .before .before .before .before .before .before .before .before .before .before .before .before .args .x) true (c .before .before .before .before .before .before .before .before .before .before .before .before .before .before .before .before .before .before .before .before .before .before .before .before .before .args .g)) (c .before .before .before .before .before .before .before .before .before .before .before .before .before .before .before .before .before .before .put-three2 .kept .1 .1 .1 .1 .1 .1 .0) (c .before .before .before .before .before .before .before .before .before .before .before .before .before .before .before .before .before .before .put-three2 .ensures)) (threeText false (c .before .before .before .before .before .before .before .before .before .before .before .before .before .before .before .before .before .before .before .before .before .before .before .before .before .args .z) true (c .before .before .before .before .before .before .before .before .before .before .before .before .before .before .before .before .before .before .before .before .before .before .before .before .before .args .y) true (c .before .before .before .before .before .before .before .before .before .before .before .before .before .before .before .before .before .before .before .before .before .before .before .before .before .args .g)) (c .before .before .before .before .before .before .before .before .before .before .before .before .before .before .put-three3 .kept .1 .1 .1 .1 .1 .1 .0) (c .before .before .before .before .before .before .before .before .before .before .before .before .before .before .put-three3 .ensures)) (threeText true (c .before .before .before .before .before .before .before .before .before .before .before .before .before .before .before .before .before .before .before .before .before .before .before .before .before .args .z) true (c .before .before .before .before .before .before .before .before .before .before .before .before .before .before .before .before .before .before .before .before .before .before .before .before .before .args .x) false (c .before .before .before .before .before .before .before .before .before .before .before .before .before .before .before .before .before .before .before .before .before .before .before .before .before .args .y)) (c .before .before .before .before .before .before .before .before .before .before .put-three4 .kept .1 .1 .1 .1 .1 .1 .0) (c .before .before .before .before .before .before .before .before .before .before .put-three4 .ensures)) (threeText true (c .before .before .before .before .before .before .before .before .before .before .before .before .before .before .before .before .before .before .before .before .before .before .before .before .before .args .z) true (c .before .before .before .before .before .before .before .before .before .before .before .before .before .before .before .before .before .before .before .before .before .before .before .before .before .args .x) false (c .before .before .before .before .before .before .before .before .before .before .before .before .before .before .before .before .before .before .before .before .before .before .before .before .before .args .g)) (c .before .before .before .before .before .before .put-three5 .kept .1 .1 .1 .1 .1 .1 .0) (c .before .before .before .before .before .before .put-three5 .ensures)) (threeText true (c .before .before .before .before .before .before .before .before .before .before .before .before .before .before .before .before .before .before .before .before .before .before .before .before .before .args .z) false (c .before .before .before .before .before .before .before .before .before .before .before .before .before .before .before .before .before .before .before .before .before .before .before .before .before .args .y) false (c .before .before .before .before .before .before .before .before .before .before .before .before .before .before .before .before .before .before .before .before .before .before .before .before .before .args .g)) (c .before .before .put-three6 .kept .1 .1 .1 .1 .1 .1 .0) (c .before .before .put-three6 .ensures)) .same
+same-length c = after-kept (c .before .before .before .before .before .before .put-half .ensures) (halfText (held (c .before .before .before .before .before .before .before .before .before .before .before .before .before .args .z)) (held (c .before .before .before .before .before .before .before .before .before .before .before .before .before .args .x)) (held (c .before .before .before .before .before .before .before .before .before .opposite3 .result)) (held (c .before .before .before .before .before .before .before .before .opposite4 .result))) (room-as (next-as (held (c .before .before .before .before .before .before .before .before .before .before .before .before .before .args .z)) (held (c .before .before .before .before .before .before .before .before .before .before .before .before .before .args .x)) (held (c .before .before .before .before .before .before .before .before .before .before .before .before .before .args .y)) (held (c .before .before .before .before .before .before .before .before .before .before .before .before .before .args .g)) (c .before .before .before .before .before .before .before .before .before .before .before .opposite .ensures .1) (c .before .before .before .before .before .before .before .before .before .before .opposite2 .ensures .1) (c .before .before .before .before .before .before .before .before .before .opposite3 .ensures .1) (c .before .before .before .before .before .before .before .before .opposite4 .ensures .1)) (c .before .before .before .before .before .before .before .before .before .before .before .before .before .pre .4)) (c .before .before .put-half2 .ensures)
 
 returns : tie.Need-returns
-unfolding nextText
-returns c = begins-whole (begins-more (begins-more (begins-more (begins-more (begins-more (begins-word (threeText false (c .before .before .before .before .before .before .before .before .before .before .before .before .before .before .before .before .before .before .before .before .before .before .before .before .before .args .z) false (c .before .before .before .before .before .before .before .before .before .before .before .before .before .before .before .before .before .before .before .before .before .before .before .before .before .args .x) true (c .before .before .before .before .before .before .before .before .before .before .before .before .before .before .before .before .before .before .before .before .before .before .before .before .before .args .y)) (c .before .before .before .before .before .before .before .before .before .before .before .before .before .before .before .before .before .before .before .before .before .before .put-three .kept .1 .1 .1 .1 .1 .1 .0) (c .before .before .before .before .before .before .before .before .before .before .before .before .before .before .before .before .before .before .before .before .before .before .put-three .ensures)) (threeText false (c .before .before .before .before .before .before .before .before .before .before .before .before .before .before .before .before .before .before .before .before .before .before .before .before .before .args .z) false (c .before .before .before .before .before .before .before .before .before .before .before .before .before .before .before .before .before .before .before .before .before .before .before .before .before .args .x) true (c .before .before .before .before .before .before .before .before .before .before .before .before .before .before .before .before .before .before .before .before .before .before .before .before .before .args .g)) (c .before .before .before .before .before .before .before .before .before .before .before .before .before .before .before .before .before .before .put-three2 .kept .1 .1 .1 .1 .1 .1 .0) (c .before .before .before .before .before .before .before .before .before .before .before .before .before .before .before .before .before .before .put-three2 .ensures)) (threeText false (c .before .before .before .before .before .before .before .before .before .before .before .before .before .before .before .before .before .before .before .before .before .before .before .before .before .args .z) true (c .before .before .before .before .before .before .before .before .before .before .before .before .before .before .before .before .before .before .before .before .before .before .before .before .before .args .y) true (c .before .before .before .before .before .before .before .before .before .before .before .before .before .before .before .before .before .before .before .before .before .before .before .before .before .args .g)) (c .before .before .before .before .before .before .before .before .before .before .before .before .before .before .put-three3 .kept .1 .1 .1 .1 .1 .1 .0) (c .before .before .before .before .before .before .before .before .before .before .before .before .before .before .put-three3 .ensures)) (threeText true (c .before .before .before .before .before .before .before .before .before .before .before .before .before .before .before .before .before .before .before .before .before .before .before .before .before .args .z) true (c .before .before .before .before .before .before .before .before .before .before .before .before .before .before .before .before .before .before .before .before .before .before .before .before .before .args .x) false (c .before .before .before .before .before .before .before .before .before .before .before .before .before .before .before .before .before .before .before .before .before .before .before .before .before .args .y)) (c .before .before .before .before .before .before .before .before .before .before .put-three4 .kept .1 .1 .1 .1 .1 .1 .0) (c .before .before .before .before .before .before .before .before .before .before .put-three4 .ensures)) (threeText true (c .before .before .before .before .before .before .before .before .before .before .before .before .before .before .before .before .before .before .before .before .before .before .before .before .before .args .z) true (c .before .before .before .before .before .before .before .before .before .before .before .before .before .before .before .before .before .before .before .before .before .before .before .before .before .args .x) false (c .before .before .before .before .before .before .before .before .before .before .before .before .before .before .before .before .before .before .before .before .before .before .before .before .before .args .g)) (c .before .before .before .before .before .before .put-three5 .kept .1 .1 .1 .1 .1 .1 .0) (c .before .before .before .before .before .before .put-three5 .ensures)) (threeText true (c .before .before .before .before .before .before .before .before .before .before .before .before .before .before .before .before .before .before .before .before .before .before .before .before .before .args .z) false (c .before .before .before .before .before .before .before .before .before .before .before .before .before .before .before .before .before .before .before .before .before .before .before .before .before .args .y) false (c .before .before .before .before .before .before .before .before .before .before .before .before .before .before .before .before .before .before .before .before .before .before .before .before .before .args .g)) (c .before .before .put-three6 .kept .1 .1 .1 .1 .1 .1 .0) (c .before .before .put-three6 .ensures))
+returns c = wrote-as (next-as (held (c .before .before .before .before .before .before .before .before .before .before .before .before .before .args .z)) (held (c .before .before .before .before .before .before .before .before .before .before .before .before .before .args .x)) (held (c .before .before .before .before .before .before .before .before .before .before .before .before .before .args .y)) (held (c .before .before .before .before .before .before .before .before .before .before .before .before .before .args .g)) (c .before .before .before .before .before .before .before .before .before .before .before .opposite .ensures .1) (c .before .before .before .before .before .before .before .before .before .before .opposite2 .ensures .1) (c .before .before .before .before .before .before .before .before .before .opposite3 .ensures .1) (c .before .before .before .before .before .before .before .before .opposite4 .ensures .1)) (wrote-after (c .before .before .before .before .before .before .put-half .ensures) (halfText (held (c .before .before .before .before .before .before .before .before .before .before .before .before .before .args .z)) (held (c .before .before .before .before .before .before .before .before .before .before .before .before .before .args .x)) (held (c .before .before .before .before .before .before .before .before .before .opposite3 .result)) (held (c .before .before .before .before .before .before .before .before .opposite4 .result))) (c .before .before .put-half2 .ensures))
 
 pub put-next-bit-spec : {M : Type 1} → statement M
 put-next-bit-spec =
     tie.close
     (tie.spec
-    put-three-requires
-    sub-put-three
-    part-put-three-start
-    part-put-three-end
-    put-three-requires-2
-    add-at
-    sub-put-three-2
-    part-put-three-start-2
-    part-put-three-end-2
-    put-three-requires-3
-    add-at-2
-    sub-put-three-3
-    part-put-three-start-3
-    part-put-three-end-3
-    put-three-requires-4
-    add-at-3
-    sub-put-three-4
-    part-put-three-start-4
-    part-put-three-end-4
-    put-three-requires-5
-    add-at-4
-    sub-put-three-5
-    part-put-three-start-5
-    part-put-three-end-5
-    put-three-requires-6
-    add-at-5
+    opposite-requires
+    opposite-requires-2
+    opposite-requires-3
+    opposite-requires-4
+    put-half-requires
+    sub-put-half
+    part-put-half-start
+    part-put-half-end
+    put-half-requires-2
+    add-result
     same-length
     returns)

@@ -1,64 +1,45 @@
-use Rattle.clause_blocks.specs.Texts.{signText}
+use Rattle.clause_blocks.proofs.Numerals.{line-cons}
+use Rattle.clause_blocks.specs.Numerals.{held}
+use Rattle.digits.proofs.Wrote.{room-as, room-front, wrote-as, wrote-after, after-start, after-room, after-sum, after-kept}
+use Rattle.digits.specs.Bytes.{literalText, lineText}
 use mathlib.Core.List.{[], _∷_, _++_}
-use native.Mathlib.Omega.{arith}
-use Rattle.digits.proofs.Begins.{begins-word, begins-more, begins-room, begins-tail, begins-sum, begins-whole, front-fits}
 use borrow.Author.Needs.{needs}
 use Rattle.clause_blocks.proofs.put_two.Statement.{statement}
 use Rattle.clause_blocks.proofs.put_two.Tie as tie
 
-put-sign-requires : tie.Need-put-sign-requires
-put-sign-requires c κs = (front-fits (signText (c .before .before .args .p) (c .before .before .args .x)) (signText (c .before .before .args .q) (c .before .before .args .y)) (front-fits ((signText (c .before .before .args .p) (c .before .before .args .x)) ++ (signText (c .before .before .args .q) (c .before .before .args .y))) (48 ∷ 10 ∷ []) (c .before .before .pre)))
+put-numeral-requires : tie.Need-put-numeral-requires
+put-numeral-requires c κs = (c .before .before .pre .0, room-front (literalText (c .before .before .args .x .literal) ++ (32 ∷ [])) (lineText (held (c .before .before .args .y) ∷ [])) (room-as (line-cons (c .before .before .args .x) (held (c .before .before .args .y) ∷ [])) (c .before .before .pre .2)))
 
-sub-put-sign : tie.Need-sub-put-sign
-sub-put-sign c = begins-room (begins-word (signText (c .before .before .before .before .before .args .p) (c .before .before .before .before .before .args .x)) (c .before .before .put-sign .kept .1 .1 .0) (c .before .before .put-sign .ensures)) (signText (c .before .before .before .before .before .args .q) (c .before .before .before .before .before .args .y)) (front-fits ((signText (c .before .before .before .before .before .args .p) (c .before .before .before .before .before .args .x)) ++ (signText (c .before .before .before .before .before .args .q) (c .before .before .before .before .before .args .y))) (48 ∷ 10 ∷ []) (c .before .before .before .before .before .pre))
+sub-put-one : tie.Need-sub-put-one
+sub-put-one c = after-start (c .before .before .put-numeral .ensures) (lineText (held (c .before .before .before .before .before .args .y) ∷ [])) (room-as (line-cons (c .before .before .before .before .before .args .x) (held (c .before .before .before .before .before .args .y) ∷ [])) (c .before .before .before .before .before .pre .2))
 
-part-put-sign-start : tie.Need-part-put-sign-start
-part-put-sign-start c = begins-room (begins-word (signText (c .before .before .before .before .before .args .p) (c .before .before .before .before .before .args .x)) (c .before .before .put-sign .kept .1 .1 .0) (c .before .before .put-sign .ensures)) (signText (c .before .before .before .before .before .args .q) (c .before .before .before .before .before .args .y)) (front-fits ((signText (c .before .before .before .before .before .args .p) (c .before .before .before .before .before .args .x)) ++ (signText (c .before .before .before .before .before .args .q) (c .before .before .before .before .before .args .y))) (48 ∷ 10 ∷ []) (c .before .before .before .before .before .pre))
+part-put-one-start : tie.Need-part-put-one-start
+part-put-one-start c = after-start (c .before .before .put-numeral .ensures) (lineText (held (c .before .before .before .before .before .args .y) ∷ [])) (room-as (line-cons (c .before .before .before .before .before .args .x) (held (c .before .before .before .before .before .args .y) ∷ [])) (c .before .before .before .before .before .pre .2))
 
-part-put-sign-end : tie.Need-part-put-sign-end
-part-put-sign-end c = search needs
+part-put-one-end : tie.Need-part-put-one-end
+part-put-one-end c = search needs
 
-put-sign-requires-2 : tie.Need-put-sign-requires-2
-put-sign-requires-2 c κs = begins-tail (begins-word (signText (c .before .before .before .before .before .before .args .p) (c .before .before .before .before .before .before .args .x)) (c .before .before .before .put-sign .kept .1 .1 .0) (c .before .before .before .put-sign .ensures)) (signText (c .before .before .before .before .before .before .args .q) (c .before .before .before .before .before .before .args .y)) (front-fits ((signText (c .before .before .before .before .before .before .args .p) (c .before .before .before .before .before .before .args .x)) ++ (signText (c .before .before .before .before .before .before .args .q) (c .before .before .before .before .before .before .args .y))) (48 ∷ 10 ∷ []) (c .before .before .before .before .before .before .pre))
+put-one-requires : tie.Need-put-one-requires
+put-one-requires c κs = (c .before .before .before .before .before .before .pre .1, after-room (c .before .before .before .put-numeral .ensures) (lineText (held (c .before .before .before .before .before .before .args .y) ∷ [])) (room-as (line-cons (c .before .before .before .before .before .before .args .x) (held (c .before .before .before .before .before .before .args .y) ∷ [])) (c .before .before .before .before .before .before .pre .2)))
 
-add-at : tie.Need-add-at
-add-at c = omega (arith, c .before .before .before .before .before .before .before .before .before .good .1 .1 .1 .1 .0, begins-sum (begins-word (signText (c .before .before .before .before .before .before .before .before .before .args .p) (c .before .before .before .before .before .before .before .before .before .args .x)) (c .before .before .before .before .before .before .put-sign .kept .1 .1 .0) (c .before .before .before .before .before .before .put-sign .ensures)) (signText (c .before .before .before .before .before .before .before .before .before .args .q) (c .before .before .before .before .before .before .before .before .before .args .y)) (c .before .before .put-sign2 .ensures .0) (front-fits ((signText (c .before .before .before .before .before .before .before .before .before .args .p) (c .before .before .before .before .before .before .before .before .before .args .x)) ++ (signText (c .before .before .before .before .before .before .before .before .before .args .q) (c .before .before .before .before .before .before .before .before .before .args .y))) (48 ∷ 10 ∷ []) (c .before .before .before .before .before .before .before .before .before .pre)))
-
-sub-put-end : tie.Need-sub-put-end
-sub-put-end c = begins-room (begins-more (begins-word (signText (c .before .before .before .before .before .before .before .before .before .args .p) (c .before .before .before .before .before .before .before .before .before .args .x)) (c .before .before .before .before .before .before .put-sign .kept .1 .1 .0) (c .before .before .before .before .before .before .put-sign .ensures)) (signText (c .before .before .before .before .before .before .before .before .before .args .q) (c .before .before .before .before .before .before .before .before .before .args .y)) (c .before .before .put-sign2 .kept .1 .1 .0) (c .before .before .put-sign2 .ensures)) (48 ∷ 10 ∷ []) (c .before .before .before .before .before .before .before .before .before .pre)
-
-part-put-end-start : tie.Need-part-put-end-start
-part-put-end-start c = begins-room (begins-more (begins-word (signText (c .before .before .before .before .before .before .before .before .before .args .p) (c .before .before .before .before .before .before .before .before .before .args .x)) (c .before .before .before .before .before .before .put-sign .kept .1 .1 .0) (c .before .before .before .before .before .before .put-sign .ensures)) (signText (c .before .before .before .before .before .before .before .before .before .args .q) (c .before .before .before .before .before .before .before .before .before .args .y)) (c .before .before .put-sign2 .kept .1 .1 .0) (c .before .before .put-sign2 .ensures)) (48 ∷ 10 ∷ []) (c .before .before .before .before .before .before .before .before .before .pre)
-
-part-put-end-end : tie.Need-part-put-end-end
-part-put-end-end c = search needs
-
-put-end-requires : tie.Need-put-end-requires
-put-end-requires c κs = begins-tail (begins-more (begins-word (signText (c .before .before .before .before .before .before .before .before .before .before .args .p) (c .before .before .before .before .before .before .before .before .before .before .args .x)) (c .before .before .before .before .before .before .before .put-sign .kept .1 .1 .0) (c .before .before .before .before .before .before .before .put-sign .ensures)) (signText (c .before .before .before .before .before .before .before .before .before .before .args .q) (c .before .before .before .before .before .before .before .before .before .before .args .y)) (c .before .before .before .put-sign2 .kept .1 .1 .0) (c .before .before .before .put-sign2 .ensures)) (48 ∷ 10 ∷ []) (c .before .before .before .before .before .before .before .before .before .before .pre)
-
-add-at-2 : tie.Need-add-at-2
-add-at-2 c = omega (arith, c .before .before .before .before .before .before .before .before .before .before .before .before .before .good .1 .1 .1 .1 .0, begins-sum (begins-more (begins-word (signText (c .before .before .before .before .before .before .before .before .before .before .before .before .before .args .p) (c .before .before .before .before .before .before .before .before .before .before .before .before .before .args .x)) (c .before .before .before .before .before .before .before .before .before .before .put-sign .kept .1 .1 .0) (c .before .before .before .before .before .before .before .before .before .before .put-sign .ensures)) (signText (c .before .before .before .before .before .before .before .before .before .before .before .before .before .args .q) (c .before .before .before .before .before .before .before .before .before .before .before .before .before .args .y)) (c .before .before .before .before .before .before .put-sign2 .kept .1 .1 .0) (c .before .before .before .before .before .before .put-sign2 .ensures)) (48 ∷ 10 ∷ []) (c .before .before .put-end .ensures .0) (c .before .before .before .before .before .before .before .before .before .before .before .before .before .pre))
+add-result : tie.Need-add-result
+add-result c = search (needs, after-sum (c .before .before .before .before .before .before .put-numeral .ensures) (lineText (held (c .before .before .before .before .before .before .before .before .before .args .y) ∷ [])) (room-as (line-cons (c .before .before .before .before .before .before .before .before .before .args .x) (held (c .before .before .before .before .before .before .before .before .before .args .y) ∷ [])) (c .before .before .before .before .before .before .before .before .before .pre .2)) (c .before .before .put-one .ensures .count))
 
 same-length : tie.Need-same-length
-same-length c = (begins-more (begins-more (begins-word (signText (c .before .before .before .before .before .before .before .before .before .before .before .before .before .args .p) (c .before .before .before .before .before .before .before .before .before .before .before .before .before .args .x)) (c .before .before .before .before .before .before .before .before .before .before .put-sign .kept .1 .1 .0) (c .before .before .before .before .before .before .before .before .before .before .put-sign .ensures)) (signText (c .before .before .before .before .before .before .before .before .before .before .before .before .before .args .q) (c .before .before .before .before .before .before .before .before .before .before .before .before .before .args .y)) (c .before .before .before .before .before .before .put-sign2 .kept .1 .1 .0) (c .before .before .before .before .before .before .put-sign2 .ensures)) (48 ∷ 10 ∷ []) (c .before .before .put-end .kept .0) (c .before .before .put-end .ensures)) .same
+same-length c = after-kept (c .before .before .before .before .before .before .put-numeral .ensures) (lineText (held (c .before .before .before .before .before .before .before .before .before .args .y) ∷ [])) (room-as (line-cons (c .before .before .before .before .before .before .before .before .before .args .x) (held (c .before .before .before .before .before .before .before .before .before .args .y) ∷ [])) (c .before .before .before .before .before .before .before .before .before .pre .2)) (c .before .before .put-one .ensures)
 
 returns : tie.Need-returns
-returns c = begins-whole (begins-more (begins-more (begins-word (signText (c .before .before .before .before .before .before .before .before .before .before .before .before .before .args .p) (c .before .before .before .before .before .before .before .before .before .before .before .before .before .args .x)) (c .before .before .before .before .before .before .before .before .before .before .put-sign .kept .1 .1 .0) (c .before .before .before .before .before .before .before .before .before .before .put-sign .ensures)) (signText (c .before .before .before .before .before .before .before .before .before .before .before .before .before .args .q) (c .before .before .before .before .before .before .before .before .before .before .before .before .before .args .y)) (c .before .before .before .before .before .before .put-sign2 .kept .1 .1 .0) (c .before .before .before .before .before .before .put-sign2 .ensures)) (48 ∷ 10 ∷ []) (c .before .before .put-end .kept .0) (c .before .before .put-end .ensures))
+returns c = wrote-as (line-cons (c .before .before .before .before .before .before .before .before .before .args .x) (held (c .before .before .before .before .before .before .before .before .before .args .y) ∷ [])) (wrote-after (c .before .before .before .before .before .before .put-numeral .ensures) (lineText (held (c .before .before .before .before .before .before .before .before .before .args .y) ∷ [])) (c .before .before .put-one .ensures))
 
 pub put-two-spec : {M : Type 1} → statement M
 put-two-spec =
     tie.close
     (tie.spec
-    put-sign-requires
-    sub-put-sign
-    part-put-sign-start
-    part-put-sign-end
-    put-sign-requires-2
-    add-at
-    sub-put-end
-    part-put-end-start
-    part-put-end-end
-    put-end-requires
-    add-at-2
+    put-numeral-requires
+    sub-put-one
+    part-put-one-start
+    part-put-one-end
+    put-one-requires
+    add-result
     same-length
     returns)

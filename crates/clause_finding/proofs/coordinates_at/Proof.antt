@@ -1,5 +1,6 @@
 use borrow.Author.Needs.{needs}
-use Rattle.clause_finding.proofs.Coded.{sizes-in, blocks-left, items-left, coordinates-is}
+use Rattle.clause_finding.proofs.Coded.{blocks-left, items-left, coordinates-is}
+use Rattle.clause_counts.proofs.Sized.{sizes-in}
 use Rattle.clause_table_laws.proofs.Cells.{told}
 use Rattle.clause_finding.proofs.coordinates_at.Statement.{statement}
 use Rattle.clause_finding.proofs.coordinates_at.Tie as tie

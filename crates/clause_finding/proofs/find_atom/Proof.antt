@@ -1,13 +1,14 @@
 use borrow.Author.Needs.{needs}
-use Prim.Native.Nat.{_-_}
-use native.Mathlib.Omega.{arith}
-use Rattle.clause_tables.specs.Tables.{codeIn}
-use Rattle.clause_walk.specs.Walk.{itemCount}
-use Rattle.clause_finding.specs.Falls.{Between}
-use Rattle.clause_finding.specs.Sizes.{itemSize}
-use Rattle.clause_finding.proofs.Falling.{between-low, between-high, falls-between}
-use Rattle.clause_finding.proofs.Coded.{sizes-in, atoms-before, atoms-all, atoms-fit}
 use Rattle.clause_table_laws.proofs.Cells.{told}
+use Rattle.clause_counts.proofs.Sized.{sizes-in}
+use Rattle.clause_finding.proofs.Coded.{atoms-before, atoms-all, atoms-fit}
+use Rattle.clause_finding.proofs.Falling.{between-low, between-high, falls-between}
+use Rattle.clause_counts.specs.Counts.{itemSize}
+use Rattle.clause_finding.specs.Falls.{Between}
+use Rattle.clause_walk.specs.Walk.{itemCount}
+use Rattle.clause_tables.specs.Tables.{codeIn}
+use native.Mathlib.Omega.{arith}
+use Prim.Native.Nat.{_-_}
 use Rattle.clause_finding.proofs.find_atom.Statement.{statement}
 use Rattle.clause_finding.proofs.find_atom.Tie as tie
 
@@ -47,8 +48,8 @@ loop-again-2 c = between-low (c .before .before .before .loop .inv) (omega (arit
 atoms-size-requires-2 : tie.Need-atoms-size-requires-2 Inv-loop μ-loop
 atoms-size-requires-2 c κs = (c .before .before .before .before .pre .0, sizes-in (told (c .before .before .before .before .pre .0) (c .before .before .totals .ensures)) .rules)
 
-sub-t11 : tie.Need-sub-t11 Inv-loop μ-loop
-sub-t11 c = omega (arith, c .before .before .loop .inv .low, atoms-before (told (c .before .before .before .before .before .pre .0) (c .before .before .before .totals .ensures)) (c .before .before .loop .low) (c .atoms-size2 .ensures))
+sub-t13 : tie.Need-sub-t13 Inv-loop μ-loop
+sub-t13 c = omega (arith, c .before .before .loop .inv .low, atoms-before (told (c .before .before .before .before .before .pre .0) (c .before .before .before .totals .ensures)) (c .before .before .loop .low) (c .atoms-size2 .ensures))
 
 returns : tie.Need-returns Inv-loop μ-loop
 returns c = falls-between (c .before .before .loop .inv) (c .before .loop-test .left) (atoms-before (told (c .before .before .before .before .before .pre .0) (c .before .before .before .totals .ensures)) _ (c .atoms-size2 .ensures))
@@ -69,5 +70,5 @@ find-atom-spec =
     loop-less-2
     loop-again-2
     atoms-size-requires-2
-    sub-t11
+    sub-t13
     returns)

@@ -5,7 +5,8 @@ use Rattle.clause_tables.specs.Tables.{codeIn}
 use Rattle.clause_walk.specs.Walk.{blockCount, size}
 use Rattle.clause_finding.specs.Falls.{Passed}
 use Rattle.clause_finding.proofs.Falling.{passed-first, passed-on, falls-here, falls-last}
-use Rattle.clause_finding.proofs.Coded.{sizes-in, block-here, block-below, blocks-end}
+use Rattle.clause_finding.proofs.Coded.{block-here, block-below, blocks-end}
+use Rattle.clause_counts.proofs.Sized.{sizes-in}
 use Rattle.clause_table_laws.proofs.Cells.{told}
 use Rattle.clause_finding.proofs.find_block.Statement.{statement}
 use Rattle.clause_finding.proofs.find_block.Tie as tie

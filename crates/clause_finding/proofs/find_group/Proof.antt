@@ -3,7 +3,7 @@ use native.Mathlib.Omega.{arith}
 use borrow.Author.Needs.{needs}
 use Rattle.clause_tables.specs.Tables.{codeIn}
 use Rattle.clause_finding.specs.Falls.{Passed}
-use Rattle.clause_finding.specs.Sizes.{groupSize}
+use Rattle.clause_counts.specs.Counts.{groupSize}
 use Rattle.clause_finding.proofs.Falling.{passed-first, passed-on, falls-here, falls-last, falls-more}
 use Rattle.clause_finding.proofs.Coded.{last-in, in-last, before-last}
 use Rattle.clause_table_laws.proofs.Cells.{told}

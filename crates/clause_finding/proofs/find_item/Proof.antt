@@ -1,7 +1,8 @@
 use borrow.Author.Needs.{needs}
 use native.Mathlib.Omega.{arith}
 use mathlib.Core.Path.{sym, _∙_}
-use Rattle.clause_finding.proofs.Coded.{width-asks, even-some, even-fits, item-even, left-2, falls-2}
+use Rattle.clause_finding.proofs.Coded.{even-some, even-fits, item-even, left-2, falls-2}
+use Rattle.clause_counts.proofs.Sized.{width-asks}
 use Rattle.clause_table_laws.proofs.Cells.{told}
 use Rattle.clause_finding.proofs.find_item.Statement.{statement}
 use Rattle.clause_finding.proofs.find_item.Tie as tie

@@ -3,7 +3,7 @@ use borrow.Author.Needs.{needs}
 use Rattle.clause_tables.specs.Tables.{codeIn}
 use Rattle.clause_walk.specs.Walk.{itemCount}
 use Rattle.clause_finding.specs.Falls.{Passed}
-use Rattle.clause_finding.specs.Sizes.{itemSize}
+use Rattle.clause_counts.specs.Counts.{itemSize}
 use Rattle.clause_finding.proofs.Falling.{passed-first, passed-on, falls-here, falls-last}
 use Rattle.clause_finding.proofs.Coded.{item-here, item-below, items-end, rule-size}
 use Rattle.clause_table_laws.proofs.Cells.{told}

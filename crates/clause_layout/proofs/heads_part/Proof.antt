@@ -1,28 +1,27 @@
-use Rattle.clause_tables.specs.Tables.{headsIn}
 use denote.Ref.{now}
-use Prim.Native.Nat.{ℕ, _+_}
+use Prim.Native.Nat.{ℕ}
 use mathlib.Core.List.{List}
-use mathlib.Core.Path.{_∙_, ap}
-use Rattle.clause_layout.proofs.Parts.{front-fits, front-slots}
+use mathlib.Core.Path.{sym, ap}
+use Rattle.clause_layout.proofs.Groups.{held-in}
+use Rattle.clause_heads.proofs.NextHeads.{front-fits, front-slots}
 use Rattle.clause_walk.specs.Walk.{ofHead}
-use Rattle.clause_slots.specs.Signed.{slotLiteral}
+use Rattle.clause_slots.specs.SlotNumber.{ruleVar}
+use Rattle.clause_literals.specs.Sizes.{sizesOf}
 use Rattle.clause_table_laws.proofs.Elements.{heads-length}
 use Rattle.clause_table_laws.proofs.Cells.{arrays}
+use Rattle.clause_tables.specs.Tables.{headsIn}
 use borrow.Author.Needs.{needs}
 use Rattle.clause_layout.proofs.heads_part.Statement.{statement}
 use Rattle.clause_layout.proofs.heads_part.Tie as tie
 
--- src/lib.rt:103:15
 heads-requires : tie.Need-heads-requires
 heads-requires c κs = search needs
 
--- src/lib.rt:103:5
 head-slot-requires : tie.Need-head-slot-requires
-head-slot-requires c κs = (c .before .before .pre .1, front-fits (headsIn (now (c .before .before .args .table))) (heads-length _ _ _ _ _ _ _ _ (arrays (c .before .before .pre .0))) (c .before .before .args .m) (c .heads .ensures) (c .before .before .pre .2), c .before .before .pre .3, front-slots (headsIn (now (c .before .before .args .table))) (heads-length _ _ _ _ _ _ _ _ (arrays (c .before .before .pre .0))) (c .before .before .args .m) (c .heads .ensures) (c .before .before .pre .2) (c .before .before .args .l) (c .before .before .pre .4))
+head-slot-requires c κs = let a = c .before .before .args in let p = c .before .before .pre in (p .1, front-fits (headsIn (now (a .table))) (heads-length _ _ _ _ _ _ _ _ (arrays (p .0))) (a .s .m) (c .heads .ensures) (p .1 .rules), p .2, front-slots (headsIn (now (a .table))) (heads-length _ _ _ _ _ _ _ _ (arrays (p .0))) (a .s .m) (c .heads .ensures) (p .1 .rules) (a .l) (p .3))
 
--- src/lib.rt:99:1
 returns : tie.Need-returns
-returns c = c .head-slot .ensures ∙ ap (λ (hs : List ℕ). slotLiteral (ofHead hs (c .before .before .before .args .a .0) (λ r. c .before .before .before .args .base + r) (c .before .before .before .args .l))) (c .before .heads .ensures)
+returns c = let a = c .before .before .before .args in held-in (sym (ap (λ (hs : List ℕ). ofHead hs (a .a .0) (ruleVar (sizesOf (a .s)) (a .founds)) (a .l)) (c .before .heads .ensures))) (c .head-slot .ok) (c .head-slot .ensures)
 
 pub heads-part-spec : {M : Type 1} → statement M
 heads-part-spec = tie.close (tie.spec heads-requires head-slot-requires returns)

@@ -26,16 +26,16 @@ mul-t10 : tie.Need-mul-t10
 mul-t10 c = search needs
 
 mul-t11 : tie.Need-mul-t11
-mul-t11 c = omega (arith, pair-fits (c .before .before .before .before .before .args .s) (c .before .before .before .before .before .pre .0) (c .before .before .before .before .before .args .k) (c .before .before .before .before .before .pre .2))
+mul-t11 c = omega (arith, pair-fits (c .before .before .before .before .before .before .args .s) (c .before .before .before .before .before .before .pre .0) (c .before .before .before .before .before .before .args .k .0) (c .before .before .before .before .before .before .pre .2))
 
 add-t12 : tie.Need-add-t12
-add-t12 c = omega (arith, c .before .before .before .before .before .pre .0 .atoms, c .before .before .before .before .before .pre .0 .rules, twice-atoms-fit (c .before .before .before .before .before .args .s) (c .before .before .before .before .before .pre .0), pair-fits (c .before .before .before .before .before .args .s) (c .before .before .before .before .before .pre .0) (c .before .before .before .before .before .args .k) (c .before .before .before .before .before .pre .2))
+add-t12 c = omega (arith, c .before .before .before .before .before .before .pre .0 .atoms, c .before .before .before .before .before .before .pre .0 .rules, twice-atoms-fit (c .before .before .before .before .before .before .args .s) (c .before .before .before .before .before .before .pre .0), pair-fits (c .before .before .before .before .before .before .args .s) (c .before .before .before .before .before .before .pre .0) (c .before .before .before .before .before .before .args .k .0) (c .before .before .before .before .before .before .pre .2))
 
 add-t13 : tie.Need-add-t13
-add-t13 c = omega (arith, c .before .before .before .before .before .pre .0 .atoms, c .before .before .before .before .before .pre .0 .rules, c .before .before .before .before .before .pre .3, twice-atoms-fit (c .before .before .before .before .before .args .s) (c .before .before .before .before .before .pre .0), pair-fits (c .before .before .before .before .before .args .s) (c .before .before .before .before .before .pre .0) (c .before .before .before .before .before .args .k) (c .before .before .before .before .before .pre .2))
+add-t13 c = omega (arith, c .before .before .before .before .before .before .pre .0 .atoms, c .before .before .before .before .before .before .pre .0 .rules, c .before .before .before .before .before .before .pre .3, twice-atoms-fit (c .before .before .before .before .before .before .args .s) (c .before .before .before .before .before .before .pre .0), pair-fits (c .before .before .before .before .before .before .args .s) (c .before .before .before .before .before .before .pre .0) (c .before .before .before .before .before .before .args .k .0) (c .before .before .before .before .before .before .pre .2))
 
 returns : tie.Need-returns
-returns c = below-number (c .before .before .before .before .before .args .s) (c .before .before .before .before .before .args .k) (c .before .before .before .before .before .args .i)
+returns c = below-number (c .before .before .before .before .before .before .args .s) (c .before .before .before .before .before .before .args .k .0) (c .before .before .before .before .before .before .args .i)
 
 pub below-var-spec : {M : Type 1} → statement M
 below-var-spec =

@@ -1,7 +1,7 @@
 use borrow.Author.Needs.{needs}
-use Rattle.clause_layout.proofs.Parts.{front-fits}
-use Rattle.clause_layout.proofs.Heads.{next-in}
-use Rattle.clause_layout.specs.Numbers.{nextHead}
+use Rattle.clause_heads.proofs.NextHeads.{front-fits}
+use Rattle.clause_heads.proofs.NextHeads.{next-in}
+use Rattle.clause_heads.specs.NextHead.{nextHead}
 use Rattle.clause_places.proofs.HeadBlock.{head-block-is}
 use denote.Ref.{now}
 use Prim.Native.Nat.{ℕ}

@@ -1,6 +1,5 @@
-use Rattle.clause_slots.proofs.Picks.{two-is}
 use Rattle.encoding.specs.Literal.{var, −_}
-use mathlib.Core.Path.{_∙_, ap}
+use Rattle.clause_literals.proofs.Signed.{named, two-of}
 use borrow.Author.Needs.{needs}
 use Rattle.clause_slots.proofs.zero_slot.Statement.{statement}
 use Rattle.clause_slots.proofs.zero_slot.Tie as tie
@@ -8,22 +7,28 @@ use Rattle.clause_slots.proofs.zero_slot.Tie as tie
 atom-var-requires : tie.Need-atom-var-requires
 atom-var-requires c κs = search needs
 
-yes-requires : tie.Need-yes-requires
-yes-requires c κs = search needs
+literal-requires : tie.Need-literal-requires
+literal-requires c κs = search needs
 
 level-var-requires : tie.Need-level-var-requires
 level-var-requires c κs = search needs
 
-no-requires : tie.Need-no-requires
-no-requires c κs = search needs
+negated-requires : tie.Need-negated-requires
+negated-requires c κs = search needs
 
-two-requires : tie.Need-two-requires
-two-requires c κs = search needs
+of-two-requires : tie.Need-of-two-requires
+of-two-requires c κs = search needs
 
 returns : tie.Need-returns
-returns c = c .two .ensures ∙ two-is (c .before .before .before .before .before .args .l) (c .before .before .before .yes .ensures ∙ ap var (c .before .before .before .before .atom-var .ensures)) (c .before .no .ensures ∙ ap −_ (c .before .before .level-var .ensures))
+returns c = two-of (c .before .before .before .before .before .args .l) (c .of-two .ok) (c .of-two .ensures) (named var (c .before .before .before .literal .ok) (c .before .before .before .literal .ensures) (c .before .before .before .before .atom-var .ensures)) (named −_ (c .before .negated .ok) (c .before .negated .ensures) (c .before .before .level-var .ensures))
 
 pub zero-slot-spec : {M : Type 1} → statement M
 zero-slot-spec =
     tie.close
-    (tie.spec atom-var-requires yes-requires level-var-requires no-requires two-requires returns)
+    (tie.spec
+    atom-var-requires
+    literal-requires
+    level-var-requires
+    negated-requires
+    of-two-requires
+    returns)

@@ -1,20 +1,27 @@
-use Prim.Native.Nat.{_-_, _≤_}
+use Prim.Native.Nat.{ℕ, _-_, _≤_}
 use mathlib.Core.Path.{_≡_, sym, _∙_}
-use lib.ListN.{length}
+use mathlib.Core.List.{List}
 use native.Mathlib.Omega.{arith}
 use borrow.Author.Needs.{needs}
-use Rattle.program.specs.Arrays.{decoded}
+use Rattle.clause_tabling.specs.Stages.{arraysOf}
+use Rattle.clause_tables.specs.Tables.{Stored}
 use Rattle.clause_tabling.proofs.Held.{rules-many}
 use Rattle.clause_tabling.proofs.Totals.{counts-bounded, totals-made}
 use Rattle.clause_tabling.proofs.Sums.{Summed, summed-start, starts-fit, count-fits, empty-fits, summed-next, summed-end}
 use Rattle.clause_tabling.proofs.totals_of.Statement.{statement}
 use Rattle.clause_tabling.proofs.totals_of.Tie as tie
+use Rattle.clause_tabling.proofs.totals_of.Reads as reads
+use Rattle.clause_tabling.proofs.totals_of.Lts as lts
+use Rattle.clause_tabling.proofs.counts.Reads as counts-reads
+use Rattle.clause_tabling.proofs.size_at.Reads as size-at-reads
+use Rattle.clause_tabling.proofs.when_none.Reads as when-none-reads
+use Rattle.numbers.proofs.wide.Reads as wide-reads
 
 abbrev Inv-loop : tie.InvT-loop
-Inv-loop p m count₀ empty₀ r₀ count empty r = (r ≤ m) × (m ≡ length (decoded p .rules)) × Summed p r count empty
+Inv-loop n m held starts rules count₀ empty₀ r₀ count empty r = (r ≤ rules) × (rules ≡ m) × ((hs bs : List ℕ) → Stored (arraysOf n m held hs starts bs) → Summed (arraysOf n m held hs starts bs) r count empty)
 
 abbrev μ-loop : tie.MeasureT-loop
-μ-loop p m count₀ empty₀ r₀ count empty r = m - r
+μ-loop n m held starts rules count₀ empty₀ r₀ count empty r = rules - r
 
 -- src/lib.rt:186:9
 wide-requires : tie.Need-wide-requires Inv-loop μ-loop
@@ -22,11 +29,11 @@ wide-requires c κs = search needs
 
 -- src/lib.rt:190:5
 loop-holds : tie.Need-loop-holds Inv-loop μ-loop
-loop-holds c = (search needs, c .wide .ensures ∙ sym (rules-many _), summed-start _)
+loop-holds c = (search needs, c .wide .ensures, λ hs bs s. summed-start _)
 
 -- src/lib.rt:191:13
 size-at-requires : tie.Need-size-at-requires Inv-loop μ-loop
-size-at-requires c κs = starts-fit _ (c .before .before .before .before .before .before .pre) _ _ _ (c .before .before .before .before .loop .inv .2) _ (c .before .before .before .before .loop .inv .1) (c .before .before .before .loop-test .taken)
+size-at-requires c κs = starts-fit _ (c .before .before .before .before .pre .stored) _ _ _ (c .before .loop .inv .2 _ _ (c .before .before .before .before .pre .stored)) _ (c .before .loop .inv .1 ∙ sym (rules-many _)) (c .loop-test .taken)
 
 -- src/lib.rt:192:18
 when-none-requires : tie.Need-when-none-requires Inv-loop μ-loop
@@ -34,11 +41,11 @@ when-none-requires c κs = search needs
 
 -- src/lib.rt:192:9
 add-empty : tie.Need-add-empty Inv-loop μ-loop
-add-empty c = omega (arith, empty-fits _ (c .before .before .before .before .before .before .before .before .pre) _ _ _ (c .before .before .before .before .before .before .loop .inv .2) _ (c .before .before .before .before .before .before .loop .inv .1) (c .before .before .before .before .before .loop-test .taken) _ (c .before .size-at .ensures) _ (c .when-none .ensures))
+add-empty c = omega (arith, empty-fits _ (c .before .before .before .before .before .before .pre .stored) _ _ _ (c .before .before .before .loop .inv .2 _ _ (c .before .before .before .before .before .before .pre .stored)) _ (c .before .before .before .loop .inv .1 ∙ sym (rules-many _)) (c .before .before .loop-test .taken) _ (c .before .size-at .ensures) _ (c .when-none .ensures))
 
 -- src/lib.rt:193:9
 add-count : tie.Need-add-count Inv-loop μ-loop
-add-count c = omega (arith, count-fits _ (c .before .before .before .before .before .before .before .before .pre) _ _ _ (c .before .before .before .before .before .before .loop .inv .2) _ (c .before .before .before .before .before .before .loop .inv .1) (c .before .before .before .before .before .loop-test .taken) _ (c .before .size-at .ensures))
+add-count c = omega (arith, count-fits _ (c .before .before .before .before .before .before .pre .stored) _ _ _ (c .before .before .before .loop .inv .2 _ _ (c .before .before .before .before .before .before .pre .stored)) _ (c .before .before .before .loop .inv .1 ∙ sym (rules-many _)) (c .before .before .loop-test .taken) _ (c .before .size-at .ensures))
 
 -- src/lib.rt:194:9
 add-r : tie.Need-add-r Inv-loop μ-loop
@@ -50,23 +57,23 @@ loop-less c = search needs
 
 -- src/lib.rt:190:5
 loop-again : tie.Need-loop-again Inv-loop μ-loop
-loop-again c = (search needs, c .before .before .before .before .before .before .loop .inv .1, summed-next _ (c .before .before .before .before .before .before .before .before .pre) _ _ _ (c .before .before .before .before .before .before .loop .inv .2) _ (c .before .before .before .before .before .before .loop .inv .1) (c .before .before .before .before .before .loop-test .taken) _ (c .before .size-at .ensures) _ (c .when-none .ensures))
+loop-again c = (search needs, c .before .before .before .loop .inv .1, λ hs bs s. summed-next _ s _ _ _ (c .before .before .before .loop .inv .2 hs bs s) _ (c .before .before .before .loop .inv .1 ∙ sym (rules-many _)) (c .before .before .loop-test .taken) _ (c .before .size-at .ensures) _ (c .when-none .ensures))
 
 -- src/lib.rt:196:15
 counts-requires : tie.Need-counts-requires Inv-loop μ-loop
-counts-requires c κs = let e = summed-end _ (c .before .before .before .pre) _ _ _ (c .before .loop .inv .2) _ (omega arith) (c .before .loop .inv .1) in counts-bounded _ (c .before .before .before .pre) _ _ (e .0) (e .1)
+counts-requires c κs = let e = summed-end _ (c .before .before .before .before .pre .stored) _ _ _ (c .before .loop .inv .2 _ _ (c .before .before .before .before .pre .stored)) _ (omega arith) (c .before .loop .inv .1 ∙ sym (rules-many _)) in counts-bounded _ (c .before .before .before .before .pre .stored) _ _ (e .0) (e .1)
 
 -- src/lib.rt:199:16
-array-read-t9 : tie.Need-array-read-t9 Inv-loop μ-loop
-array-read-t9 c = search needs
-
--- src/lib.rt:200:16
 array-read-t16 : tie.Need-array-read-t16 Inv-loop μ-loop
 array-read-t16 c = search needs
 
+-- src/lib.rt:200:16
+array-read-t19 : tie.Need-array-read-t19 Inv-loop μ-loop
+array-read-t19 c = search needs
+
 -- src/lib.rt:201:16
-array-read-t15 : tie.Need-array-read-t15 Inv-loop μ-loop
-array-read-t15 c = search needs
+array-read-t22 : tie.Need-array-read-t22 Inv-loop μ-loop
+array-read-t22 c = search needs
 
 -- src/lib.rt:203:16
 array-read-t26 : tie.Need-array-read-t26 Inv-loop μ-loop
@@ -90,7 +97,7 @@ wide-requires-3 c κs = search needs
 
 -- src/lib.rt:182:1
 returns : tie.Need-returns Inv-loop μ-loop
-returns c = let e = summed-end _ (c .before .before .before .before .before .before .pre) _ _ _ (c .before .before .before .before .loop .inv .2) _ (omega arith) (c .before .before .before .before .loop .inv .1) in totals-made _ (c .before .before .before .before .before .before .pre) _ _ (e .0) (e .1) _ (c .before .before .counts .ensures) _ _ (c .before .wide2 .ensures) (c .wide3 .ensures)
+returns c = λ hs bs s. let e = summed-end _ s _ _ _ (c .before .before .before .before .loop .inv .2 hs bs s) _ (omega arith) (c .before .before .before .before .loop .inv .1 ∙ sym (rules-many _)) in totals-made _ s _ _ (e .0) (e .1) _ (c .before .before .counts .ensures) _ _ (c .before .wide2 .ensures) (c .wide3 .ensures)
 
 pub totals-of-spec : {M : Type 1} → statement M
 totals-of-spec =
@@ -108,9 +115,9 @@ totals-of-spec =
     loop-less
     loop-again
     counts-requires
-    array-read-t9
     array-read-t16
-    array-read-t15
+    array-read-t19
+    array-read-t22
     array-read-t26
     array-read-wide
     wide-requires-2

@@ -1,15 +1,16 @@
-use Rattle.clause_text.proofs.Clause.{slot-in, past-within, past-less, length-next, length-fits, length-line, line-short}
-use Rattle.clause_tables.specs.Tables.{codeIn}
-use Rattle.clause_walk.specs.Walk.{slot}
-use Rattle.digits.specs.Bytes.{literalsText}
-use Rattle.lists.specs.Lists.{each}
 use borrow.Author.Needs.{needs}
-use lib.ListN.{length}
-use mathlib.Core.Path.{_≡_, refl}
-use native.Mathlib.Omega.{arith}
-use Prim.Native.Nat.{_≤_, _-_}
-use Rattle.clause_table_laws.proofs.Cells.{told}
 use Rattle.clause_layout.proofs.Groups.{bounded}
+use Rattle.clause_table_laws.proofs.Cells.{told}
+use Prim.Native.Nat.{_≤_, _-_}
+use native.Mathlib.Omega.{arith}
+use mathlib.Core.Path.{_≡_, refl}
+use lib.ListN.{length}
+use Rattle.lists.specs.Lists.{each}
+use Rattle.digits.specs.Bytes.{literalsText}
+use Rattle.clause_walk.specs.Walk.{slot}
+use Rattle.clause_tables.specs.Tables.{codeIn}
+use Rattle.clause_text.proofs.Clause.{slot-in, slot-small, past-within, past-less, length-next, length-fits, length-line, line-short}
+use Rattle.clause_literals.proofs.Signed.{read-back}
 use Rattle.clause_text.proofs.clause_length.Statement.{statement}
 use Rattle.clause_text.proofs.clause_length.Tie as tie
 
@@ -34,11 +35,11 @@ add-slot c = search needs
 slot-requires : tie.Need-slot-requires Inv-loop μ-loop
 slot-requires c κs = (c .before .before .before .before .before .pre .0, c .before .before .before .before .before .pre .1, omega arith, slot-in (told (c .before .before .before .before .before .pre .0) (c .before .before .before .totals .ensures)) (c .before .before .before .before .before .pre .1) (c .before .before .slots .ensures) (c .loop-test .taken))
 
-signed-length-requires : tie.Need-signed-length-requires Inv-loop μ-loop
-signed-length-requires c κs = search needs
+slot-length-requires : tie.Need-slot-length-requires Inv-loop μ-loop
+slot-length-requires c κs = slot-small (told (c .before .before .before .before .before .before .pre .0) (c .before .before .before .before .totals .ensures)) (c .before .before .before .before .before .before .pre .1) (c .before .before .before .slots .ensures) (c .before .loop-test .taken) (read-back (c .slot .ok) (c .slot .ensures))
 
 add-to : tie.Need-add-to Inv-loop μ-loop
-add-to c = omega (arith, length-fits (told (c .before .before .before .before .before .before .before .pre .0) (c .before .before .before .before .before .totals .ensures)) (c .before .before .before .before .before .before .before .pre .1) (c .before .slot .result) (c .before .before .before .before .slots .ensures) (c .before .before .loop-test .taken) (c .before .slot .ensures) (c .before .before .before .loop .inv .1) (c .signed-length .ensures))
+add-to c = omega (arith, length-fits (told (c .before .before .before .before .before .before .before .pre .0) (c .before .before .before .before .before .totals .ensures)) (c .before .before .before .before .before .before .before .pre .1) _ (c .before .before .before .before .slots .ensures) (c .before .before .loop-test .taken) (read-back (c .before .slot .ok) (c .before .slot .ensures)) (c .before .before .before .loop .inv .1) (c .slot-length .ensures))
 
 add-past-empty : tie.Need-add-past-empty Inv-loop μ-loop
 add-past-empty c = search needs
@@ -50,10 +51,10 @@ loop-less : tie.Need-loop-less Inv-loop μ-loop
 loop-less c = past-less (told (c .before .before .before .before .before .before .before .before .pre .0) (c .before .before .before .before .before .before .totals .ensures)) (c .before .before .before .before .before .before .before .before .pre .1) (c .before .before .before .before .before .slots .ensures) (c .before .before .before .loop-test .taken) (c .past-empty .ensures)
 
 loop-again : tie.Need-loop-again Inv-loop μ-loop
-loop-again c = (past-within (told (c .before .before .before .before .before .before .before .before .pre .0) (c .before .before .before .before .before .before .totals .ensures)) (c .before .before .before .before .before .before .before .before .pre .1) (c .before .before .before .before .before .slots .ensures) (c .before .before .before .loop-test .taken) (c .past-empty .ensures), length-next (told (c .before .before .before .before .before .before .before .before .pre .0) (c .before .before .before .before .before .before .totals .ensures)) (c .before .before .before .before .before .before .before .before .pre .1) (c .before .before .slot .result) (c .before .before .before .before .before .slots .ensures) (c .before .before .before .loop-test .taken) (c .before .before .slot .ensures) (c .past-empty .ensures) (c .before .before .before .before .loop .inv .1) (c .before .signed-length .ensures))
+loop-again c = let t = told (c .before .before .before .before .before .before .before .before .pre .0) (c .before .before .before .before .before .before .totals .ensures) in (past-within t (c .before .before .before .before .before .before .before .before .pre .1) (c .before .before .before .before .before .slots .ensures) (c .before .before .before .loop-test .taken) (c .past-empty .ensures), length-next t (c .before .before .before .before .before .before .before .before .pre .1) _ (c .before .before .before .before .before .slots .ensures) (c .before .before .before .loop-test .taken) (read-back (c .before .before .slot .ok) (c .before .before .slot .ensures)) (c .past-empty .ensures) (c .before .before .before .before .loop .inv .1) (c .before .slot-length .ensures))
 
 add-result : tie.Need-add-result Inv-loop μ-loop
-add-result c = omega (arith, length-line (told (c .before .before .before .before .before .pre .0) (c .before .before .before .totals .ensures)) (c .before .before .before .before .before .pre .1) (c .before .before .slots .ensures) (c .before .loop .inv .0) (c .loop-test .left) (c .before .loop .inv .1), line-short (told (c .before .before .before .before .before .pre .0) (c .before .before .before .totals .ensures)) (c .before .before .before .before .before .pre .1))
+add-result c = let t = told (c .before .before .before .before .before .pre .0) (c .before .before .before .totals .ensures) in omega (arith, length-line t (c .before .before .before .before .before .pre .1) (c .before .before .slots .ensures) (c .before .loop .inv .0) (c .loop-test .left) (c .before .loop .inv .1), line-short t (c .before .before .before .before .before .pre .1))
 
 returns : tie.Need-returns Inv-loop μ-loop
 returns c = length-line (told (c .before .before .before .before .before .pre .0) (c .before .before .before .totals .ensures)) (c .before .before .before .before .before .pre .1) (c .before .before .slots .ensures) (c .before .loop .inv .0) (c .loop-test .left) (c .before .loop .inv .1)
@@ -69,7 +70,7 @@ clause-length-spec =
     loop-holds
     add-slot
     slot-requires
-    signed-length-requires
+    slot-length-requires
     add-to
     add-past-empty
     past-empty-requires

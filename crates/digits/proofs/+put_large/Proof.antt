@@ -1,12 +1,9 @@
 use borrow.Author.Needs.{needs}
-use Prim.Native.Nat.{_/_}
 use native.Mathlib.Omega.{arith}
 use mathlib.Core.Path.{refl}
-use Rattle.text.specs.Decimal.{decimal}
 use Rattle.digits.proofs.Lengths.{length-large, decimal-fits}
-use Rattle.digits.proofs.Begins.{begins-word, begins-whole}
 use Rattle.digits.proofs.Writing.{next-digit}
-use Prim.Native.Nat.{ℕ, _<_}
+use Prim.Native.Nat.{ℕ, _<_, _/_}
 use borrow.Fn.Kinds.{In}
 use borrow.Fn.PlainCycle.{Measures, is, falls, and}
 use Rattle.digits.proofs.put_large.Reads as put-large
@@ -89,7 +86,7 @@ put-large-slice-write-buf : (t : ℕ) → put-large-lts.Need-slice-write-buf (
   digit-reads.Asked,
   digit-reads.Learnt,
 ) (put-large-at t) put-large.Post
-put-large-slice-write-buf t c = omega (arith, length-large (c .before .before .before .before .before .before .before .args .n) (omega (arith, c .before .before .before .before .before .if1 .left)), c .before .before .before .put-large .ensures .0, c .before .before .before .put-large .kept .1 .0, c .before .before .before .before .before .before .before .pre .1)
+put-large-slice-write-buf t c = omega (arith, length-large (c .before .before .before .before .before .before .before .args .n) (omega (arith, c .before .before .before .before .before .if1 .left)), c .before .before .before .put-large .ensures .count, c .before .before .before .put-large .kept .1 .0, c .before .before .before .before .before .before .before .pre .1)
 
 put-large-add-result : (t : ℕ) → put-large-lts.Need-add-result (
   put-small-reads.Asked,
@@ -99,7 +96,7 @@ put-large-add-result : (t : ℕ) → put-large-lts.Need-add-result (
   digit-reads.Asked,
   digit-reads.Learnt,
 ) (put-large-at t) put-large.Post
-put-large-add-result t c = omega (arith, c .before .before .before .put-large .ensures .0, decimal-fits 19 (c .before .before .before .before .before .before .before .args .n / 10) (omega (arith, c .before .before .before .before .before .before .before .fits .n)))
+put-large-add-result t c = omega (arith, c .before .before .before .put-large .ensures .count, decimal-fits 19 (c .before .before .before .before .before .before .before .args .n / 10) (omega (arith, c .before .before .before .before .before .before .before .fits .n)))
 
 put-large-same-length-2 : (t : ℕ) → put-large-lts.Need-same-length-2 (
   put-small-reads.Asked,
@@ -122,10 +119,9 @@ put-large-returns-2 : (t : ℕ) → put-large-lts.Need-returns-2 (
 put-large-returns-2 t c =
     let s = c .before .before .before .before .before .before .before in
     let p = c .before .before .before .put-large in
-    begins-whole
-    (next-digit (s .args .buf .now) (s .args .n) (omega (arith, c .before .before .before .before .before .if1 .left)) refl (c .digit .ensures)
-    (omega (arith, length-large (s .args .n) (omega (arith, c .before .before .before .before .before .if1 .left)), p .ensures .0, s .pre .1))
-    (begins-word (decimal (s .args .n / 10)) (p .kept .1 .0) (p .ensures)))
+    next-digit (s .args .buf .now) (s .args .n) (omega (arith, c .before .before .before .before .before .if1 .left)) refl (c .digit .ensures)
+    (omega (arith, length-large (s .args .n) (omega (arith, c .before .before .before .before .before .if1 .left)), p .ensures .count, s .pre .1))
+    (p .ensures)
 
 pub +put-large-spec : {M : Type 1} → statement M
 +put-large-spec = close μ-put-large λ t. put-large-lts.spec (

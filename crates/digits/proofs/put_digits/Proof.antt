@@ -1,7 +1,6 @@
-use Rattle.digits.proofs.DigitLaws.{four-room, three-room, two-room, one-room, four-stores, three-stores, two-stores, one-stores, room-at}
-use Rattle.digits.proofs.Begins.{begins-whole}
-use native.Mathlib.Omega.{arith}
 use denote.Ref.{now}
+use native.Mathlib.Omega.{arith}
+use Rattle.digits.proofs.DigitLaws.{four-room, three-room, two-room, one-room, four-stores, three-stores, two-stores, one-stores, room-at}
 use borrow.Author.Needs.{needs}
 use Rattle.digits.proofs.put_digits.Statement.{statement}
 use Rattle.digits.proofs.put_digits.Tie as tie
@@ -25,7 +24,7 @@ same-length : tie.Need-same-length
 same-length c = search needs
 
 returns : tie.Need-returns
-returns c = begins-whole (four-stores (c .before .before .args .x) (now (c .before .before .args .buf)) (c .before .before .pre) (c .if1 .taken))
+returns c = four-stores (c .before .before .args .x) (now (c .before .before .args .buf)) (c .before .before .pre) (c .if1 .taken)
 
 slice-write-buf-6 : tie.Need-slice-write-buf-6
 slice-write-buf-6 c = search (needs, room-at 0 (now (c .before .before .before .before .args .buf)) (omega arith) (three-room (c .before .before .before .before .args .x) (now (c .before .before .before .before .args .buf)) (c .before .before .before .before .pre) (c .before .before .if1 .left) (c .if2 .taken)))
@@ -43,7 +42,7 @@ same-length-2 : tie.Need-same-length-2
 same-length-2 c = search needs
 
 returns-2 : tie.Need-returns-2
-returns-2 c = begins-whole (three-stores (c .before .before .before .before .args .x) (now (c .before .before .before .before .args .buf)) (c .before .before .before .before .pre) (c .before .before .if1 .left) (c .if2 .taken))
+returns-2 c = three-stores (c .before .before .before .before .args .x) (now (c .before .before .before .before .args .buf)) (c .before .before .before .before .pre) (c .before .before .if1 .left) (c .if2 .taken)
 
 slice-write-buf-10 : tie.Need-slice-write-buf-10
 slice-write-buf-10 c = search (needs, room-at 0 (now (c .before .before .before .before .before .before .args .buf)) (omega arith) (two-room (c .before .before .before .before .before .before .args .x) (now (c .before .before .before .before .before .before .args .buf)) (c .before .before .before .before .before .before .pre) (c .before .before .before .before .if1 .left) (c .before .before .if2 .left) (c .if3 .taken)))
@@ -58,7 +57,7 @@ same-length-3 : tie.Need-same-length-3
 same-length-3 c = search needs
 
 returns-3 : tie.Need-returns-3
-returns-3 c = begins-whole (two-stores (c .before .before .before .before .before .before .args .x) (now (c .before .before .before .before .before .before .args .buf)) (c .before .before .before .before .before .before .pre) (c .before .before .before .before .if1 .left) (c .before .before .if2 .left) (c .if3 .taken))
+returns-3 c = two-stores (c .before .before .before .before .before .before .args .x) (now (c .before .before .before .before .before .before .args .buf)) (c .before .before .before .before .before .before .pre) (c .before .before .before .before .if1 .left) (c .before .before .if2 .left) (c .if3 .taken)
 
 slice-write-buf-13 : tie.Need-slice-write-buf-13
 slice-write-buf-13 c = search (needs, room-at 0 (now (c .before .before .before .before .before .before .args .buf)) (omega arith) (one-room (c .before .before .before .before .before .before .args .x) (now (c .before .before .before .before .before .before .args .buf)) (c .before .before .before .before .before .before .pre) (c .before .before .before .before .if1 .left) (c .before .before .if2 .left) (c .if3 .left)))
@@ -70,7 +69,7 @@ same-length-4 : tie.Need-same-length-4
 same-length-4 c = search needs
 
 returns-4 : tie.Need-returns-4
-returns-4 c = begins-whole (one-stores (c .before .before .before .before .before .before .args .x) (now (c .before .before .before .before .before .before .args .buf)) (c .before .before .before .before .before .before .pre) (c .before .before .before .before .if1 .left) (c .before .before .if2 .left) (c .if3 .left))
+returns-4 c = one-stores (c .before .before .before .before .before .before .args .x) (now (c .before .before .before .before .before .before .args .buf)) (c .before .before .before .before .before .before .pre) (c .before .before .before .before .if1 .left) (c .before .before .if2 .left) (c .if3 .left)
 
 pub put-digits-spec : {M : Type 1} → statement M
 put-digits-spec =

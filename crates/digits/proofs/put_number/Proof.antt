@@ -1,31 +1,27 @@
-use native.Mathlib.Omega.{arith}
-use mathlib.Core.Path.{refl}
-use mathlib.Core.List.{[], _∷_}
-use Rattle.text.specs.Decimal.{decimal}
+use Rattle.digits.proofs.Wrote.{wrote-byte, wrote-kept, byte-room, room-front}
 use Rattle.digits.proofs.Lengths.{decimal-fits}
-use Rattle.digits.proofs.Begins.{begins-word, begins-byte, begins-sum, begins-whole, front-fits}
+use Rattle.text.specs.Decimal.{decimal}
+use mathlib.Core.List.{[], _∷_}
+use native.Mathlib.Omega.{arith}
 use borrow.Author.Needs.{needs}
 use Rattle.digits.proofs.put_number.Statement.{statement}
 use Rattle.digits.proofs.put_number.Tie as tie
 
 put-decimal-requires : tie.Need-put-decimal-requires
-put-decimal-requires c κs = front-fits (decimal (c .before .before .args .n)) (c .before .before .args .end ∷ []) (c .before .before .pre)
+put-decimal-requires c κs = room-front (decimal (c .before .before .args .n)) (c .before .before .args .end ∷ []) (c .before .before .pre)
 
 slice-write-buf : tie.Need-slice-write-buf
 slice-write-buf c =
-    let p = begins-word (decimal (c .before .before .before .before .before .args .n)) (c .before .before .put-decimal .kept .1 .0) (c .before .before .put-decimal .ensures) in
-    omega (arith, begins-sum p (c .before .before .before .before .before .args .end ∷ []) refl (c .before .before .before .before .before .pre), p .same)
+    omega (arith, byte-room (c .before .before .put-decimal .ensures) (c .before .before .before .before .before .args .end) (c .before .before .before .before .before .pre), wrote-kept (c .before .before .put-decimal .ensures) (room-front (decimal (c .before .before .before .before .before .args .n)) (c .before .before .before .before .before .args .end ∷ []) (c .before .before .before .before .before .pre)))
 
 add-result : tie.Need-add-result
-add-result c = omega (arith, c .before .before .put-decimal .ensures .0, decimal-fits 19 (c .before .before .before .before .before .args .n) (omega (arith, c .before .before .before .before .before .fits .n)))
+add-result c = omega (arith, c .before .before .put-decimal .ensures .count, decimal-fits 19 (c .before .before .before .before .before .args .n) (omega (arith, c .before .before .before .before .before .fits .n)))
 
 same-length : tie.Need-same-length
 same-length c = search needs
 
 returns : tie.Need-returns
-returns c =
-    let p = begins-word (decimal (c .before .before .before .before .before .args .n)) (c .before .before .put-decimal .kept .1 .0) (c .before .before .put-decimal .ensures) in
-    begins-whole (begins-byte p (c .before .before .before .before .before .args .end) (omega (arith, begins-sum p (c .before .before .before .before .before .args .end ∷ []) refl (c .before .before .before .before .before .pre))))
+returns c = wrote-byte (c .before .before .put-decimal .ensures) (c .before .before .before .before .before .args .end) (byte-room (c .before .before .put-decimal .ensures) (c .before .before .before .before .before .args .end) (c .before .before .before .before .before .pre))
 
 pub put-number-spec : {M : Type 1} → statement M
 put-number-spec =

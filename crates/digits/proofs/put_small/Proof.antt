@@ -1,9 +1,8 @@
-use native.Mathlib.Omega.{arith}
-use Prim.Native.Nat.{_/_}
-use mathlib.Core.Path.{refl}
-use Rattle.digits.proofs.Begins.{begins-whole}
-use Rattle.digits.proofs.Lengths.{decimal-some}
 use Rattle.digits.proofs.Writing.{digits-room, first-digit, next-digit}
+use Rattle.digits.proofs.Lengths.{decimal-some}
+use mathlib.Core.Path.{refl}
+use Prim.Native.Nat.{_/_}
+use native.Mathlib.Omega.{arith}
 use borrow.Author.Needs.{needs}
 use Rattle.digits.proofs.put_small.Statement.{statement}
 use Rattle.digits.proofs.put_small.Tie as tie
@@ -18,7 +17,7 @@ same-length : tie.Need-same-length
 same-length c = search needs
 
 returns : tie.Need-returns
-returns c = begins-whole (first-digit (c .before .before .before .args .buf .now) (c .before .before .before .args .n) (c .before .if1 .taken) (c .digit .ensures) (omega (arith, decimal-some (c .before .before .before .args .n), c .before .before .before .pre .1)))
+returns c = first-digit (c .before .before .before .args .buf .now) (c .before .before .before .args .n) (c .before .if1 .taken) (c .digit .ensures) (omega (arith, decimal-some (c .before .before .before .args .n), c .before .before .before .pre .1))
 
 digit-requires-2 : tie.Need-digit-requires-2
 digit-requires-2 c κs = search needs
@@ -40,9 +39,8 @@ returns-2 c =
     let b = c .before .before .before .before .before .args .buf .now in
     let n = c .before .before .before .before .before .args .n in
     let r = digits-room b 1 n (c .before .before .before .if1 .left) (c .before .before .before .before .before .pre .1) in
-    begins-whole
-    (next-digit b n (c .before .before .before .if1 .left) refl (c .digit3 .ensures) r
-    (first-digit b (n / 10) (omega (arith, c .before .before .if2 .taken)) (c .before .digit2 .ensures) (omega (arith, r))))
+    next-digit b n (c .before .before .before .if1 .left) refl (c .digit3 .ensures) r
+    (first-digit b (n / 10) (omega (arith, c .before .before .if2 .taken)) (c .before .digit2 .ensures) (omega (arith, r)))
 
 digit-requires-4 : tie.Need-digit-requires-4
 digit-requires-4 c κs = search needs
@@ -70,10 +68,9 @@ returns-3 c =
     let b = c .before .before .before .before .before .before .before .args .buf .now in
     let n = c .before .before .before .before .before .before .before .args .n in
     let r = digits-room b 2 n (c .before .before .before .before .if2 .left) (c .before .before .before .before .before .before .before .pre .1) in
-    begins-whole
-    (next-digit b n (c .before .before .before .before .before .if1 .left) refl (c .digit6 .ensures) r
+    next-digit b n (c .before .before .before .before .before .if1 .left) refl (c .digit6 .ensures) r
     (next-digit b (n / 10) (omega (arith, c .before .before .before .before .if2 .left)) (omega arith) (c .before .digit5 .ensures) (omega (arith, r))
-    (first-digit b (n / 100) (omega (arith, c .before .before .before .if3 .taken)) (c .before .before .digit4 .ensures) (omega (arith, r)))))
+    (first-digit b (n / 100) (omega (arith, c .before .before .before .if3 .taken)) (c .before .before .digit4 .ensures) (omega (arith, r))))
 
 digit-requires-7 : tie.Need-digit-requires-7
 digit-requires-7 c κs = search needs
@@ -107,11 +104,10 @@ returns-4 c =
     let b = c .before .before .before .before .before .before .before .before .args .buf .now in
     let n = c .before .before .before .before .before .before .before .before .args .n in
     let r = digits-room b 3 n (c .before .before .before .before .if3 .left) (c .before .before .before .before .before .before .before .before .pre .1) in
-    begins-whole
-    (next-digit b n (c .before .before .before .before .before .before .if1 .left) refl (c .digit10 .ensures) r
+    next-digit b n (c .before .before .before .before .before .before .if1 .left) refl (c .digit10 .ensures) r
     (next-digit b (n / 10) (omega (arith, c .before .before .before .before .before .if2 .left)) (omega arith) (c .before .digit9 .ensures) (omega (arith, r))
     (next-digit b (n / 100) (omega (arith, c .before .before .before .before .if3 .left)) (omega arith) (c .before .before .digit8 .ensures) (omega (arith, r))
-    (first-digit b (n / 1000) (omega (arith, c .before .before .before .before .before .before .before .before .pre .0)) (c .before .before .before .digit7 .ensures) (omega (arith, r))))))
+    (first-digit b (n / 1000) (omega (arith, c .before .before .before .before .before .before .before .before .pre .0)) (c .before .before .before .digit7 .ensures) (omega (arith, r)))))
 
 pub put-small-spec : {M : Type 1} → statement M
 put-small-spec =

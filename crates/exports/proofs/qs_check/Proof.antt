@@ -1,4 +1,5 @@
-use Rattle.exports.specs.Replies.{ofCheck, checkReply}
+use Rattle.call_replies.specs.Replies.{ofCheck}
+use Rattle.exports.specs.Replies.{checkReply}
 use Rattle.exports.proofs.Told.{replied}
 use borrow.Author.Needs.{needs}
 use Rattle.exports.proofs.qs_check.Statement.{statement}

@@ -1,4 +1,5 @@
-use Rattle.exports.specs.Replies.{ofFill, fillReply}
+use Rattle.call_replies.specs.Replies.{ofFill}
+use Rattle.exports.specs.Replies.{fillReply}
 use Rattle.exports.proofs.Told.{replied}
 use borrow.Author.Needs.{needs}
 use Rattle.exports.proofs.qs_fill.Statement.{statement}

@@ -1,4 +1,5 @@
-use Rattle.exports.specs.Replies.{ofLine, lineReply}
+use Rattle.call_replies.specs.Replies.{ofLine}
+use Rattle.exports.specs.Replies.{lineReply}
 use Rattle.exports.proofs.Told.{replied-lines}
 use borrow.Author.Needs.{needs}
 use Rattle.exports.proofs.qs_line.Statement.{statement}

@@ -1,4 +1,5 @@
-use Rattle.exports.specs.Replies.{ofRun, runReply}
+use Rattle.call_replies.specs.Replies.{ofRun}
+use Rattle.exports.specs.Replies.{runReply}
 use Rattle.exports.proofs.Told.{replied-lines}
 use borrow.Author.Needs.{needs}
 use Rattle.exports.proofs.qs_run.Statement.{statement}

@@ -1,9 +1,10 @@
-use borrow.Author.Needs.{needs}
-use Rattle.level_fill.proofs.Cases.{room-as, put-as, only-six, family-atoms, family-bodies, family-founds, family-levels, family-nexts, family-chains}
-use denote.Ref.{now}
-use native.Mathlib.Omega.{arith}
-use mathlib.Core.Path.{ap}
 use Rattle.clause_tables.specs.declared.Totals.{Totals}
+use mathlib.Core.Path.{ap}
+use native.Mathlib.Omega.{arith}
+use denote.Ref.{now}
+use Rattle.level_fill.proofs.Cases.{only-six, family-atoms, family-bodies, family-founds, family-levels, family-nexts, family-chains}
+use Rattle.digits.proofs.Wrote.{room-as, wrote-as}
+use borrow.Author.Needs.{needs}
 use Rattle.level_fill.proofs.put_family.Statement.{statement}
 use Rattle.level_fill.proofs.put_family.Tie as tie
 
@@ -17,7 +18,7 @@ same-length : tie.Need-same-length
 same-length c = search needs
 
 returns : tie.Need-returns
-returns c = put-as (now (c .before .before .before .before .before .before .before .before .before .before .before .args .buf)) (family-atoms (now (c .before .before .before .before .before .before .before .before .before .before .before .args .table)) (now (c .before .before .before .before .before .before .before .before .before .before .before .args .set)) (now (c .before .before .before .before .before .before .before .before .before .before .before .args .levels)) (c .before .before .before .before .before .before .totals .ensures) (c .before .before .before .before .if1 .taken)) (c .before .before .put-atom-values .ensures)
+returns c = wrote-as (family-atoms (now (c .before .before .before .before .before .before .before .before .before .before .before .args .table)) (now (c .before .before .before .before .before .before .before .before .before .before .before .args .set)) (now (c .before .before .before .before .before .before .before .before .before .before .before .args .levels)) (c .before .before .before .before .before .before .totals .ensures) (c .before .before .before .before .if1 .taken)) (c .before .before .put-atom-values .ensures)
 
 put-bodies-requires : tie.Need-put-bodies-requires
 put-bodies-requires c κs = (c .before .before .before .before .before .before .before .before .before .pre .0, c .before .before .before .before .before .before .before .before .before .pre .3, room-as (family-bodies (now (c .before .before .before .before .before .before .before .before .before .args .table)) (now (c .before .before .before .before .before .before .before .before .before .args .set)) (now (c .before .before .before .before .before .before .before .before .before .args .levels)) (c .before .if2 .taken)) (c .before .before .before .before .before .before .before .before .before .pre .5))
@@ -26,7 +27,7 @@ same-length-2 : tie.Need-same-length-2
 same-length-2 c = search needs
 
 returns-2 : tie.Need-returns-2
-returns-2 c = put-as (now (c .before .before .before .before .before .before .before .before .before .before .before .before .args .buf)) (family-bodies (now (c .before .before .before .before .before .before .before .before .before .before .before .before .args .table)) (now (c .before .before .before .before .before .before .before .before .before .before .before .before .args .set)) (now (c .before .before .before .before .before .before .before .before .before .before .before .before .args .levels)) (c .before .before .before .before .if2 .taken)) (c .before .before .put-bodies .ensures)
+returns-2 c = wrote-as (family-bodies (now (c .before .before .before .before .before .before .before .before .before .before .before .before .args .table)) (now (c .before .before .before .before .before .before .before .before .before .before .before .before .args .set)) (now (c .before .before .before .before .before .before .before .before .before .before .before .before .args .levels)) (c .before .before .before .before .if2 .taken)) (c .before .before .put-bodies .ensures)
 
 put-founds-requires : tie.Need-put-founds-requires
 put-founds-requires c κs = (c .before .before .before .before .before .before .before .before .before .before .pre .0, c .before .before .before .before .before .before .before .before .before .before .pre .3, c .before .before .before .before .before .before .before .before .before .before .pre .4, room-as (family-founds (now (c .before .before .before .before .before .before .before .before .before .before .args .table)) (now (c .before .before .before .before .before .before .before .before .before .before .args .set)) (now (c .before .before .before .before .before .before .before .before .before .before .args .levels)) (c .before .if3 .taken)) (c .before .before .before .before .before .before .before .before .before .before .pre .5))
@@ -35,7 +36,7 @@ same-length-3 : tie.Need-same-length-3
 same-length-3 c = search needs
 
 returns-3 : tie.Need-returns-3
-returns-3 c = put-as (now (c .before .before .before .before .before .before .before .before .before .before .before .before .before .args .buf)) (family-founds (now (c .before .before .before .before .before .before .before .before .before .before .before .before .before .args .table)) (now (c .before .before .before .before .before .before .before .before .before .before .before .before .before .args .set)) (now (c .before .before .before .before .before .before .before .before .before .before .before .before .before .args .levels)) (c .before .before .before .before .if3 .taken)) (c .before .before .put-founds .ensures)
+returns-3 c = wrote-as (family-founds (now (c .before .before .before .before .before .before .before .before .before .before .before .before .before .args .table)) (now (c .before .before .before .before .before .before .before .before .before .before .before .before .before .args .set)) (now (c .before .before .before .before .before .before .before .before .before .before .before .before .before .args .levels)) (c .before .before .before .before .if3 .taken)) (c .before .before .put-founds .ensures)
 
 wide-requires : tie.Need-wide-requires
 wide-requires c κs = search needs
@@ -47,7 +48,7 @@ same-length-4 : tie.Need-same-length-4
 same-length-4 c = search needs
 
 returns-4 : tie.Need-returns-4
-returns-4 c = put-as (now (c .before .before .before .before .before .before .before .before .before .before .before .before .before .before .before .args .buf)) (family-levels (now (c .before .before .before .before .before .before .before .before .before .before .before .before .before .before .before .args .table)) (now (c .before .before .before .before .before .before .before .before .before .before .before .before .before .before .before .args .set)) (now (c .before .before .before .before .before .before .before .before .before .before .before .before .before .before .before .args .levels)) (c .before .before .before .before .before .before .before .before .before .before .totals .ensures) (c .before .before .before .before .before .wide .ensures) (c .before .before .before .before .if4 .taken)) (c .before .before .put-level-values .ensures)
+returns-4 c = wrote-as (family-levels (now (c .before .before .before .before .before .before .before .before .before .before .before .before .before .before .before .args .table)) (now (c .before .before .before .before .before .before .before .before .before .before .before .before .before .before .before .args .set)) (now (c .before .before .before .before .before .before .before .before .before .before .before .before .before .before .before .args .levels)) (c .before .before .before .before .before .before .before .before .before .before .totals .ensures) (c .before .before .before .before .before .wide .ensures) (c .before .before .before .before .if4 .taken)) (c .before .before .put-level-values .ensures)
 
 put-level-values-requires-2 : tie.Need-put-level-values-requires-2
 put-level-values-requires-2 c κs = (omega (arith, c .before .before .before .before .before .before .before .before .before .before .before .before .before .pre .4, ap (λ (t : Totals). t .sizes .n) (c .before .before .before .before .before .before .before .before .totals .ensures)), omega arith, room-as (family-nexts (now (c .before .before .before .before .before .before .before .before .before .before .before .before .before .args .table)) (now (c .before .before .before .before .before .before .before .before .before .before .before .before .before .args .set)) (now (c .before .before .before .before .before .before .before .before .before .before .before .before .before .args .levels)) (c .before .before .before .before .before .before .before .before .totals .ensures) (c .before .before .before .wide .ensures) (c .before .if5 .taken)) (c .before .before .before .before .before .before .before .before .before .before .before .before .before .pre .5))
@@ -56,7 +57,7 @@ same-length-5 : tie.Need-same-length-5
 same-length-5 c = search needs
 
 returns-5 : tie.Need-returns-5
-returns-5 c = put-as (now (c .before .before .before .before .before .before .before .before .before .before .before .before .before .before .before .before .args .buf)) (family-nexts (now (c .before .before .before .before .before .before .before .before .before .before .before .before .before .before .before .before .args .table)) (now (c .before .before .before .before .before .before .before .before .before .before .before .before .before .before .before .before .args .set)) (now (c .before .before .before .before .before .before .before .before .before .before .before .before .before .before .before .before .args .levels)) (c .before .before .before .before .before .before .before .before .before .before .before .totals .ensures) (c .before .before .before .before .before .before .wide .ensures) (c .before .before .before .before .if5 .taken)) (c .before .before .put-level-values2 .ensures)
+returns-5 c = wrote-as (family-nexts (now (c .before .before .before .before .before .before .before .before .before .before .before .before .before .before .before .before .args .table)) (now (c .before .before .before .before .before .before .before .before .before .before .before .before .before .before .before .before .args .set)) (now (c .before .before .before .before .before .before .before .before .before .before .before .before .before .before .before .before .args .levels)) (c .before .before .before .before .before .before .before .before .before .before .before .totals .ensures) (c .before .before .before .before .before .before .wide .ensures) (c .before .before .before .before .if5 .taken)) (c .before .before .put-level-values2 .ensures)
 
 put-chains-requires : tie.Need-put-chains-requires
 put-chains-requires c κs = (c .before .before .before .before .before .before .before .before .before .before .before .before .before .pre .0, c .before .before .before .before .before .before .before .before .before .before .before .before .before .pre .4, room-as (family-chains (now (c .before .before .before .before .before .before .before .before .before .before .before .before .before .args .table)) (now (c .before .before .before .before .before .before .before .before .before .before .before .before .before .args .set)) (now (c .before .before .before .before .before .before .before .before .before .before .before .before .before .args .levels)) (c .before .before .before .before .before .before .before .before .totals .ensures) (c .before .before .before .wide .ensures) (only-six (c .before .before .before .before .before .before .before .before .before .before .before .before .before .args .k) (c .before .before .before .before .before .before .before .before .before .before .before .before .before .pre .1) (c .before .before .before .before .before .before .before .before .before .before .before .before .before .pre .2) (c .before .before .before .before .before .before .if1 .left) (c .before .before .before .before .before .if2 .left) (c .before .before .before .before .if3 .left) (c .before .before .if4 .left) (c .before .if5 .left))) (c .before .before .before .before .before .before .before .before .before .before .before .before .before .pre .5))
@@ -65,7 +66,7 @@ same-length-6 : tie.Need-same-length-6
 same-length-6 c = search needs
 
 returns-6 : tie.Need-returns-6
-returns-6 c = put-as (now (c .before .before .before .before .before .before .before .before .before .before .before .before .before .before .before .before .args .buf)) (family-chains (now (c .before .before .before .before .before .before .before .before .before .before .before .before .before .before .before .before .args .table)) (now (c .before .before .before .before .before .before .before .before .before .before .before .before .before .before .before .before .args .set)) (now (c .before .before .before .before .before .before .before .before .before .before .before .before .before .before .before .before .args .levels)) (c .before .before .before .before .before .before .before .before .before .before .before .totals .ensures) (c .before .before .before .before .before .before .wide .ensures) (only-six (c .before .before .before .before .before .before .before .before .before .before .before .before .before .before .before .before .args .k) (c .before .before .before .before .before .before .before .before .before .before .before .before .before .before .before .before .pre .1) (c .before .before .before .before .before .before .before .before .before .before .before .before .before .before .before .before .pre .2) (c .before .before .before .before .before .before .before .before .before .if1 .left) (c .before .before .before .before .before .before .before .before .if2 .left) (c .before .before .before .before .before .before .before .if3 .left) (c .before .before .before .before .before .if4 .left) (c .before .before .before .before .if5 .left))) (c .before .before .put-chains .ensures)
+returns-6 c = wrote-as (family-chains (now (c .before .before .before .before .before .before .before .before .before .before .before .before .before .before .before .before .args .table)) (now (c .before .before .before .before .before .before .before .before .before .before .before .before .before .before .before .before .args .set)) (now (c .before .before .before .before .before .before .before .before .before .before .before .before .before .before .before .before .args .levels)) (c .before .before .before .before .before .before .before .before .before .before .before .totals .ensures) (c .before .before .before .before .before .before .wide .ensures) (only-six (c .before .before .before .before .before .before .before .before .before .before .before .before .before .before .before .before .args .k) (c .before .before .before .before .before .before .before .before .before .before .before .before .before .before .before .before .pre .1) (c .before .before .before .before .before .before .before .before .before .before .before .before .before .before .before .before .pre .2) (c .before .before .before .before .before .before .before .before .before .if1 .left) (c .before .before .before .before .before .before .before .before .if2 .left) (c .before .before .before .before .before .before .before .if3 .left) (c .before .before .before .before .before .if4 .left) (c .before .before .before .before .if5 .left))) (c .before .before .put-chains .ensures)
 
 pub put-family-spec : {M : Type 1} → statement M
 put-family-spec =

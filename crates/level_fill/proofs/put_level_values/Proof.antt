@@ -1,48 +1,47 @@
 use borrow.Author.Needs.{needs}
-use Prim.Native.Nat.{ℕ, _+_, _-_, _≤_}
-use denote.Ref.{now}
-use mathlib.Core.Path.{ap}
-use native.Mathlib.Omega.{arith}
-use Rattle.digits.proofs.Begins.{Begins, begins-none, begins-more, begins-room, begins-tail, begins-sum}
-use Rattle.lists.specs.Lists.{each}
-use Rattle.level_stages.specs.Levels.{levelByte}
 use Rattle.level_fill.specs.Values.{bitBytes, levelAtBytes}
-use Rattle.level_fill.proofs.Writes.{rows-fit, rows-next, rows-all}
+use Rattle.level_lists.specs.Bytes.{levelByte}
+use Rattle.lists.specs.Lists.{each}
+use mathlib.Core.Path.{ap}
+use denote.Ref.{now}
+use Prim.Native.Nat.{ℕ, _+_, _-_, _≤_}
+use Rattle.digits.proofs.Wrote.{wrote-none, wrote-row, row-start, row-room, row-sum, rows-whole, rows-kept}
+use Rattle.digits.specs.Bytes.{Wrote}
 use Rattle.level_fill.proofs.put_level_values.Statement.{statement}
 use Rattle.level_fill.proofs.put_level_values.Tie as tie
 
 abbrev Inv-loop : tie.InvT-loop
-Inv-loop n w d levels buf₀ to₀ a₀ buf to a = (a ≤ n) × Begins buf₀ buf (each a (levelAtBytes w d (levelByte levels))) to
+Inv-loop n w d levels buf₀ to₀ a₀ buf to a = (a ≤ n) × Wrote (each a (levelAtBytes w d (levelByte levels))) buf₀ buf to
 
 abbrev μ-loop : tie.MeasureT-loop
 μ-loop n w d levels buf₀ to₀ a₀ buf to a = n - a
 
 loop-holds : tie.Need-loop-holds Inv-loop μ-loop
-loop-holds c = (search needs, begins-none (now (c .before .before .args .buf)))
-
-add-level-of : tie.Need-add-level-of Inv-loop μ-loop
-add-level-of c = search needs
-
-level-of-requires : tie.Need-level-of-requires Inv-loop μ-loop
-level-of-requires c κs = search needs
+loop-holds c = (search needs, wrote-none (now (c .before .before .args .buf)))
 
 add-put-bits : tie.Need-add-put-bits Inv-loop μ-loop
 add-put-bits c = search needs
 
+level-of-requires : tie.Need-level-of-requires Inv-loop μ-loop
+level-of-requires c κs = search needs
+
+add-put-bits-2 : tie.Need-add-put-bits-2 Inv-loop μ-loop
+add-put-bits-2 c = search needs
+
 sub-put-bits : tie.Need-sub-put-bits Inv-loop μ-loop
-sub-put-bits c = begins-room (c .before .before .loop .inv .1) (bitBytes (c .before .before .before .before .before .args .w) (c .level-of .result + c .before .before .before .before .before .args .d)) (rows-fit (now (c .before .before .before .before .before .args .buf)) (levelAtBytes (c .before .before .before .before .before .args .w) (c .before .before .before .before .before .args .d) (levelByte (now (c .before .before .before .before .before .args .levels)))) (c .before .before .before .before .before .args .n) (c .before .before .loop .a) (ap (λ (x : ℕ). bitBytes (c .before .before .before .before .before .args .w) (x + c .before .before .before .before .before .args .d)) (c .level-of .ensures .0)) (c .before .loop-test .taken) (c .before .before .before .before .before .pre .2))
+sub-put-bits c = row-start (levelAtBytes (c .before .before .before .before .before .args .w) (c .before .before .before .before .before .args .d) (levelByte (now (c .before .before .before .before .before .args .levels)))) (c .before .before .loop .a) (c .before .before .loop .inv .1) (ap (λ (x : ℕ). bitBytes (c .before .before .before .before .before .args .w) (x + c .before .before .before .before .before .args .d)) (c .level-of .ensures .0)) (c .before .loop-test .taken) (c .before .before .before .before .before .pre .2)
 
 part-put-bits-start : tie.Need-part-put-bits-start Inv-loop μ-loop
-part-put-bits-start c = begins-room (c .before .before .loop .inv .1) (bitBytes (c .before .before .before .before .before .args .w) (c .level-of .result + c .before .before .before .before .before .args .d)) (rows-fit (now (c .before .before .before .before .before .args .buf)) (levelAtBytes (c .before .before .before .before .before .args .w) (c .before .before .before .before .before .args .d) (levelByte (now (c .before .before .before .before .before .args .levels)))) (c .before .before .before .before .before .args .n) (c .before .before .loop .a) (ap (λ (x : ℕ). bitBytes (c .before .before .before .before .before .args .w) (x + c .before .before .before .before .before .args .d)) (c .level-of .ensures .0)) (c .before .loop-test .taken) (c .before .before .before .before .before .pre .2))
+part-put-bits-start c = row-start (levelAtBytes (c .before .before .before .before .before .args .w) (c .before .before .before .before .before .args .d) (levelByte (now (c .before .before .before .before .before .args .levels)))) (c .before .before .loop .a) (c .before .before .loop .inv .1) (ap (λ (x : ℕ). bitBytes (c .before .before .before .before .before .args .w) (x + c .before .before .before .before .before .args .d)) (c .level-of .ensures .0)) (c .before .loop-test .taken) (c .before .before .before .before .before .pre .2)
 
 part-put-bits-end : tie.Need-part-put-bits-end Inv-loop μ-loop
 part-put-bits-end c = search needs
 
 put-bits-requires : tie.Need-put-bits-requires Inv-loop μ-loop
-put-bits-requires c κs = begins-tail (c .before .before .before .loop .inv .1) (bitBytes (c .before .before .before .before .before .before .args .w) (c .before .level-of .result + c .before .before .before .before .before .before .args .d)) (rows-fit (now (c .before .before .before .before .before .before .args .buf)) (levelAtBytes (c .before .before .before .before .before .before .args .w) (c .before .before .before .before .before .before .args .d) (levelByte (now (c .before .before .before .before .before .before .args .levels)))) (c .before .before .before .before .before .before .args .n) (c .before .before .before .loop .a) (ap (λ (x : ℕ). bitBytes (c .before .before .before .before .before .before .args .w) (x + c .before .before .before .before .before .before .args .d)) (c .before .level-of .ensures .0)) (c .before .before .loop-test .taken) (c .before .before .before .before .before .before .pre .2))
+put-bits-requires c κs = row-room (levelAtBytes (c .before .before .before .before .before .before .args .w) (c .before .before .before .before .before .before .args .d) (levelByte (now (c .before .before .before .before .before .before .args .levels)))) (c .before .before .before .loop .a) (c .before .before .before .loop .inv .1) (ap (λ (x : ℕ). bitBytes (c .before .before .before .before .before .before .args .w) (x + c .before .before .before .before .before .before .args .d)) (c .before .level-of .ensures .0)) (c .before .before .loop-test .taken) (c .before .before .before .before .before .before .pre .2)
 
 add-to : tie.Need-add-to Inv-loop μ-loop
-add-to c = omega (arith, c .before .before .before .before .before .before .before .before .before .good .1 .1 .1 .1 .0, begins-sum (c .before .before .before .before .before .before .loop .inv .1) (bitBytes (c .before .before .before .before .before .before .before .before .before .args .w) (c .before .before .before .before .level-of .result + c .before .before .before .before .before .before .before .before .before .args .d)) (c .before .before .put-bits .ensures .0) (rows-fit (now (c .before .before .before .before .before .before .before .before .before .args .buf)) (levelAtBytes (c .before .before .before .before .before .before .before .before .before .args .w) (c .before .before .before .before .before .before .before .before .before .args .d) (levelByte (now (c .before .before .before .before .before .before .before .before .before .args .levels)))) (c .before .before .before .before .before .before .before .before .before .args .n) (c .before .before .before .before .before .before .loop .a) (ap (λ (x : ℕ). bitBytes (c .before .before .before .before .before .before .before .before .before .args .w) (x + c .before .before .before .before .before .before .before .before .before .args .d)) (c .before .before .before .before .level-of .ensures .0)) (c .before .before .before .before .before .loop-test .taken) (c .before .before .before .before .before .before .before .before .before .pre .2)))
+add-to c = search (needs, row-sum (levelAtBytes (c .before .before .before .before .before .before .before .before .before .args .w) (c .before .before .before .before .before .before .before .before .before .args .d) (levelByte (now (c .before .before .before .before .before .before .before .before .before .args .levels)))) (c .before .before .before .before .before .before .loop .a) (c .before .before .before .before .before .before .loop .inv .1) (ap (λ (x : ℕ). bitBytes (c .before .before .before .before .before .before .before .before .before .args .w) (x + c .before .before .before .before .before .before .before .before .before .args .d)) (c .before .before .before .before .level-of .ensures .0)) (c .before .before .before .before .before .loop-test .taken) (c .before .before .before .before .before .before .before .before .before .pre .2) (c .before .before .put-bits .ensures .count))
 
 add-a : tie.Need-add-a Inv-loop μ-loop
 add-a c = search needs
@@ -51,13 +50,13 @@ loop-less : tie.Need-loop-less Inv-loop μ-loop
 loop-less c = search needs
 
 loop-again : tie.Need-loop-again Inv-loop μ-loop
-loop-again c = (search needs, rows-next (now (c .before .before .before .before .before .before .before .before .before .args .buf)) (levelAtBytes (c .before .before .before .before .before .before .before .before .before .args .w) (c .before .before .before .before .before .before .before .before .before .args .d) (levelByte (now (c .before .before .before .before .before .before .before .before .before .args .levels)))) (c .before .before .before .before .before .before .loop .a) (ap (λ (x : ℕ). bitBytes (c .before .before .before .before .before .before .before .before .before .args .w) (x + c .before .before .before .before .before .before .before .before .before .args .d)) (c .before .before .before .before .level-of .ensures .0)) (begins-more (c .before .before .before .before .before .before .loop .inv .1) (bitBytes (c .before .before .before .before .before .before .before .before .before .args .w) (c .before .before .before .before .level-of .result + c .before .before .before .before .before .before .before .before .before .args .d)) (c .before .before .put-bits .kept .1 .1 .0) (c .before .before .put-bits .ensures)))
+loop-again c = (search needs, wrote-row (levelAtBytes (c .before .before .before .before .before .before .before .before .before .args .w) (c .before .before .before .before .before .before .before .before .before .args .d) (levelByte (now (c .before .before .before .before .before .before .before .before .before .args .levels)))) (c .before .before .before .before .before .before .loop .a) (c .before .before .before .before .before .before .loop .inv .1) (ap (λ (x : ℕ). bitBytes (c .before .before .before .before .before .before .before .before .before .args .w) (x + c .before .before .before .before .before .before .before .before .before .args .d)) (c .before .before .before .before .level-of .ensures .0)) (c .before .before .put-bits .ensures))
 
 same-length : tie.Need-same-length Inv-loop μ-loop
-same-length c = c .before .loop .inv .1 .same
+same-length c = rows-kept (levelAtBytes (c .before .before .before .before .args .w) (c .before .before .before .before .args .d) (levelByte (now (c .before .before .before .before .args .levels)))) (c .before .loop .inv .0) (c .before .before .before .before .pre .2) (c .before .loop .inv .1)
 
 returns : tie.Need-returns Inv-loop μ-loop
-returns c = rows-all (now (c .before .before .before .before .args .buf)) (levelAtBytes (c .before .before .before .before .args .w) (c .before .before .before .before .args .d) (levelByte (now (c .before .before .before .before .args .levels)))) (c .before .before .before .before .args .n) (c .before .loop .a) (c .before .loop .inv .0) (c .loop-test .left) (c .before .loop .inv .1)
+returns c = rows-whole (levelAtBytes (c .before .before .before .before .args .w) (c .before .before .before .before .args .d) (levelByte (now (c .before .before .before .before .args .levels)))) (c .before .loop .inv .0) (c .loop-test .left) (c .before .loop .inv .1)
 
 pub put-level-values-spec : {M : Type 1} → statement M
 put-level-values-spec =
@@ -66,9 +65,9 @@ put-level-values-spec =
     Inv-loop
     μ-loop
     loop-holds
-    add-level-of
-    level-of-requires
     add-put-bits
+    level-of-requires
+    add-put-bits-2
     sub-put-bits
     part-put-bits-start
     part-put-bits-end

@@ -1,4 +1,4 @@
-use Rattle.reader_fast.specs.Standing.{readRest}
+use Rattle.reader_words.specs.Standing.{readRest}
 use Rattle.reader.proofs.Loop.{ends-of}
 use borrow.Author.Needs.{needs}
 use Rattle.reader.proofs.read_into.Statement.{statement}

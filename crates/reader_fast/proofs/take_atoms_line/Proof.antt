@@ -1,6 +1,6 @@
 use mathlib.Core.Path.{refl}
 use native.Mathlib.Omega.{arith}
-use Rattle.reader_fast.proofs.Digits.{short-number-in}
+use Rattle.reader_words.proofs.Digits.{short-number-in}
 use Rattle.reader_fast.proofs.Pieces.{word-in, first-goes}
 use borrow.Author.Needs.{needs}
 use Rattle.reader_fast.proofs.take_atoms_line.Statement.{statement}

@@ -1,7 +1,7 @@
 use borrow.Author.Needs.{needs}
 use Prim.Native.Nat.{_-_}
 use mathlib.Core.Path.{refl}
-use Rattle.reader_fast.specs.Standing.{GoesBodies}
+use Rattle.reader_words.specs.Standing.{GoesBodies}
 use Rattle.reader_fast.proofs.Pieces.{goes-bodies}
 use Rattle.reader_fast.proofs.take_body_atoms.Statement.{statement}
 use Rattle.reader_fast.proofs.take_body_atoms.Tie as tie

@@ -2,7 +2,7 @@ use borrow.Author.Needs.{needs}
 use Prim.Native.Nat.{_-_}
 use lib.ListN.{length}
 use mathlib.Core.Path.{_≡_, refl, _∙_}
-use Rattle.reader_fast.specs.Standing.{readRest}
+use Rattle.reader_words.specs.Standing.{readRest}
 use Rattle.reader_fast.proofs.take_lines.Statement.{statement}
 use Rattle.reader_fast.proofs.take_lines.Tie as tie
 

@@ -1,12 +1,13 @@
-use borrow.Author.Needs.{needs}
-use Rattle.truth_blocks.proofs.WholeBlocks.{bit-in, bit-block, next-asks, next-block, zero-asks, zero-block, passes-five, passes-four, passes-three, passes-six, passes-none, rule-block, rule-asks}
-use Rattle.truth_literals.specs.Values.{valueIn}
-use mathlib.Core.Path.{_∙_, ap}
-use denote.Ref.{now}
-use Rattle.clause_table_laws.proofs.Cells.{told, arrays}
-use native.Mathlib.Omega.{arith}
-use Rattle.clause_layout.proofs.Groups.{rule6, rule-fits, first-middle}
 use Rattle.clause_tables.specs.declared.Totals.{Totals}
+use Rattle.clause_layout.proofs.Groups.{rule6, rule-fits, span-asks}
+use native.Mathlib.Omega.{arith}
+use Rattle.clause_table_laws.proofs.Cells.{told, arrays}
+use denote.Ref.{now}
+use mathlib.Core.Path.{_∙_, ap}
+use Rattle.truth_literals.specs.Values.{valueIn}
+use Rattle.truth_blocks.proofs.WholeBlocks.{bit-in, bit-block, next-asks, next-block, zero-asks, zero-block, passes-five, passes-four, passes-three, passes-six, passes-none, rule-block, rule-asks}
+use Rattle.clause_layout.proofs.BlockChains.{block-five}
+use borrow.Author.Needs.{needs}
 use Rattle.truth_blocks.proofs.block_passes.Statement.{statement}
 use Rattle.truth_blocks.proofs.block_passes.Tie as tie
 
@@ -14,7 +15,7 @@ totals-requires : tie.Need-totals-requires
 totals-requires c κs = search needs
 
 chain-of-block-requires : tie.Need-chain-of-block-requires
-chain-of-block-requires c κs = search needs
+chain-of-block-requires c κs = (c .before .before .before .before .pre .0, block-five (c .before .before .before .before .pre .1) (c .if1 .taken))
 
 chain-bit-requires : tie.Need-chain-bit-requires
 chain-bit-requires c κs = search needs
@@ -38,7 +39,7 @@ returns-3 : tie.Need-returns-3
 returns-3 c = passes-three _ _ _ _ _ (c .before .if3 .taken) (c .zero-block-holds .ensures ∙ zero-block (told (c .before .before .before .before .before .before .before .pre .0) (c .before .before .before .before .totals .ensures)) (c .before .before .before .before .before .before .before .pre .1) (c .before .if3 .taken) (valueIn (now (c .before .before .before .before .before .before .before .args .assignment))))
 
 span-requires : tie.Need-span-requires
-span-requires c κs = (c .before .before .before .before .before .before .before .pre .0, c .before .before .before .before .before .before .before .pre .1 .item-some, rule-fits (arrays (c .before .before .before .before .before .before .before .pre .0)) (c .before .before .before .before .before .before .before .pre .1) (rule6 (arrays (c .before .before .before .before .before .before .before .pre .0)) (c .before .before .before .before .before .before .before .pre .1) (c .if4 .taken)), omega arith, first-middle (arrays (c .before .before .before .before .before .before .before .pre .0)) (c .before .before .before .before .before .before .before .pre .1) (rule6 (arrays (c .before .before .before .before .before .before .before .pre .0)) (c .before .before .before .before .before .before .before .pre .1) (c .if4 .taken)))
+span-requires c κs = span-asks (arrays (c .before .before .before .before .before .before .before .pre .0)) (c .before .before .before .before .before .before .before .pre .1) (rule6 (arrays (c .before .before .before .before .before .before .before .pre .0)) (c .before .before .before .before .before .before .before .pre .1) (c .if4 .taken)) (c .before .before .before .before .before .before .before .pre .0) _ (omega arith)
 
 head-requires : tie.Need-head-requires
 head-requires c κs = (c .before .before .before .before .before .before .before .before .pre .0, c .before .before .before .before .before .before .before .before .pre .1 .item-some, rule-fits (arrays (c .before .before .before .before .before .before .before .before .pre .0)) (c .before .before .before .before .before .before .before .before .pre .1) (rule6 (arrays (c .before .before .before .before .before .before .before .before .pre .0)) (c .before .before .before .before .before .before .before .before .pre .1) (c .before .if4 .taken)))

@@ -1,17 +1,27 @@
-use denote.Ref.{now}
-use Prim.Native.Nat.{_-_, _*_, _<_}
-use mathlib.Core.Bool.{true}
-use mathlib.Core.Path.{_≡_, refl}
-use native.Mathlib.Omega.{arith}
-use borrow.Author.Tests.{not-true, not-false}
-use borrow.Author.Needs.{needs}
-use Rattle.lists.specs.Lists.{allTo}
-use Rattle.clause_literals.specs.Sizes.{sizesOf}
-use Rattle.truth_literals.specs.Values.{valueIn}
-use Rattle.truth_blocks.specs.Blocks.{nextClause}
+use Rattle.truth_literals.proofs.Values.{negated-size, says, one-true}
+use Rattle.encoding.specs.Literal.{−_}
 use Rattle.truth_blocks.proofs.BlockLaws.{lowTo, lower-more, lower-fails, low-more, long-is}
+use Rattle.truth_blocks.specs.Blocks.{nextClause}
+use Rattle.truth_literals.specs.Values.{valueIn}
+use Rattle.clause_literals.specs.Sizes.{sizesOf}
+use Rattle.lists.specs.Lists.{allTo}
+use borrow.Author.Needs.{needs}
+use borrow.Author.Tests.{not-true, not-false}
+use native.Mathlib.Omega.{arith}
+use mathlib.Core.Path.{_≡_, refl}
+use mathlib.Core.Bool.{true}
+use Prim.Native.Nat.{_-_, _*_, _<_}
+use denote.Ref.{now}
 use Rattle.truth_blocks.proofs.next_block_holds.Statement.{statement}
 use Rattle.truth_blocks.proofs.next_block_holds.Tie as tie
+use Rattle.truth_blocks.proofs.next_block_holds.Reads as reads
+use Rattle.truth_blocks.proofs.next_block_holds.Lts as lts
+use Rattle.clause_literals.proofs.level_var.Reads as level-var-reads
+use Rattle.clause_literals.proofs.negated.Reads as negated-reads
+use Rattle.clause_literals.proofs.next_var.Reads as next-var-reads
+use Rattle.truth_blocks.proofs.long_hold.Reads as long-hold-reads
+use Rattle.truth_blocks.proofs.lower_holds.Reads as lower-holds-reads
+use Rattle.truth_literals.proofs.holds.Reads as holds-reads
 
 abbrev Inv-loop : tie.InvT-loop
 Inv-loop s a i assignment u v low₀ j₀ low j = (j < i) × (allTo (2 * j) (nextClause (valueIn assignment) (sizesOf s) (a .0) i) ≡ true) × (low ≡ lowTo (valueIn assignment) (sizesOf s) (a .0) i j)
@@ -19,45 +29,63 @@ Inv-loop s a i assignment u v low₀ j₀ low j = (j < i) × (allTo (2 * j) (nex
 abbrev μ-loop : tie.MeasureT-loop
 μ-loop s a i assignment u v low₀ j₀ low j = i - j
 
+-- src/lib.rt:68:9
 next-var-requires : tie.Need-next-var-requires Inv-loop μ-loop
 next-var-requires c κs = search needs
 
+-- src/lib.rt:69:9
 level-var-requires : tie.Need-level-var-requires Inv-loop μ-loop
 level-var-requires c κs = search needs
 
+-- src/lib.rt:72:5
 loop-holds : tie.Need-loop-holds Inv-loop μ-loop
 loop-holds c = (c .before .before .before .pre .3, refl, refl)
 
+-- src/lib.rt:72:11
 add-loop : tie.Need-add-loop Inv-loop μ-loop
 add-loop c = search needs
 
+-- src/lib.rt:73:33
 add-level-var : tie.Need-add-level-var Inv-loop μ-loop
 add-level-var c = search needs
 
+-- src/lib.rt:73:13
 level-var-requires-2 : tie.Need-level-var-requires-2 Inv-loop μ-loop
 level-var-requires-2 c κs = search needs
 
+-- src/lib.rt:74:13
 lower-holds-requires : tie.Need-lower-holds-requires Inv-loop μ-loop
 lower-holds-requires c κs = ((omega (arith, c .level-var2 .ensures), omega (arith, c .level-var2 .ensures, c .before .loop-test .taken)), (omega (arith, c .before .before .before .before .next-var .ensures), omega (arith, c .before .before .before .before .next-var .ensures)), (omega (arith, c .before .before .before .level-var .ensures), omega (arith, c .before .before .before .level-var .ensures)))
 
+-- src/lib.rt:75:13
 returns : tie.Need-returns Inv-loop μ-loop
 returns c = lower-fails (valueIn (now (c .before .before .before .before .before .before .before .before .args .assignment))) (sizesOf (c .before .before .before .before .before .before .before .before .args .s)) (c .before .before .before .before .before .before .before .before .args .a .0) (c .before .before .before .before .before .before .before .before .args .i) (c .before .before .before .before .loop .j) (c .before .before .before .loop-test .taken) (c .before .before .level-var2 .ensures) (c .before .before .before .before .before .before .next-var .ensures) (c .before .before .before .before .before .level-var .ensures) (c .before .lower-holds .ensures) (not-true _ (c .if1 .taken))
 
-signed-holds-requires : tie.Need-signed-holds-requires Inv-loop μ-loop
-signed-holds-requires c κs = (omega (arith, c .before .before .level-var2 .ensures), omega (arith, c .before .before .level-var2 .ensures, c .before .before .before .loop-test .taken))
+-- src/lib.rt:77:27
+negated-requires : tie.Need-negated-requires Inv-loop μ-loop
+negated-requires c κs = search needs
 
+-- src/lib.rt:77:21
+holds-requires : tie.Need-holds-requires Inv-loop μ-loop
+holds-requires c κs = omega (arith, negated-size (c .before .before .before .level-var2 .result .0) (c .negated .ok) (c .negated .ensures), c .before .before .before .level-var2 .ensures, c .before .before .before .before .loop-test .taken)
+
+-- src/lib.rt:78:9
 add-j : tie.Need-add-j Inv-loop μ-loop
 add-j c = search needs
 
+-- src/lib.rt:72:5
 loop-less : tie.Need-loop-less Inv-loop μ-loop
 loop-less c = search needs
 
+-- src/lib.rt:72:5
 loop-again : tie.Need-loop-again Inv-loop μ-loop
-loop-again c = (search needs, lower-more (valueIn (now (c .before .before .before .before .before .before .before .before .before .args .assignment))) (sizesOf (c .before .before .before .before .before .before .before .before .before .args .s)) (c .before .before .before .before .before .before .before .before .before .args .a .0) (c .before .before .before .before .before .before .before .before .before .args .i) (c .before .before .before .before .before .loop .j) (c .before .before .before .before .loop-test .taken) (c .before .before .before .level-var2 .ensures) (c .before .before .before .before .before .before .before .next-var .ensures) (c .before .before .before .before .before .before .level-var .ensures) (c .before .before .lower-holds .ensures) (not-false _ (c .before .if1 .left)) (c .before .before .before .before .before .loop .inv .1), low-more (valueIn (now (c .before .before .before .before .before .before .before .before .before .args .assignment))) (sizesOf (c .before .before .before .before .before .before .before .before .before .args .s)) (c .before .before .before .before .before .before .before .before .before .args .a .0) (c .before .before .before .before .before .before .before .before .before .args .i) (c .before .before .before .before .before .loop .j) (c .before .before .before .level-var2 .ensures) (c .before .before .before .before .before .loop .inv .2) (c .signed-holds .ensures))
+loop-again c = (search needs, lower-more (valueIn (now (c .before .before .before .before .before .before .before .before .before .before .args .assignment))) (sizesOf (c .before .before .before .before .before .before .before .before .before .before .args .s)) (c .before .before .before .before .before .before .before .before .before .before .args .a .0) (c .before .before .before .before .before .before .before .before .before .before .args .i) (c .before .before .before .before .before .before .loop .j) (c .before .before .before .before .before .loop-test .taken) (c .before .before .before .before .level-var2 .ensures) (c .before .before .before .before .before .before .before .before .next-var .ensures) (c .before .before .before .before .before .before .before .level-var .ensures) (c .before .before .before .lower-holds .ensures) (not-false _ (c .before .before .if1 .left)) (c .before .before .before .before .before .before .loop .inv .1), low-more (valueIn (now (c .before .before .before .before .before .before .before .before .before .before .args .assignment))) (sizesOf (c .before .before .before .before .before .before .before .before .before .before .args .s)) (c .before .before .before .before .before .before .before .before .before .before .args .a .0) (c .before .before .before .before .before .before .before .before .before .before .args .i) (c .before .before .before .before .before .before .loop .j) (c .before .before .before .before .level-var2 .ensures) (c .before .before .before .before .before .before .loop .inv .2) (one-true (now (c .before .before .before .before .before .before .before .before .before .before .args .assignment)) (says (− (c .before .before .before .before .level-var2 .result .0)) (c .before .negated .ok) (c .before .negated .ensures) (omega (arith, c .before .before .before .before .level-var2 .ensures))) (c .holds .ensures)))
 
+-- src/lib.rt:80:5
 long-hold-requires : tie.Need-long-hold-requires Inv-loop μ-loop
 long-hold-requires c κs = ((omega (arith, c .before .before .before .next-var .ensures), omega (arith, c .before .before .before .next-var .ensures)), (omega (arith, c .before .before .level-var .ensures), omega (arith, c .before .before .level-var .ensures)))
 
+-- src/lib.rt:63:1
 returns-2 : tie.Need-returns-2 Inv-loop μ-loop
 returns-2 c = long-is (valueIn (now (c .before .before .before .before .before .before .args .assignment))) (sizesOf (c .before .before .before .before .before .before .args .s)) (c .before .before .before .before .before .before .args .a .0) (c .before .before .before .before .before .before .args .i) (c .before .before .loop .j) (c .before .before .loop .inv .0) (c .before .loop-test .left) (c .before .before .before .before .next-var .ensures) (c .before .before .before .level-var .ensures) (c .before .before .loop .inv .1) (c .before .before .loop .inv .2) (c .long-hold .ensures)
 
@@ -75,7 +103,8 @@ next-block-holds-spec =
     level-var-requires-2
     lower-holds-requires
     returns
-    signed-holds-requires
+    negated-requires
+    holds-requires
     add-j
     loop-less
     loop-again

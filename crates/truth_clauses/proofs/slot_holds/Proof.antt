@@ -1,24 +1,19 @@
-use Rattle.truth_clauses.proofs.Values.{slot-none, slot-some, number-asks}
-use borrow.Author.Needs.{sfits-of}
-use mir.Syntax.{w32}
-use mir.Facts.{toZ-ofZ}
-use mathlib.Core.Path.{_∙_}
-use denote.Ref.{now}
 use borrow.Author.Needs.{needs}
+use denote.Ref.{now}
+use mir.Facts.{toZ-ofZ}
+use Rattle.clause_literals.proofs.Signed.{zero-bits, some-bits}
+use Rattle.truth_clauses.proofs.Values.{slot-none, slot-some, slot-asks}
 use Rattle.truth_clauses.proofs.slot_holds.Statement.{statement}
 use Rattle.truth_clauses.proofs.slot_holds.Tie as tie
 
 returns : tie.Need-returns
-returns c = slot-none (now (c .before .before .before .args .assignment)) (c .before .before .before .args .x) (c .if1 .taken)
-
-literal-number-requires : tie.Need-literal-number-requires
-literal-number-requires c κs = search needs
+returns c = slot-none (now (c .before .before .args .assignment)) (zero-bits (c .before .before .fits .x) (c .if1 .taken))
 
 holds-requires : tie.Need-holds-requires
-holds-requires c κs = number-asks (now (c .before .before .before .before .args .assignment)) (c .before .before .before .before .args .x) (c .before .if1 .left) (toZ-ofZ (sfits-of {w = w32} (c .literal-number .ok)) ∙ c .literal-number .ensures) (search needs) (c .before .before .before .before .pre)
+holds-requires c κs = slot-asks (now (c .before .before .args .assignment)) (toZ-ofZ (c .before .before .fits .x)) (some-bits (c .if1 .left)) (c .before .before .pre .0) (c .before .before .pre .1)
 
 returns-2 : tie.Need-returns-2
-returns-2 c = slot-some (now (c .before .before .before .before .before .args .assignment)) (c .before .before .before .before .before .args .x) (c .before .before .if1 .left) (toZ-ofZ (sfits-of {w = w32} (c .before .literal-number .ok)) ∙ c .before .literal-number .ensures) (c .holds .ensures)
+returns-2 c = slot-some (now (c .before .before .before .args .assignment)) (toZ-ofZ (c .before .before .before .fits .x)) (some-bits (c .before .if1 .left)) (c .holds .ensures)
 
 pub slot-holds-spec : {M : Type 1} → statement M
-slot-holds-spec = tie.close (tie.spec returns literal-number-requires holds-requires returns-2)
+slot-holds-spec = tie.close (tie.spec returns holds-requires returns-2)

@@ -1,0 +1,2 @@
+-- Replies: the reply for a verdict
+pub mod Replies

@@ -1,0 +1,2 @@
+-- Chains: the slots of group 5
+pub mod Chains

@@ -1,0 +1,2 @@
+-- Chain: the variables of a bit of a chain
+pub mod Chain

@@ -1,0 +1,2 @@
+-- Counts: how many clauses items and groups have
+pub mod Counts
