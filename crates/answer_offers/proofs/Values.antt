@@ -23,7 +23,8 @@ use Rattle.lists.proofs.Tables.{length-tab, getD-tab, getD-map}
 use Rattle.encoding.specs.Literal.{Literal, variable, Assignment, valueOf, literalTrue}
 use Literal.{var, −_}
 use Rattle.answer_form.specs.Pieces.{Spotted}
-use Rattle.answer_values.specs.Assign.{literalValue as byteOf, nobody, literalAt, variableAt, Named, Unnamed, Outcome, putOutcome, putBytes, thenOutcome, thenBytes, assignedOf, assignedBytes, completedByte, completed, overwritten}
+use Rattle.answer_bytes.specs.Bytes.{Outcome, putOutcome, putBytes, completedByte, completed, overwritten}
+use Rattle.answer_values.specs.Assign.{literalValue as byteOf, nobody, literalAt, variableAt, Named, Unnamed, thenOutcome, thenBytes, assignedOf, assignedBytes}
 use Rattle.answer_values.proofs.Steps.{AllNamed, byte-kept, byte-given, rest-kept}
 use Rattle.answer_values.specs.Rows.{AllFit}
 use Rattle.answer_values.proofs.Rows.{done-assigned, named-or-not}

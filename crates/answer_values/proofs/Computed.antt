@@ -2,8 +2,6 @@
 --   outcomes-read   done, repeated by the other sign, stray, repeated before stray, stray before repeated in a later line, no literals
 --   bytes-read      the buffers at that moment
 --   counts-read     how many of the variables 1 to 3 no literal names
---   unset-read      how many have no value in a buffer
---   completed-read  values, a variable that has none read as false
 -- Assumes nothing.
 use Prim.Native.Nat.{ℕ}
 use mathlib.Core.Path.{_≡_, refl}
@@ -12,7 +10,8 @@ use Rattle.lists.specs.Ascii.{ascii}
 use Rattle.reader_form.specs.Automaton.{digitTest}
 use Rattle.answer_form.specs.Automaton.{seekStep}
 use Rattle.answer_form.specs.Pieces.{digitsValue, behindDigits, minusFrom, literalFrom, seekFrom, nextLiteral}
-use Rattle.answer_values.specs.Assign.{literalsWithin, literalsFrom, Outcome, unnamedCount, putOutcome, putBytes, assignedOf, assignedBytes, unsetCount, completed, overwritten}
+use Rattle.answer_bytes.specs.Bytes.{Outcome, putOutcome, putBytes, overwritten}
+use Rattle.answer_values.specs.Assign.{literalsWithin, literalsFrom, unnamedCount, assignedOf, assignedBytes}
 
 -- "s SATISFIABLE" has 13 bytes
 abbrev samples : List (List ℕ)
@@ -37,11 +36,3 @@ bytes-read = refl
 pub counts-read : map (λ t. unnamedCount 3 (literalsFrom t 13)) samples ≡ 0 ∷ 2 ∷ 2 ∷ 2 ∷ 1 ∷ 2 ∷ 3 ∷ []
 unfolding ascii digitTest seekStep digitsValue behindDigits minusFrom literalFrom seekFrom nextLiteral literalsWithin literalsFrom unnamedCount
 counts-read = refl
-
-pub unset-read : map (unsetCount 3) ((1 ∷ 0 ∷ 1 ∷ 2 ∷ []) ∷ (2 ∷ 0 ∷ 2 ∷ 8 ∷ []) ∷ (2 ∷ 2 ∷ 2 ∷ 2 ∷ []) ∷ []) ≡ 0 ∷ 2 ∷ 3 ∷ []
-unfolding unsetCount
-unset-read = refl
-
-pub completed-read : map completed ((1 ∷ 0 ∷ 1 ∷ []) ∷ (2 ∷ 0 ∷ 2 ∷ []) ∷ (2 ∷ 1 ∷ 2 ∷ []) ∷ (2 ∷ 2 ∷ 2 ∷ []) ∷ [])
-    ≡ (1 ∷ 0 ∷ 1 ∷ []) ∷ (0 ∷ 0 ∷ 0 ∷ []) ∷ (0 ∷ 1 ∷ 0 ∷ []) ∷ (0 ∷ 0 ∷ 0 ∷ []) ∷ []
-completed-read = refl

@@ -19,9 +19,10 @@ use Rattle.answer_reader.specs.declared.Formed.{Formed}
 use Rattle.answer_reader.specs.declared.Formed.the-variants.{Model, NoModel, Malformed}
 use Rattle.answer_reader.specs.Results.{foundFor, formFor, formOf}
 use Rattle.answer_reader.proofs.Given.{found-satisfiable, found-other, found-left}
-use Rattle.answer_values.specs.declared.Assigned.{Assigned}
-use Rattle.answer_values.specs.declared.Assigned.the-variants.{Done, Stray, Repeated}
-use Rattle.answer_values.specs.Assign.{literalsFrom, Outcome, putOutcome, putBytes, assignedOf, assignedBytes, numberValue, assignedFor, nextAnswer, nextBytes, outcomeBy, readOutcome, bytesBy, readBytes, assumedBy}
+use Rattle.answer_bytes.specs.declared.Assigned.{Assigned}
+use Rattle.answer_bytes.specs.declared.Assigned.the-variants.{Done, Stray, Repeated}
+use Rattle.answer_bytes.specs.Bytes.{Outcome, putOutcome, putBytes, numberValue, assignedFor}
+use Rattle.answer_values.specs.Assign.{literalsFrom, assignedOf, assignedBytes, nextAnswer, nextBytes, outcomeBy, readOutcome, bytesBy, readBytes, assumedBy}
 use Rattle.answer_values.proofs.Taking.{Took, assign-goes, assign-stops}
 
 -- ---- one literal

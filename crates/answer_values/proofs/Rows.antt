@@ -29,7 +29,8 @@ use Rattle.lists.proofs.Tables.{sum-ext}
 use Rattle.lists.proofs.Counting.{others}
 use Rattle.encoding.specs.Literal.{variable}
 use Rattle.answer_form.specs.Pieces.{Next, nextLiteral, Spotted}
-use Rattle.answer_values.specs.Assign.{literalThen, literalsWithin, literalsFrom, literalValue, nobody, literalAt, variableAt, spotAt, Unnamed, Named, isNamed, unnamedCount, Outcome, assignedOf, assignedBytes, unsetCount, overwritten}
+use Rattle.answer_bytes.specs.Bytes.{Outcome, unsetCount, overwritten}
+use Rattle.answer_values.specs.Assign.{literalThen, literalsWithin, literalsFrom, literalValue, nobody, literalAt, variableAt, spotAt, Unnamed, Named, isNamed, unnamedCount, assignedOf, assignedBytes}
 use Rattle.answer_values.proofs.Taking.{ahead}
 use Rattle.answer_values.specs.Rows.{Old, Fit, AllFit, StrayAt, RepeatedAt}
 use Rattle.answer_values.proofs.Steps.{AllNamed, State, Says, says, value-not-two, byte-kept, byte-given}

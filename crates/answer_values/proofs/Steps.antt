@@ -24,7 +24,8 @@ use Rattle.lists.proofs.Bools.{or-neither}
 use Rattle.encoding.specs.Literal.{Literal, variable}
 use Literal.{var, −_}
 use Rattle.answer_form.specs.Pieces.{Spotted}
-use Rattle.answer_values.specs.Assign.{literalValue, literalAt, variableAt, spotAt, Unnamed, Outcome, putOutcome, putBytes, thenOutcome, thenBytes, assignedOf, assignedBytes}
+use Rattle.answer_bytes.specs.Bytes.{Outcome, putOutcome, putBytes}
+use Rattle.answer_values.specs.Assign.{literalValue, literalAt, variableAt, spotAt, Unnamed, thenOutcome, thenBytes, assignedOf, assignedBytes}
 use Rattle.answer_values.specs.Rows.{New, Old}
 
 -- ---- places

@@ -28,11 +28,13 @@ use Rattle.answer_form.proofs.PieceLaws.{reads-total}
 use Rattle.answer_reader.specs.declared.Next.{Next as NextAnswer}
 use Rattle.answer_reader.specs.declared.Next.the-variants.{Literal as NextLiteral, Last, Left as NextLeft}
 use Rattle.answer_reader.specs.Results.{capped, nextFor}
-use Rattle.answer_values.specs.declared.Assigned.{Assigned}
-use Rattle.answer_values.specs.declared.Assigned.the-variants.{Done, Stray, Repeated}
-use Rattle.answer_values.specs.Assign.{literalThen, literalsWithin, literalsFrom, literalValue, Outcome, putOutcome, putBytes, thenOutcome, thenBytes, assignedOf, assignedBytes, numberValue, assignedFor}
-use Rattle.answer_values.proofs.Assigned.{the-type}
-use Rattle.answer_values.proofs.Putting.{capped-positive, capped-small, capped-outcome, capped-bytes, put-stops}
+use Rattle.answer_bytes.specs.declared.Assigned.{Assigned}
+use Rattle.answer_bytes.specs.declared.Assigned.the-variants.{Done, Stray, Repeated}
+use Rattle.answer_bytes.specs.Bytes.{Outcome, putOutcome, putBytes, numberValue, assignedFor}
+use Rattle.answer_values.specs.Assign.{literalThen, literalsWithin, literalsFrom, literalValue, thenOutcome, thenBytes, assignedOf, assignedBytes}
+use Rattle.answer_bytes.proofs.Assigned.{the-type}
+use Rattle.answer_bytes.proofs.Putting.{put-stops}
+use Rattle.answer_values.proofs.Capped.{capped-positive, capped-small, capped-outcome, capped-bytes}
 
 -- ---- the variants told apart
 

@@ -1,43 +1,36 @@
 -- An answer's literals, assigned one after the other to a buffer of bytes (document 01, "Check and filling out", rows 13 and 14), and the variables that no
--- literal names, which are read as false (document 02, Q-3). The byte of variable v stands at v - 1: 1 or 0 is its value, 2 says that it has none yet. n is
--- the number of variables.
+-- literal names, which are read as false (document 02, Q-3). The bytes are those of answer_bytes (Bytes). n is the number of variables.
 --   literalsFrom t p      the literals of t from position p on, with the indices of their first bytes
 --   literalValue l        the value that l gives its variable
 --   literalAt, variableAt, spotAt   the literal at a place of a list, its variable, the index of its first byte
 --   Named, Unnamed        some literal of a list is of a variable; none is
---   putOutcome n v s b    what it is to give a value to variable v, whose literal's first byte is s: stray, repeated or done
---   putBytes n v x b      the buffer after it, where the value is x
 --   assignedOf n xs b     the first outcome of the literals xs that is not done
 --   assignedBytes n xs b  the buffer at that moment
 --   isNamed xs v          some literal of xs is of variable v
 --   unnamedCount n xs     how many of the variables 1 to n no literal of xs names
---   unsetCount n b        how many variables have no value in b
---   completed bs          the values bs, a variable that has none read as false
---   overwritten n x b     b with x in its first n places
---   numberValue x         the value that the literal with number x gives
---   assignedFor o         the code's answer for an outcome
 --   nextAnswer, nextBytes the code's answer a, then an outcome; the buffer later on if a is Done, else the buffer now
+--   PassesNext a t n p b q c   after the code's answer a, literals of t from position p up to q are passed over and the buffer b becomes c
 --   readOutcome n t b     the outcome of the literals of the whole answer t, done if its status is not SATISFIABLE
 --   readBytes n t b       the buffer at that moment
 --   assumedBy f o k       how many variables are read as false, where k have no value: k if the form f is that of a model and o says that each literal is
 --                         assigned, and 0 of an answer that is refused
 -- Assumes nothing.
-use Prim.Native.Nat.{ℕ, zero, suc, _-_, _<_}
+use Prim.Native.Nat.{ℕ, zero, suc, _<_}
 use mathlib.Core.Path.{_≡_}
 use mathlib.Core.Bool.{Bool, cond}
-use mathlib.Core.List.{List, [], _∷_, _++_, map}
-use lib.Dec.{eqb, ltb}
-use lib.IntN.{ℤ}
-use lib.ListN.{length, getD, set, drop, replicate}
+use mathlib.Core.List.{List, [], _∷_}
+use lib.Dec.{eqb}
+use lib.ListN.{length, getD}
 use Rattle.lists.specs.Lists.{any, sum}
 use Rattle.encoding.specs.Literal.{Literal, variable}
 use Literal.{var, −_}
-use Rattle.clause_literals.specs.Signed.{isNegative}
 use Rattle.answer_form.specs.Pieces.{Found, statusOf, Next, nextLiteral, Spotted}
 use Rattle.answer_reader.specs.declared.Formed.{Formed}
 use Rattle.answer_reader.specs.declared.Formed.the-variants.{Model, NoModel, Malformed}
-use Rattle.answer_values.specs.declared.Assigned.{Assigned}
-use Rattle.answer_values.specs.declared.Assigned.the-variants.{Done, Stray, Repeated}
+use Rattle.answer_quick.specs.Quick.{Passes}
+use Rattle.answer_bytes.specs.Bytes.{Outcome, putOutcome, putBytes, assignedFor}
+use Rattle.answer_bytes.specs.declared.Assigned.{Assigned}
+use Rattle.answer_bytes.specs.declared.Assigned.the-variants.{Done, Stray, Repeated}
 
 -- ---- literals
 
@@ -87,19 +80,6 @@ isNamed xs v = any (λ (x : Spotted). eqb (variable (x .literal)) v) xs
 unfoldable pub unnamedCount : ℕ → List Spotted → ℕ
 unnamedCount n xs = sum n (λ v. cond (isNamed xs v) 0 1)
 
--- ---- one literal
-
-pub data Outcome : Type 0 where
-  done : Outcome
-  stray : (spot : ℕ) → Outcome
-  repeated : (spot : ℕ) → Outcome
-
-unfoldable pub putOutcome : ℕ → ℕ → ℕ → List ℕ → Outcome
-putOutcome n v s b = cond (ltb n v) (Outcome.stray s) (cond (eqb (getD b (v - 1) 0) 2) Outcome.done (Outcome.repeated s))
-
-unfoldable pub putBytes : ℕ → ℕ → ℕ → List ℕ → List ℕ
-putBytes n v x b = cond (ltb n v) b (cond (eqb (getD b (v - 1) 0) 2) (set b (v - 1) x) b)
-
 -- ---- one after the other
 
 -- the first of two outcomes that is not done
@@ -124,30 +104,7 @@ assignedBytes n [] b = b
 assignedBytes n (x ∷ xs) b =
     thenBytes (putOutcome n (variable (x .literal)) (x .first) b) (assignedBytes n xs (putBytes n (variable (x .literal)) (literalValue (x .literal)) b)) b
 
--- ---- the whole buffer
-
-unfoldable pub unsetCount : ℕ → List ℕ → ℕ
-unsetCount n b = sum n (λ v. cond (eqb (getD b (v - 1) 0) 2) 1 0)
-
--- a variable that has no value is read as false
-abbrev pub completedByte : ℕ → ℕ
-completedByte x = cond (eqb x 2) 0 x
-
-abbrev pub completed : List ℕ → List ℕ
-completed bs = map completedByte bs
-
-unfoldable pub overwritten : ℕ → ℕ → List ℕ → List ℕ
-overwritten n x b = replicate n x ++ drop n b
-
 -- ---- for the code
-
-abbrev pub numberValue : ℤ → ℕ
-numberValue x = cond (isNegative x) 0 1
-
-abbrev pub assignedFor : Outcome → Assigned
-assignedFor Outcome.done = Done
-assignedFor (Outcome.stray s) = Stray s
-assignedFor (Outcome.repeated s) = Repeated s
 
 abbrev pub nextAnswer : Assigned → Outcome → Assigned
 nextAnswer Done o = assignedFor o
@@ -158,6 +115,12 @@ abbrev pub nextBytes : Assigned → List ℕ → List ℕ → List ℕ
 nextBytes Done later b = later
 nextBytes (Stray s) later b = b
 nextBytes (Repeated s) later b = b
+
+-- literals are passed over if each literal before them was assigned
+abbrev pub PassesNext : Assigned → List ℕ → ℕ → ℕ → List ℕ → ℕ → List ℕ → Type 0
+PassesNext Done t n p b q c = Passes t n p b q c
+PassesNext (Stray s) t n p b q c = (q ≡ p) × (c ≡ b)
+PassesNext (Repeated s) t n p b q c = (q ≡ p) × (c ≡ b)
 
 -- ---- the whole answer, by its status
 

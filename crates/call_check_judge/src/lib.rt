@@ -1,8 +1,8 @@
 // The check of values that an answer gave: rows 13, 14 and 16, and what an accepted one writes (document 01, "Check and filling out").
+use answer_bytes::Assigned;
+use answer_bytes::copy_completed;
+use answer_bytes::fill;
 use answer_values::AnswerRead;
-use answer_values::Assigned;
-use answer_values::copy_completed;
-use answer_values::fill;
 use call_check_rows::CheckVerdict;
 use call_results::highest_of;
 use call_results::put_counters;
@@ -15,7 +15,7 @@ ghost use mathlib.Core.Path.{_≡_};
 ghost use lib.ListN.{length, take};
 ghost use Rattle.encoding.specs.Code.{variablesOf};
 ghost use Rattle.clause_tables.specs.Tables.{Ready, codeIn, atomsIn, varsIn};
-ghost use Rattle.answer_values.specs.Assign.{completed, overwritten};
+ghost use Rattle.answer_bytes.specs.Bytes.{completed, overwritten};
 ghost use Rattle.call_check_rows.specs.declared.CheckVerdict.the-variants.{Refused};
 ghost use Rattle.call_check_rows.specs.Check.{CheckGives, valuesJudged, outcomeOf, afterAssigning};
 

@@ -26,7 +26,7 @@ use Rattle.theory.proofs.Bits.{value-ext}
 use Rattle.theory.proofs.Occurs.{clauses-fit}
 use Rattle.clause_tables.specs.Tables.{Limited}
 use Rattle.clause_table_laws.proofs.Elements.{ranges}
-use Rattle.answer_values.specs.Assign.{unsetCount}
+use Rattle.answer_bytes.specs.Bytes.{unsetCount}
 use Rattle.truth_clauses.specs.Truth.{valueIn, codeFalse, codeFirstFalse}
 use Rattle.call_results.specs.Results.{trueCount, counters}
 use Rattle.call_results.proofs.ValueBytes.{atoms-within}

@@ -22,7 +22,7 @@ use Rattle.refusals.specs.Numbers.{textNumber}
 use Rattle.text.specs.Limits.{Admitted}
 use Rattle.reader_laws.proofs.Rows.{row-few}
 use Rattle.answer_form.specs.Pieces.{Spotted}
-use Rattle.answer_values.specs.Assign.{overwritten}
+use Rattle.answer_bytes.specs.Bytes.{overwritten}
 use Rattle.answer_values.proofs.Rows.{unnamed-rest}
 use Rattle.answer_offers.specs.Offered.{valueBytes, valuesOf}
 use Rattle.call_results.specs.Results.{Result, assignmentAfter, levelsAfter, varTotal, programRead}

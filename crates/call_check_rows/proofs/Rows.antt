@@ -23,9 +23,10 @@ use Rattle.clause_literals.specs.Sizes.{sizesOf, Bounded}
 use Rattle.answer_reader.specs.declared.Formed.{Formed}
 use Rattle.answer_reader.specs.declared.Formed.the-variants.{Model as FormModel, NoModel, Malformed}
 use Rattle.answer_reader.specs.Results.{formOf}
-use Rattle.answer_values.specs.declared.Assigned.{Assigned}
-use Rattle.answer_values.specs.declared.Assigned.the-variants.{Done, Stray, Repeated}
-use Rattle.answer_values.specs.Assign.{Outcome, literalsFrom, assignedOf, assignedBytes, unsetCount, completedByte, completed, overwritten, assignedFor, readOutcome, readBytes, assumedBy}
+use Rattle.answer_bytes.specs.declared.Assigned.{Assigned}
+use Rattle.answer_bytes.specs.declared.Assigned.the-variants.{Done, Stray, Repeated}
+use Rattle.answer_bytes.specs.Bytes.{Outcome, unsetCount, completedByte, completed, overwritten, assignedFor}
+use Rattle.answer_values.specs.Assign.{literalsFrom, assignedOf, assignedBytes, readOutcome, readBytes, assumedBy}
 use Rattle.answer_form.specs.Pieces.{Spotted}
 use Rattle.answer_values.proofs.Steps.{rest-kept}
 use Rattle.answer_values.proofs.Rows.{literals-named}

@@ -18,7 +18,7 @@ use Rattle.encoding.specs.Width.{width}
 use Rattle.encoding.specs.Literal.{Assignment, Clause, valueOf, clauseTrue}
 use Rattle.theory.proofs.Whole.{clauses-whole}
 use Rattle.answer_offers.specs.Offered.{valueBytes}
-use Rattle.answer_values.specs.Assign.{overwritten}
+use Rattle.answer_bytes.specs.Bytes.{overwritten}
 use Rattle.truth_clauses.specs.Truth.{valueIn, codeFirstFalse}
 use Rattle.call_results.proofs.ValueBytes.{values-same}
 use Rattle.call_check_rows.specs.Rows.{clauseOf, clauseNumber}

@@ -42,7 +42,8 @@ use Rattle.answer_reader.specs.declared.Formed.{Formed}
 use Rattle.answer_reader.specs.declared.Formed.the-variants.{Model as FormModel, NoModel, Malformed as FormMalformed}
 use Rattle.answer_reader.specs.Results.{formOf}
 use Rattle.answer_reader.proofs.Promised.{form-malformed, malformed-form, form-none, none-form}
-use Rattle.answer_values.specs.Assign.{Outcome, literalsFrom, variableAt, spotAt, assignedOf, assignedBytes, unsetCount, completed}
+use Rattle.answer_bytes.specs.Bytes.{Outcome, unsetCount, completed}
+use Rattle.answer_values.specs.Assign.{literalsFrom, variableAt, spotAt, assignedOf, assignedBytes}
 use Rattle.answer_values.specs.Rows.{Fit, AllFit, StrayAt, RepeatedAt}
 use Rattle.answer_values.proofs.Rows.{Meant, meant, unset-unnamed}
 use Rattle.answer_offers.specs.Offered.{valueBytes, valuesOf}

@@ -29,9 +29,10 @@ use Rattle.reader.specs.Verdict.{readOf}
 use Rattle.answer_reader.specs.declared.Formed.{Formed}
 use Rattle.answer_reader.specs.declared.Formed.the-variants.{Model as FormModel, NoModel, Malformed}
 use Rattle.answer_reader.specs.Results.{formOf}
-use Rattle.answer_values.specs.declared.Assigned.{Assigned}
-use Rattle.answer_values.specs.declared.Assigned.the-variants.{Done, Stray, Repeated}
-use Rattle.answer_values.specs.Assign.{Outcome, literalsFrom, assignedOf, assignedBytes, unsetCount, completed}
+use Rattle.answer_bytes.specs.declared.Assigned.{Assigned}
+use Rattle.answer_bytes.specs.declared.Assigned.the-variants.{Done, Stray, Repeated}
+use Rattle.answer_bytes.specs.Bytes.{Outcome, unsetCount, completed}
+use Rattle.answer_values.specs.Assign.{literalsFrom, assignedOf, assignedBytes}
 use Rattle.truth_clauses.specs.Truth.{codeFirstFalse}
 use Rattle.call_results.specs.Results.{Called, called, Result, trueCount, levelByte, counters, assignmentAfter, levelsAfter, varTotal, programRead}
 use Rattle.refusals.specs.declared.CheckRefusal.{CheckRefusal}

@@ -21,7 +21,7 @@ use Rattle.encoding.specs.Code.{codeOf, variablesOf}
 use Rattle.encoding.specs.Fill.{counter}
 use Rattle.reader.specs.declared.ReadResult.{ReadResult}
 use Rattle.program.specs.Arrays.{decoded}
-use Rattle.answer_values.specs.Assign.{overwritten}
+use Rattle.answer_bytes.specs.Bytes.{overwritten}
 use Rattle.truth_clauses.specs.Truth.{valueIn}
 
 -- V

@@ -7,9 +7,9 @@
 --   loaded-ready, loaded-code     the table of an accepted text is ready, and holds the code of its program
 -- Assumes nothing.
 use Prim.Native.Nat.{ℕ, _≤_, _<_}
-use mathlib.Core.Path.{_≡_, refl, sym, _∙_, ap, ap₂, subst}
+use mathlib.Core.Path.{_≡_, refl, sym, _∙_, ap, subst}
 use mathlib.Core.List.{List}
-use lib.ListN.{length, replicate}
+use lib.ListN.{length}
 use borrow.Author.Tests.{lt-ltb, le-ltb}
 use Rattle.encoding.specs.Code.{codeOf}
 use Rattle.program.specs.declared.Program.{Program as Arrays}
@@ -107,7 +107,7 @@ module _ {x : ReadResult} (s : x .verdict ≡ Accepted → Stored (x .program)) 
   table-read : e ≡ tableOf (codeOf (decoded (x .program)))
   table-read = l .table-is ∙ ap (λ (v : ReadVerdict). tableAfter v (x .program) b) accepted
 
-  pub loaded-cells : 3518 ≡ length e
+  pub loaded-cells : 4144 ≡ length e
   loaded-cells = sym (cells (made (s accepted) table-read))
 
   pub loaded-ready : Ready e

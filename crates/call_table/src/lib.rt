@@ -20,7 +20,7 @@ ghost use Rattle.call_table.specs.Loaded.{Loaded, refusedTotals, totalsR
 
 // Whether a text is a program; of an accepted one the table is made, in cells that are all 0. A refusal writes nothing.
 pub fn load(text: &[u8], table: &mut [u16; CELLS]) -> ReadVerdict
-    requires { ⌜ now table ≡ replicate 3518 0 ⌝ }
+    requires { ⌜ now table ≡ replicate 4144 0 ⌝ }
     ensures { λ v. ⌜ Loaded (readOf (now (text .entry))) v (now (table .entry)) (now (table .exit)) ⌝ }
 {
     if MAX_TEXT < text.len() {
@@ -47,7 +47,7 @@ pub fn load(text: &[u8], table: &mut [u16; CELLS]) -> ReadVerdict
 
 // The same for a text that begins with `front` and has `total` bytes. Of a text that is not overlong `front` is all.
 pub fn load_counted(front: &[u8], total: usize, table: &mut [u16; CELLS]) -> ReadVerdict
-    requires { ⌜ now table ≡ replicate 3518 0 ⌝ }
+    requires { ⌜ now table ≡ replicate 4144 0 ⌝ }
     ensures { λ v. ⌜ Loaded (countedOf (now (front .entry)) total) v (now (table .entry)) (now (table .exit)) ⌝ }
 {
     if MAX_TEXT < total {

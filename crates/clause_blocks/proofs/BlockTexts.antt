@@ -2,28 +2,23 @@
 --   bit-block, next-block   the lines of a chain's bit, and of a block of group 4, are those of the walk's block
 --   bit-short               the variables of the bit are from 1 to 9,999
 --   next-block-asks         what `put_next_block` asks
---   block-short             the lines of a block have at most 3,008 bytes
 -- Assumes nothing.
-use Prim.Native.Nat.{ℕ, zero, suc, _*_, _≤_, _<_}
-use native.Mathlib.Nat.{suc-mul}
+use Prim.Native.Nat.{ℕ, suc, _*_, _≤_, _<_}
 use native.Mathlib.Omega.{arith}
 use mathlib.Core.Path.{_≡_, refl, sym, _∙_, ap, subst}
 use mathlib.Core.Bool.{Bool, true, false, cond}
-use mathlib.Core.Logic.{_⊎_, inl, inr}
-use mathlib.Core.List.{List, [], _∷_, _++_}
-use lib.Dec.{eqb, ltb}
-use lib.ListN.{length, length-append}
+use mathlib.Core.List.{List, [], _∷_}
+use lib.Dec.{eqb}
+use lib.ListN.{length}
 use borrow.Author.Tests.{eqb-true}
 use Rattle.lists.specs.Lists.{each}
 use Rattle.lists.proofs.Tables.{each-ext}
 use Rattle.encoding.specs.Code.{Code, its}
-use Rattle.encoding.specs.Literal.{Literal, literalNumber, variable}
-use Rattle.encoding.proofs.Literals.{number-size}
+use Rattle.encoding.specs.Literal.{Literal, variable}
 use Rattle.clause_literals.specs.Sizes.{sizesOf, Bounded}
-use Rattle.digits.specs.Bytes.{literalText, literalsText, lineText}
+use Rattle.digits.specs.Bytes.{lineText}
 use Rattle.digits.proofs.Wrote.{room-as}
-use Rattle.digits.proofs.Lengths.{literal-fits, literals-append-length, line-length}
-use Rattle.clause_walk.specs.Walk.{size, slots, slot, clauseAt, bitOf, slots4, slot4, chainSize, chainSlots, chainSlot, chainFirst, chainNext, chainBit, BlockAt, At}
+use Rattle.clause_walk.specs.Walk.{size, slots, slot, clauseAt, slots4, slot4, chainSize, chainSlots, chainSlot, chainFirst, chainNext, chainBit, BlockAt, At}
 use Rattle.clause_chains.specs.declared.Chain.{Chain}
 use Rattle.clause_tables.specs.declared.Totals.{Totals}
 use Rattle.clause_tables.specs.Tables.{Tabled}
@@ -31,32 +26,12 @@ use Rattle.clause_table_laws.proofs.Bounds.{Slotted, empty, holds}
 use Rattle.clause_layout.specs.BlockChain.{chainOfBlock}
 use Rattle.clause_layout.proofs.BlockChains.{slot-chain}
 use Rattle.clause_layout.proofs.Groups.{bounded, atom4, bits4, size-next, size-pair, slots-next, slots-pair, slot-next}
-use Rattle.clause_text.specs.Blocks.{isBlockwise, blockText}
-use Rattle.clause_text.proofs.BlockLaws.{blockwise-is}
-use Rattle.clause_blocks.specs.Numerals.{Short}
-use Rattle.clause_blocks.specs.Texts.{chainClause, bitText, ShortBit, nextBlockText}
+use Rattle.clause_text.specs.Blocks.{blockText}
+use Rattle.clause_numerals.specs.Numerals.{Short}
+use Rattle.clause_bits.specs.BitTexts.{chainClause, bitText, ShortBit}
+use Rattle.clause_blocks.specs.Texts.{nextBlockText}
 use Rattle.clause_blocks.proofs.NextBlocks.{nextClause, next-blocks}
 use Rattle.clause_text.proofs.Clause.{slotted}
-
--- ---- lengths
-
--- lines of at most m bytes each
-lines-short : (F : ℕ → List ℕ) (m k : ℕ) → ((y : ℕ) → y < k → length (F (suc y)) ≤ m) → length (each k F) ≤ k * m
-lines-short F m zero f = omega arith
-lines-short F m (suc k) f =
-    omega (arith, length-append (each k F) (F (suc k)), suc-mul k m, lines-short F m k (λ y h. f y (omega (arith, h))), f k (omega arith))
-
-slot-short : (ls : List Literal) → Slotted ls → length (literalsText ls) ≤ 6
-slot-short ls (empty q) = subst (λ (zs : List Literal). length (literalsText zs) ≤ 6) (sym q) (omega arith)
-slot-short ls (holds x q p h) =
-    subst (λ (zs : List Literal). length (literalsText zs) ≤ 6) (sym q)
-    (omega (
-      arith,
-      literals-append-length (x ∷ []) [],
-      length-append (literalText (literalNumber x) ++ (32 ∷ [])) [],
-      length-append (literalText (literalNumber x)) (32 ∷ []),
-      literal-fits 3 (literalNumber x) (omega (arith, number-size x, h)),
-    ))
 
 abbrev first-variable : List Literal → ℕ
 first-variable [] = 0
@@ -65,16 +40,6 @@ first-variable (x ∷ xs) = variable x
 module _ {G : Code} {t : Totals} {hs ss bs ks xs ys : List ℕ} (T : Tabled G t hs ss bs ks xs ys) where
   abbrev w : ℕ
   w = t .sizes .w
-
-  slots-short : {g a i y : ℕ} → At G g a i y → (l : ℕ) → l ≤ slots G g a i y → length (literalsText (each l (slot G g a i y))) ≤ l * 6
-  slots-short A zero h = omega arith
-  slots-short {g} {a} {i} {y} A (suc l) h =
-      omega (
-        arith,
-        literals-append-length (each l (slot G g a i y)) (slot G g a i y (suc l)),
-        slots-short A l (omega (arith, h)),
-        slot-short (slot G g a i y (suc l)) (slotted T A (suc l) (omega arith) h),
-      )
 
   module _ {g a i : ℕ} (R : BlockAt G g a i) where
     clause-at : (y : ℕ) → y < size G g a i → At G g a i (suc y)
@@ -167,40 +132,3 @@ module _ {G : Code} {t : Totals} {hs ss bs ks xs ys : List ℕ} (T : Tabled G t 
     pub next-block-asks : {n : ℕ} → g ≡ 4 → length (blockText G g a i) ≤ n
         → (Bounded (t .sizes)) × (0 < a) × (a ≤ 126) × (0 < i) × (i ≤ 7) × (length (nextBlockText (sizesOf (t .sizes)) a i) ≤ n)
     next-block-asks {n} e f = (bounded T, R .item-some, atom4 T R e, R .block-some, bits4 T R e, room-as (next-block e) f)
-
-    -- ---- the length of a block
-
-    few-clauses : (g ≡ 4) ⊎ (g ≡ 5) → size G g a i ≤ 14
-    few-clauses (inl e) = omega (arith, size-next T R e, bits4 T R e)
-    few-clauses (inr e) = subst (λ (n : ℕ). n ≤ 14) (size-pair T R e refl refl) (go (eqb (chainBit w i) 1))
-      where
-        go : (d : Bool) → cond d 3 6 ≤ 14
-        go true = omega arith
-        go false = omega arith
-
-    few-slots : (y : ℕ) → At G g a i y → (g ≡ 4) ⊎ (g ≡ 5) → slots G g a i y ≤ 8
-    few-slots y A (inl e) = subst (λ (n : ℕ). n ≤ 8) (slots-next T A e refl) (go (ltb (bitOf y) i) (bits4 T R e))
-      where
-        go : (d : Bool) → i ≤ 7 → cond d 3 (suc i) ≤ 8
-        go true h = omega arith
-        go false h = omega (arith, h)
-    few-slots y A (inr e) = subst (λ (n : ℕ). n ≤ 8) (slots-pair T A e refl refl) (go (eqb (chainBit w i) 1) (eqb y 3))
-      where
-        go : (d f : Bool) → cond d (cond f 3 2) 3 ≤ 8
-        go true true = omega arith
-        go true false = omega arith
-        go false f = omega arith
-
-    pub block-short : isBlockwise g ≡ true → length (blockText G g a i) ≤ 3008
-    block-short e =
-        omega (
-          arith,
-          lines-short (λ y. lineText (clauseAt G g a i y)) 50 (size G g a i)
-              (λ y h. omega (
-                arith,
-                line-length (clauseAt G g a i (suc y)),
-                slots-short (clause-at y h) (slots G g a i (suc y)) (omega arith),
-                few-slots (suc y) (clause-at y h) (blockwise-is g e),
-              )),
-          few-clauses (blockwise-is g e),
-        )

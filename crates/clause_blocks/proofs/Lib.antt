@@ -1,10 +1,6 @@
--- Numerals: literals with the digits of their variables, and their texts
--- Bits: the lines of whole bits of chains
 -- Opposites: the lines from literals and their opposites
 -- NextBlocks: the blocks of group 4, clause by clause
 -- BlockTexts: the blocks of groups 4 and 5 from the tables
-pub mod Numerals
-pub mod Bits
 pub mod Opposites
 pub mod NextBlocks
 pub mod BlockTexts

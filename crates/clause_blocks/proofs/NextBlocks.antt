@@ -15,7 +15,7 @@ use lib.Dec.{eqb, ltb}
 use borrow.Author.Tests.{eq-eqb, ne-eqb, lt-ltb, le-ltb}
 use Rattle.lists.specs.Lists.{each}
 use Rattle.lists.proofs.Tables.{each-ext}
-use Rattle.encoding.specs.Literal.{Literal, Clause, var, −_, variable, literalNumber}
+use Rattle.encoding.specs.Literal.{Literal, Clause, var, −_, literalNumber}
 use Rattle.encoding.specs.Variables.{Sizes, levelVar, nextVar}
 use Rattle.clause_literals.specs.declared.Sizes.{Sizes as Held}
 use Rattle.clause_literals.specs.Sizes.{sizesOf, Bounded}
@@ -23,7 +23,7 @@ use Rattle.clause_literals.proofs.Products.{one-before, atoms-fit}
 use Rattle.digits.specs.Bytes.{literalText, literalsText, lineText}
 use Rattle.digits.proofs.Lengths.{literals-append}
 use Rattle.clause_walk.specs.Walk.{signed, three, bitOf, isFirst, isSecond, slots4, slot4}
-use Rattle.clause_blocks.specs.Numerals.{Short}
+use Rattle.clause_numerals.specs.Numerals.{Short}
 use Rattle.clause_blocks.specs.Texts.{lowerText, pairText, pairsText, longText, longsText, nextBlockText}
 
 -- ---- the variables

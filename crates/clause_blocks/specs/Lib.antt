@@ -1,4 +1,2 @@
--- Numerals: literals with the digits of their variables
--- Texts: the lines of whole blocks of groups 4 and 5
-pub mod Numerals
+-- Texts: the lines of whole blocks of group 4
 pub mod Texts

@@ -2,7 +2,9 @@
 use clause_literals::Sizes;
 use clause_tables::BEFORE_AT;
 use clause_tables::BODIES_AT;
+use clause_tables::FIRSTS_AT;
 use clause_tables::HEADS_AT;
+use clause_tables::LINKS_AT;
 use clause_tables::OWNERS_AT;
 use clause_tables::PARTNERS_AT;
 use clause_tables::STARTS_AT;
@@ -13,7 +15,7 @@ use numbers::Rule;
 ghost use Prim.Native.Nat.{_+_, _-_, _*_, _≤_, _<_};
 ghost use mathlib.Core.Path.{_≡_};
 ghost use lib.ListN.{getD, take, drop};
-ghost use Rattle.clause_tables.specs.Tables.{Ready, region, totalsIn, headsIn, bodiesIn, beforeIn, partnersIn, ownersIn, startsIn};
+ghost use Rattle.clause_tables.specs.Tables.{Ready, region, totalsIn, headsIn, bodiesIn, beforeIn, partnersIn, ownersIn, startsIn, firstsIn, linksIn};
 
 // The sizes, the number of pairs, V and C.
 pub fn totals(table: &[u16]) -> Totals
@@ -34,7 +36,7 @@ pub fn totals(table: &[u16]) -> Totals
 
 // Cell i of the region of k cells that begins at cell j.
 fn cell(table: &[u16], j: usize, k: usize, i: u16) -> u16
-    requires { ⌜ (Ready (now table)) × (j + k ≤ 3518) × (i < k) ⌝ }
+    requires { ⌜ (Ready (now table)) × (j + k ≤ 4144) × (i < k) ⌝ }
     ensures { λ x. ⌜ x ≡ getD (region j k (now (table .entry))) i 0 ⌝ }
 {
     table[j + i as usize]
@@ -78,6 +80,22 @@ pub fn list_start(table: &[u16], r: Rule, k: u16) -> u16
     ensures { λ x. ⌜ x ≡ getD (startsIn (now (table .entry))) (2 * (r .0 - 1) + k) 0 ⌝ }
 {
     cell(table, STARTS_AT, 1001, 2 * (r.0 - 1) + k)
+}
+
+// The first rule of atom a, 0 if it has none.
+pub fn first_rule(table: &[u16], a: Atom) -> Rule
+    requires { ⌜ (Ready (now table)) × (0 < a .0) × (a .0 ≤ 126) ⌝ }
+    ensures { λ r. ⌜ r .0 ≡ getD (firstsIn (now (table .entry))) (a .0 - 1) 0 ⌝ }
+{
+    Rule(cell(table, FIRSTS_AT, 126, a.0 - 1))
+}
+
+// The next rule with the head of rule r, 0 if there is none.
+pub fn next_rule(table: &[u16], r: Rule) -> Rule
+    requires { ⌜ (Ready (now table)) × (0 < r .0) × (r .0 ≤ 500) ⌝ }
+    ensures { λ x. ⌜ x .0 ≡ getD (linksIn (now (table .entry))) (r .0 - 1) 0 ⌝ }
+{
+    Rule(cell(table, LINKS_AT, 500, r.0 - 1))
 }
 
 // The heads of the first m rules.

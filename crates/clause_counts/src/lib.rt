@@ -1,16 +1,21 @@
-// How many clauses groups have, and items of groups 2 to 5 and 7 (document 01, "Clauses, in order").
+// How many clauses groups have, their items, and those before an item (document 01, "Clauses, in order").
 use clause_cells::heads;
 use clause_cells::list_start;
 use clause_cells::totals;
+use clause_layout::GROUPS;
 use clause_layout::items;
+use clause_layout::size;
 use numbers::Atom;
 use numbers::Rule;
 use numbers::wide;
-ghost use Prim.Native.Nat.{_+_, _*_, _≤_, _<_};
+ghost use Prim.Native.Nat.{pred, _+_, _*_, _≤_, _<_};
 ghost use mathlib.Core.Path.{_≡_};
+ghost use mathlib.Core.Bool.{false};
 ghost use lib.ListN.{length, getD};
+ghost use Rattle.lists.specs.Lists.{sum};
+ghost use Rattle.clause_walk.specs.Walk.{groupCount, itemCount};
 ghost use Rattle.clause_tables.specs.Tables.{Ready, codeIn, headsIn, startsIn};
-ghost use Rattle.clause_counts.specs.Counts.{groupSize, lowCount, isFixed, fixedSize};
+ghost use Rattle.clause_counts.specs.Counts.{itemSize, groupSize, lowCount, isFixed, fixedSize};
 
 // Whether the items of group g have one size.
 pub fn is_fixed(g: u16) -> bool
@@ -87,4 +92,59 @@ pub fn group_size(table: &[u16], g: u16) -> usize
         return wide(t.sizes.m) + wide(t.sizes.n);
     }
     wide(items(t, g)) * fixed_size(wide(t.sizes.w), g)
+}
+
+// How many clauses rules 1 to a have in group 1 or 6.
+fn rules_size(table: &[u16], g: u16, a: u16) -> usize
+    requires { ⌜ (Ready (now table)) × (0 < g) × (g ≤ groupCount) × (isFixed g ≡ false) × (g ≡ 2 → ⊥) × (a ≤ itemCount (codeIn (now table)) g) ⌝ }
+    ensures { λ r. ⌜ r ≡ sum a (itemSize (codeIn (now (table .entry))) g) ⌝ }
+{
+    let mut n: usize = 0;
+    let mut r: u16 = 0;
+    while r < a {
+        n += wide(size(table, g, r + 1, 1));
+        r += 1;
+    }
+    n
+}
+
+// How many clauses items 1 to a of group g have.
+fn items_size(table: &[u16], g: u16, a: u16) -> usize
+    requires { ⌜ (Ready (now table)) × (0 < g) × (g ≤ groupCount) × (a ≤ itemCount (codeIn (now table)) g) ⌝ }
+    ensures { λ r. ⌜ r ≡ sum a (itemSize (codeIn (now (table .entry))) g) ⌝ }
+{
+    let t = totals(table);
+    if is_fixed(g) {
+        return wide(a) * fixed_size(wide(t.sizes.w), g);
+    }
+    if g == 2 {
+        return atoms_size(table, t.sizes.m, Atom(a));
+    }
+    rules_size(table, g, a)
+}
+
+// How many clauses the groups before group g have.
+fn groups_size(table: &[u16], g: u16) -> usize
+    requires { ⌜ (Ready (now table)) × (0 < g) × (g ≤ groupCount) ⌝ }
+    ensures { λ r. ⌜ r ≡ sum (pred g) (groupSize (codeIn (now (table .entry)))) ⌝ }
+{
+    let t = totals(table);
+    if g == GROUPS {
+        return t.clauses - wide(t.sizes.n);
+    }
+    let mut n: usize = 0;
+    let mut h: u16 = 0;
+    while h + 1 < g {
+        n += group_size(table, h + 1);
+        h += 1;
+    }
+    n
+}
+
+// How many clauses stand before those of the item after a others of group g.
+pub fn clauses_before(table: &[u16], g: u16, a: u16) -> usize
+    requires { ⌜ (Ready (now table)) × (0 < g) × (g ≤ groupCount) × (a ≤ itemCount (codeIn (now table)) g) ⌝ }
+    ensures { λ r. ⌜ r ≡ sum (pred g) (groupSize (codeIn (now (table .entry)))) + sum a (itemSize (codeIn (now (table .entry))) g) ⌝ }
+{
+    groups_size(table, g) + items_size(table, g, a)
 }

@@ -24,7 +24,7 @@ use Rattle.clause_finding.proofs.Falling.{each-falls}
 use Rattle.clause_counts.proofs.Counted.{item-length, group-length}
 
 module _ (G : Code) {x : ℕ} {g a i : PartFound} (F : Falls 7 (groupSize G) x g) (A : Falls (itemCount G (g .number)) (itemSize G (g .number)) (g .left) a) (I : Falls (blockCount G (g .number)) (size G (g .number) (a .number)) (a .left) i) where
-  located : coordinatesAt G (suc x) ≡ coordinates G (g .number) (a .number) (i .number) (i .left + 1)
+  pub located : coordinatesAt G (suc x) ≡ coordinates G (g .number) (a .number) (i .number) (i .left + 1)
   unfolding coordinatesAt allCoordinates
   located =
       each-falls 7 (groupCoordinates G) (groupSize G) past x g (group-length G) F

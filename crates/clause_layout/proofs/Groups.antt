@@ -15,7 +15,7 @@ use lib.IntN.{ℤ}
 use lib.Signed.{mag}
 use mir.Syntax.{w32}
 use mir.Val.{hbits, toZ, ofZ}
-use borrow.Author.Tests.{ne-eqb, le-leb, lt-leb, lt-ltb, le-ltb}
+use borrow.Author.Tests.{le-leb, lt-leb, lt-ltb, le-ltb}
 use Rattle.encoding.specs.Code.{Code, codeSizes, pairTotal, before}
 use Rattle.encoding.specs.Literal.{Literal}
 use Rattle.encoding.specs.Variables.{Sizes, bodyVar, foundsVar}
@@ -176,6 +176,10 @@ module _ {G : Code} {t : Totals} {hs ss bs ks xs ys : List ℕ} (T : Tabled G t 
 
       pub end-in : getD ss (2 * (a - 1) + 2) 0 ≤ 500
       end-in = L .end-fits
+
+      -- where C begins and where it ends
+      pub starts-fit : (getD ss (2 * (a - 1) + 1) 0 ≤ 500) × (getD ss (2 * (a - 1) + 2) 0 ≤ 500)
+      starts-fit = (le-trans (L .second-up) end-in, end-in)
 
       pub body-fits : bodyCount G a ≤ 500
       body-fits = elements.body-fits G (T .limits) a (R .item-some) h

@@ -6,7 +6,3 @@ pub mod Ahead
 pub mod Steps
 pub mod HeadBlock
 pub mod Numbers
--- BlockPlaces: the places of a block
-pub mod BlockPlaces
--- Behind: the place after a block, where the item has a further block
-pub mod Behind

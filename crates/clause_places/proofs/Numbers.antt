@@ -5,6 +5,7 @@
 --   stands-at                 clause j stands at its coordinates
 --   clause-at                 and is clause j of the clause list
 --   next-is                   what follows clause j is clause j + 1
+--   place-some                a place with a clause has a number
 --   placed-at, placed-clause, number-is, own-number    a place that code has
 -- Assumes nothing.
 use Prim.Native.Nat.{ℕ, zero, suc, pred, _+_, _-_, _≤_, _<_}
@@ -12,9 +13,11 @@ use native.Mathlib.Nat.{not-suc-le-zero, zero-add}
 use native.Mathlib.Omega.{arith}
 use native.Mathlib.Numerals.{add-one}
 use mathlib.Core.Path.{_≡_, refl, sym, _∙_, ap, ap₂, subst}
+use mathlib.Core.Logic.{_⊎_, inl, inr}
 use mathlib.Core.List.{List, [], _∷_, _++_, map, map-append}
 use lib.ListN.{length, getD, length-map}
 use Rattle.lists.specs.Lists.{each}
+use Rattle.lists.proofs.Tests.{le-or-lt}
 use Rattle.lists.proofs.Tables.{each-ext, getD-map, map-tab}
 use Rattle.encoding.specs.Code.{Code, clausesOf, clauseTotalOf}
 use Rattle.encoding.specs.Literal.{Clause}
@@ -122,6 +125,18 @@ module _ {G : Code} {t : Totals} {hs ss bs ks xs ys : List ℕ} (T : Tabled G t 
 
     pub place-in : In G (c .coordinates)
     place-in = subst (In G) (sym (ap (λ (d : Place). d .coordinates) e)) (in-at G (c .number) listed)
+
+    -- a place with a clause has a number
+    pub place-some : 0 < c .coordinates .clause → 0 < c .number
+    unfolding coordinatesAt
+    place-some p = go (le-or-lt (c .number) 0)
+      where
+        go : (c .number ≤ 0) ⊎ (0 < c .number) → 0 < c .number
+        go (inr q) = q
+        go (inl q) = absurd (omega (arith, p, ap (λ (d : Place). d .coordinates .clause) (e ∙ ap (placeAt G) zero-is)))
+          where
+            zero-is : c .number ≡ 0
+            zero-is = omega (arith, q)
 
     pub follows : {d : Coordinates} → d ≡ firstOf (ahead G (c .coordinates)) → record { number = c .number + 1; coordinates = d } ≡ placeAt G (suc (c .number))
     follows {d} u =

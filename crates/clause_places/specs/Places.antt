@@ -3,9 +3,8 @@
 --   allCoordinates G        where the clauses stand, in the walk's order
 --   placeAt G j             the place of clause j, from 1; 0 is before the first clause, and what follows the last one is past all groups
 --   clauseIn G c            the clause that stands at c
---   furtherBlock c k          the place of the first clause of the next block of c's item, which has k clauses
 -- Assumes nothing.
-use Prim.Native.Nat.{ℕ, suc, _+_, _-_}
+use Prim.Native.Nat.{ℕ, suc, _-_}
 use mathlib.Core.List.{List, _∷_}
 use lib.ListN.{getD}
 use Rattle.lists.specs.Lists.{tab, each}
@@ -54,19 +53,3 @@ placeAt G j = record { number = j; coordinates = coordinatesAt G j }
 
 abbrev pub clauseIn : Code → Coordinates → Clause
 clauseIn G c = clauseAt G (c .group) (c .item) (c .block) (c .clause)
-
-abbrev pub furtherBlock : Place → ℕ → Place
-furtherBlock c k =
-    record {
-      number = c .number + c .coordinates .clauses + 1;
-      coordinates =
-          record {
-            group = c .coordinates .group;
-            item = c .coordinates .item;
-            block = c .coordinates .block + 1;
-            clause = 1;
-            clauses = k - 1;
-            blocks = c .coordinates .blocks - 1;
-            items = c .coordinates .items;
-          };
-    }

@@ -11,7 +11,7 @@ ghost use Prim.Native.Nat.{suc, _+_, _≤_, _<_};
 ghost use mathlib.Core.Path.{_≡_};
 ghost use mathlib.Core.Bool.{false};
 ghost use Rattle.clause_tables.specs.Tables.{Ready, codeIn, clausesIn, headsIn};
-ghost use Rattle.clause_places.specs.Places.{placeAt, furtherBlock};
+ghost use Rattle.clause_places.specs.Places.{placeAt};
 ghost use Rattle.clause_places.specs.Ahead.{ahead, firstOf, In, isOver, headBlock, Onward};
 
 // The last group but one, and the number after the last one.
@@ -161,56 +161,5 @@ pub fn next(table: &[u16], c: Place) -> Place
     Place {
         number: c.number + 1,
         coordinates: next_coordinates(table, c.coordinates),
-    }
-}
-
-// The place of the last clause of c's block.
-fn last(table: &[u16], c: Place) -> Place
-    requires { ⌜ (Ready (now table)) × (c ≡ placeAt (codeIn (now table)) (c .number)) × (c .number ≤ clausesIn (now table)) ⌝ }
-    ensures { λ r. ⌜ (r ≡ placeAt (codeIn (now (table .entry))) (c .number + c .coordinates .clauses))
-        × (c .number + c .coordinates .clauses ≤ clausesIn (now (table .entry))) × (r .coordinates .clauses ≡ 0) ⌝ }
-{
-    let s = c.coordinates;
-    Place {
-        number: c.number + s.clauses as usize,
-        coordinates: Coordinates {
-            group: s.group,
-            item: s.item,
-            block: s.block,
-            clause: s.clause + s.clauses,
-            clauses: 0,
-            blocks: s.blocks,
-            items: s.items,
-        },
-    }
-}
-
-// The place of the clause after the last one of c's block.
-pub fn past_block(table: &[u16], c: Place) -> Place
-    requires { ⌜ (Ready (now table)) × (c ≡ placeAt (codeIn (now table)) (c .number)) × (c .number ≤ clausesIn (now table)) ⌝ }
-    ensures { λ r. ⌜ (r ≡ placeAt (codeIn (now (table .entry))) (suc (c .number + c .coordinates .clauses)))
-        × (c .number + c .coordinates .clauses ≤ clausesIn (now (table .entry))) ⌝ }
-{
-    let end = last(table, c);
-    next(table, end)
-}
-
-// The place of the first clause of the next block of c's item, which has k clauses.
-pub fn further_block(c: Place, k: u16) -> Place
-    requires { ⌜ (c .number + c .coordinates .clauses ≤ 53690) × (c .coordinates .block + 1 ≤ 501) × (0 < c .coordinates .blocks) × (0 < k) ⌝ }
-    ensures { λ r. ⌜ r ≡ furtherBlock c k ⌝ }
-{
-    let s = c.coordinates;
-    Place {
-        number: c.number + s.clauses as usize + 1,
-        coordinates: Coordinates {
-            group: s.group,
-            item: s.item,
-            block: s.block + 1,
-            clause: 1,
-            clauses: k - 1,
-            blocks: s.blocks - 1,
-            items: s.items,
-        },
     }
 }

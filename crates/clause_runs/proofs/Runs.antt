@@ -40,7 +40,7 @@ joined-append [] ys = refl
 joined-append (x ∷ xs) ys = ap (λ (zs : List ℕ). x ++ zs) (joined-append xs ys) ∙ sym (append-assoc x (joined xs) (joined ys))
 
 -- the first k lines, and m more
-joined-take : (ls : List (List ℕ)) (k m : ℕ) → joined (take (k + m) ls) ≡ joined (take k ls) ++ joined (take m (drop k ls))
+pub joined-take : (ls : List (List ℕ)) (k m : ℕ) → joined (take (k + m) ls) ≡ joined (take k ls) ++ joined (take m (drop k ls))
 joined-take ls k m = ap joined (take-add k m ls) ∙ joined-append (take k ls) (take m (drop k ls))
 
 -- m lines fit, and those after them as far as they fit what is left

@@ -156,7 +156,7 @@ pub fn implied_slot(s: Sizes, a: Atom, r: Rule, l: u16) -> i32
 }
 
 // The variable of rule r in group 2, t(r), and in group 7, s(r).
-fn rule_var(s: Sizes, founds: bool, r: Rule) -> Var
+pub fn rule_var(s: Sizes, founds: bool, r: Rule) -> Var
     requires { ⌜ (Bounded s) × (r .0 ≤ 500) ⌝ }
     ensures { λ v. ⌜ v .0 ≡ ruleVar (sizesOf s) founds (r .0) ⌝ }
 {

@@ -1,7 +1,10 @@
 -- The table of a code: its regions hold what Tabled says of them, and the code that it holds is that code.
+--   sizes        how many cells each region has
 --   Own, own     the totals and the regions of a limited code are those that Tabled names
+--   lengths-are  its regions have as many cells as sizes says
 --   arrays       the counts and the regions of a table of G are those of G
 --   told         the same with counts that were taken from the table
+--   firsts-are, links-are   the first rule of each atom, and of each rule the next one with the same head
 --   cells        how many cells a table has
 --   code-held    the table of a limited code holds that code
 --   ready        and is ready
@@ -12,15 +15,20 @@ use mathlib.Core.Path.{_≡_, refl, sym, _∙_, ap, ap₂, subst}
 use mathlib.Core.List.{List, [], _∷_, map}
 use lib.ListN.{length, getD, take}
 use Rattle.lists.specs.Lists.{tab}
+use Rattle.lists.proofs.Tables.{length-tab}
 use Rattle.encoding.specs.Code.{Code, whole, programOf, m, pairList, before}
 use Rattle.program.specs.Arrays.{pad, kept}
+use Rattle.program.proofs.Pads.{length-pad}
+use Rattle.clause_walk.specs.Walk.{headsOf}
 use Rattle.clause_tables.specs.declared.Totals.{Totals}
-use Rattle.clause_tables.specs.Tables.{Limited, Tabled, TableOf, Ready, totalsOf, regionsOf, tableOf, region, totalsIn, headsIn, bodiesIn, beforeIn, partnersIn, ownersIn, startsIn, programIn, codeIn}
+use Rattle.clause_tables.specs.Links.{firstRule, nextRule}
+use Rattle.clause_tables.specs.Tables.{Limited, Tabled, TableOf, Ready, totalsOf, regionsOf, tableOf, region, totalsIn, headsIn, bodiesIn, beforeIn, partnersIn, ownersIn, startsIn, firstsIn, linksIn, programIn, codeIn}
 use Rattle.clause_tables.proofs.Regions.{lengths, total, region-at, joined-length}
 use Rattle.clause_table_laws.proofs.Elements as elements
 
-abbrev sizes : List ℕ
-sizes = 16 ∷ 500 ∷ 500 ∷ 501 ∷ 500 ∷ 500 ∷ 1001 ∷ []
+-- how many cells each region has
+abbrev pub sizes : List ℕ
+sizes = 16 ∷ 500 ∷ 500 ∷ 501 ∷ 500 ∷ 500 ∷ 1001 ∷ 126 ∷ 500 ∷ []
 
 -- the totals and the regions of a code are those that Tabled names
 abbrev pub Own : Code → Type 0
@@ -42,7 +50,13 @@ module _ (G : Code) (L : Limited G) where
         owners-are = refl;
       }
 
-  lengths-are : lengths (regionsOf G) ≡ sizes
+  firsts-length : length (pad 126 (tab (G .n) (firstRule (headsOf G)))) ≡ 126
+  firsts-length = length-pad 126 (tab (G .n) (firstRule (headsOf G))) (omega (arith, length-tab (G .n) (firstRule (headsOf G)), L .within .few-atoms))
+
+  links-length : length (pad 500 (tab (m G) (nextRule (headsOf G)))) ≡ 500
+  links-length = length-pad 500 (tab (m G) (nextRule (headsOf G))) (omega (arith, length-tab (m G) (nextRule (headsOf G)), L .within .few-rules))
+
+  pub lengths-are : lengths (regionsOf G) ≡ sizes
   unfolding regionsOf
   lengths-are = λ i.
       16
@@ -52,14 +66,16 @@ module _ (G : Code) (L : Limited G) where
       ∷ elements.partners-length G (totalsOf G) _ _ _ _ _ _ own i
       ∷ elements.owners-length G (totalsOf G) _ _ _ _ _ _ own i
       ∷ elements.starts-length G (totalsOf G) _ _ _ _ _ _ own i
+      ∷ firsts-length i
+      ∷ links-length i
       ∷ []
 
-  seven : length (regionsOf G) ≡ 7
+  nine : length (regionsOf G) ≡ 9
   unfolding regionsOf
-  seven = refl
+  nine = refl
 
-  at : (i : ℕ) → i < 7 → region (total (take i sizes)) (getD sizes i 0) (tableOf G) ≡ getD (regionsOf G) i []
-  at i h = region-at (regionsOf G) sizes lengths-are i (omega (arith, seven, h))
+  at : (i : ℕ) → i < 9 → region (total (take i sizes)) (getD sizes i 0) (tableOf G) ≡ getD (regionsOf G) i []
+  at i h = region-at (regionsOf G) sizes lengths-are i (omega (arith, nine, h))
 
   own-totals : totalsIn (tableOf G) ≡ totalsOf G
   unfolding regionsOf totalsOf
@@ -97,6 +113,14 @@ module _ (G : Code) (L : Limited G) where
   unfolding regionsOf
   own-starts = at 6 (omega arith)
 
+  own-firsts : firstsIn (tableOf G) ≡ pad 126 (tab (G .n) (firstRule (headsOf G)))
+  unfolding regionsOf
+  own-firsts = at 7 (omega arith)
+
+  own-links : linksIn (tableOf G) ≡ pad 500 (tab (m G) (nextRule (headsOf G)))
+  unfolding regionsOf
+  own-links = at 8 (omega arith)
+
   pub code-held : codeIn (tableOf G) ≡ G
   unfolding totalsOf
   code-held =
@@ -127,5 +151,11 @@ module _ {G : Code} {tb : List ℕ} (T : TableOf G tb) where
   pub arrays : Tabled G (totalsIn tb) (headsIn tb) (startsIn tb) (bodiesIn tb) (beforeIn tb) (partnersIn tb) (ownersIn tb)
   arrays = told refl
 
-  pub cells : length tb ≡ 3518
+  pub firsts-are : firstsIn tb ≡ pad 126 (tab (G .n) (firstRule (headsOf G)))
+  firsts-are = ap firstsIn (T .table-is) ∙ own-firsts G (T .limits)
+
+  pub links-are : linksIn tb ≡ pad 500 (tab (m G) (nextRule (headsOf G)))
+  links-are = ap linksIn (T .table-is) ∙ own-links G (T .limits)
+
+  pub cells : length tb ≡ 4144
   cells = ap length (T .table-is) ∙ joined-length (regionsOf G) sizes (lengths-are G (T .limits))

@@ -1,4 +1,5 @@
--- What is made of a program once, before its clauses are walked: one table, with its counts, its arrays and those of its pairs.
+-- What is made of a program once, before its clauses are walked: one table, with its counts, its arrays, those of its pairs
+-- and the rules of each atom.
 --   Stored A         the arrays A are those kept of the program that they hold, which is within the limits
 --   totalsOf G       the sizes, the number of pairs, V and C
 --   regionsOf G      the regions of the table of a code, in order, each filled up with zeros to its size
@@ -24,6 +25,7 @@ use Rattle.program.specs.Arrays.{pad, kept}
 use Rattle.program.specs.Arrays.{decoded}
 use Rattle.text.specs.Limits.{Limits}
 use Rattle.clause_tables.specs.declared.Totals.{Totals}
+use Rattle.clause_tables.specs.Links.{firstRule, nextRule}
 
 pub record Stored (A : Arrays) : Type 0 where
   pub limits : Limits (decoded A)
@@ -60,7 +62,8 @@ pub record Tabled (G : Code) (t : Totals) (hs ss bs ks xs ys : List ℕ) : Type 
 
 -- ---- the table
 
--- the counts in their order, the heads, the body atoms, the pairs before each rule and, after the last one, K, the two atoms of the pairs, the list starts
+-- the counts in their order, the heads, the body atoms, the pairs before each rule and, after the last one, K, the two atoms of the pairs, the list starts,
+-- the first rule of each atom, and of each rule the next one with the same head
 unfoldable pub regionsOf : Code → List (List ℕ)
 regionsOf G =
     pad 16 (G .n ∷ m G ∷ G .w ∷ pairTotal G ∷ variablesOf G ∷ clauseTotalOf G ∷ [])
@@ -70,6 +73,8 @@ regionsOf G =
     ∷ pad 500 (map (λ p. p .body) (pairList G))
     ∷ pad 500 (map (λ p. p .head) (pairList G))
     ∷ kept (programOf G) .starts
+    ∷ pad 126 (tab (G .n) (firstRule (map (λ R. R .head) (G .rules))))
+    ∷ pad 500 (tab (m G) (nextRule (map (λ R. R .head) (G .rules))))
     ∷ []
 
 abbrev pub tableOf : Code → List ℕ
@@ -99,6 +104,12 @@ ownersIn tb = region 2017 500 tb
 
 abbrev pub startsIn : List ℕ → List ℕ
 startsIn tb = region 2517 1001 tb
+
+abbrev pub firstsIn : List ℕ → List ℕ
+firstsIn tb = region 3518 126 tb
+
+abbrev pub linksIn : List ℕ → List ℕ
+linksIn tb = region 3644 500 tb
 
 abbrev pub totalsIn : List ℕ → Totals
 totalsIn tb =

@@ -38,9 +38,12 @@ region-copied xss yss n k j ys e h =
     (omega (arith, length-take-le k ys (omega (arith, held-length n k ys h, h .few)), h .few, length-replicate {A = ℕ} n 0))
     ∙ ap (λ (zs : List ℕ). joined (xss ++ (zs ∷ yss))) (filled-up n k ys h)
 
--- the last four regions, with nothing written
+-- the two regions of the links, and the six last regions, with nothing written
+abbrev ends : List (List ℕ)
+ends = zeros 126 ∷ zeros 500 ∷ []
+
 abbrev empties : List (List ℕ)
-empties = zeros 501 ∷ zeros 500 ∷ zeros 500 ∷ zeros 1001 ∷ []
+empties = zeros 501 ∷ zeros 500 ∷ zeros 500 ∷ zeros 1001 ∷ ends
 
 pub arrays-copied : (t₀ t₁ t₂ t₃ hs ss bs : List ℕ) (m o m′ o′ : ℕ) → m′ ≡ m → o′ ≡ o
     → t₁ ≡ sets t₀ 16 (take m′ (drop 0 hs)) → t₂ ≡ sets t₁ 516 (take o′ (drop 0 bs)) → t₃ ≡ sets t₂ 2517 (take (2 * m′ + 1) (drop 0 ss))
@@ -55,7 +58,7 @@ module _ (A : Arrays) (s : Stored A) where
   pub arrays-fit : (A .rules ≤ 500) × (A .held ≤ 500) × (length (A .heads) ≡ 500) × (length (A .starts) ≡ 1001) × (length (A .bodies) ≡ 500)
   arrays-fit = (heads-held A s .few, bodies-held A s .few, many-heads A s, many-starts A s, many-bodies A s)
 
-  heads-laid : sets (zeros 3518) 16 (take (A .rules) (drop 0 (A .heads))) ≡ joined (zeros 16 ∷ A .heads ∷ zeros 500 ∷ empties)
+  heads-laid : sets (zeros 4144) 16 (take (A .rules) (drop 0 (A .heads))) ≡ joined (zeros 16 ∷ A .heads ∷ zeros 500 ∷ empties)
   heads-laid = region-copied (zeros 16 ∷ []) (zeros 500 ∷ empties) 500 (A .rules) 16 (A .heads) refl (heads-held A s)
 
   bodies-laid : sets (joined (zeros 16 ∷ A .heads ∷ zeros 500 ∷ empties)) 516 (take (A .held) (drop 0 (A .bodies)))
@@ -65,10 +68,10 @@ module _ (A : Arrays) (s : Stored A) where
   starts-laid : sets (joined (zeros 16 ∷ A .heads ∷ A .bodies ∷ empties)) 2517 (take (2 * A .rules + 1) (drop 0 (A .starts)))
       ≡ laid A (zeros 501) (zeros 500) (zeros 500)
   starts-laid =
-      region-copied (zeros 16 ∷ A .heads ∷ A .bodies ∷ zeros 501 ∷ zeros 500 ∷ zeros 500 ∷ []) [] 1001 (2 * A .rules + 1) 2517 (A .starts)
+      region-copied (zeros 16 ∷ A .heads ∷ A .bodies ∷ zeros 501 ∷ zeros 500 ∷ zeros 500 ∷ []) ends 1001 (2 * A .rules + 1) 2517 (A .starts)
       (omega (arith, many-heads A s, many-bodies A s)) (starts-held A s)
 
-  pub arrays-laid : (t t′ : List ℕ) → t ≡ replicate 3518 0 → t′ ≡ copied t (A .rules) (A .held) (A .heads) (A .starts) (A .bodies) → t′ ≡ withArrays A
+  pub arrays-laid : (t t′ : List ℕ) → t ≡ replicate 4144 0 → t′ ≡ copied t (A .rules) (A .held) (A .heads) (A .starts) (A .bodies) → t′ ≡ withArrays A
   unfolding withArrays
   arrays-laid t t′ e e′ =
       e′ ∙ ap (λ (x : List ℕ). copied x (A .rules) (A .held) (A .heads) (A .starts) (A .bodies)) e
@@ -80,16 +83,16 @@ module _ (A : Arrays) (s : Stored A) where
   module _ (ks xs ys : List ℕ) (many : length ks ≡ 501) where
     pub set-before : (r x : ℕ) → r < 501 → set (laid A ks xs ys) (1016 + r) x ≡ laid A (set ks r x) xs ys
     set-before r x h =
-        set-region (zeros 16 ∷ A .heads ∷ A .bodies ∷ []) ks (xs ∷ ys ∷ A .starts ∷ []) x r (1016 + r)
+        set-region (zeros 16 ∷ A .heads ∷ A .bodies ∷ []) ks (xs ∷ ys ∷ A .starts ∷ ends) x r (1016 + r)
         (omega (arith, many-heads A s, many-bodies A s)) (omega (arith, many, h))
 
     module _ (full : length xs ≡ 500) where
       pub sets-partners : (k : ℕ) (zs : List ℕ) → k + length zs ≤ 500 → sets (laid A ks xs ys) (1517 + k) zs ≡ laid A ks (sets xs k zs) ys
       sets-partners k zs h =
-          sets-region (zeros 16 ∷ A .heads ∷ A .bodies ∷ ks ∷ []) xs (ys ∷ A .starts ∷ []) zs k (1517 + k)
+          sets-region (zeros 16 ∷ A .heads ∷ A .bodies ∷ ks ∷ []) xs (ys ∷ A .starts ∷ ends) zs k (1517 + k)
           (omega (arith, many-heads A s, many-bodies A s, many)) (omega (arith, full, h))
 
       pub sets-owners : (k : ℕ) (zs : List ℕ) → length ys ≡ 500 → k + length zs ≤ 500 → sets (laid A ks xs ys) (2017 + k) zs ≡ laid A ks xs (sets ys k zs)
       sets-owners k zs also h =
-          sets-region (zeros 16 ∷ A .heads ∷ A .bodies ∷ ks ∷ xs ∷ []) ys (A .starts ∷ []) zs k (2017 + k)
+          sets-region (zeros 16 ∷ A .heads ∷ A .bodies ∷ ks ∷ xs ∷ []) ys (A .starts ∷ ends) zs k (2017 + k)
           (omega (arith, many-heads A s, many-bodies A s, many, full)) (omega (arith, also, h))

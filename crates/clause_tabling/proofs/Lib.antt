@@ -7,6 +7,7 @@
 -- Laid: the regions of the table, written one after the other
 -- Turns: the loop over the rules that writes the pairs
 -- Totals: the counts of the table of a stored program
+-- Links: the links are the last that is written
 pub mod Products
 pub mod Stores
 pub mod Regions
@@ -16,3 +17,4 @@ pub mod Sums
 pub mod Laid
 pub mod Turns
 pub mod Totals
+pub mod Links

@@ -3,7 +3,7 @@
 --   sizes-bounded    sizes with that width are within the bounds of the variables' numbers
 --   counts-made      the counts over plain numbers, from the width, V and C
 --   counts-bounded   what the counts of a stored program are made of is within its bounds
---   table-made       with the counts the table is that of its code
+--   table-made       with the counts the table has all but the links
 --   totals-made      the counts are the totals of its code
 -- Assumes nothing.
 use Prim.Native.Nat.{ℕ, suc, _≤_, _<_}
@@ -27,10 +27,10 @@ use Rattle.clause_literals.specs.Sizes.{sizesOf, Bounded}
 use Rattle.program.specs.declared.Program.{Program as Arrays}
 use Rattle.program.specs.Arrays.{pad, kept, decoded}
 use Rattle.clause_tables.specs.declared.Totals.{Totals}
-use Rattle.clause_tables.specs.Tables.{Stored, totalsOf, regionsOf, tableOf}
+use Rattle.clause_tables.specs.Tables.{Stored, totalsOf, regionsOf}
 use Rattle.clause_tables.proofs.Sizes.{atoms-held, count-few, empty-few}
 use Rattle.clause_tabling.specs.Formula.{clausesFor, countsFor}
-use Rattle.clause_tabling.specs.Stages.{withPairs}
+use Rattle.clause_tabling.specs.Stages.{withPairs, withCounts}
 use Rattle.clause_tabling.proofs.Regions.{sets-region}
 use Rattle.clause_tabling.proofs.Held.{rules-many, heads-held, bodies-held}
 
@@ -81,13 +81,13 @@ module _ (A : Arrays) (s : Stored A) where
   atoms-few : A .atoms ≤ 126
   atoms-few = omega (arith, atoms-are, s .limits .few-atoms)
 
-  -- the counts are the last that is written
-  counts-laid : (t : Totals) → t ≡ totalsOf (codeOf (decoded A)) → sets (withPairs A) 0 (named t) ≡ tableOf (codeOf (decoded A))
-  unfolding withPairs regionsOf totalsOf
+  -- the counts are the last that is written but the links
+  counts-laid : (t : Totals) → t ≡ totalsOf (codeOf (decoded A)) → sets (withPairs A) 0 (named t) ≡ withCounts A
+  unfolding withPairs withCounts regionsOf totalsOf
   counts-laid t e =
-      sets-region [] (replicate 16 0) (A .heads ∷ A .bodies ∷ ks ∷ xs ∷ ys ∷ A .starts ∷ []) (named t) 0 0 refl (omega arith)
+      sets-region [] (replicate 16 0) (A .heads ∷ A .bodies ∷ ks ∷ xs ∷ ys ∷ A .starts ∷ zs) (named t) 0 0 refl (omega arith)
       ∙ λ i. joined
-      (pad 16 (named (e i)) ∷ s .arrays-are i .heads ∷ s .arrays-are i .bodies ∷ ks ∷ xs ∷ ys ∷ s .arrays-are i .starts ∷ [])
+      (pad 16 (named (e i)) ∷ s .arrays-are i .heads ∷ s .arrays-are i .bodies ∷ ks ∷ xs ∷ ys ∷ s .arrays-are i .starts ∷ zs)
     where
       G : Code
       G = codeOf (decoded A)
@@ -100,6 +100,10 @@ module _ (A : Arrays) (s : Stored A) where
 
       ys : List ℕ
       ys = pad 500 (map (λ p. p .head) (pairList G))
+
+      -- the links, with nothing written
+      zs : List (List ℕ)
+      zs = replicate 126 0 ∷ replicate 500 0 ∷ []
 
   module _ (k e : ℕ) (ek : k ≡ pairCount (decoded A)) (ee : e ≡ emptyBodies (decoded A)) where
     pub counts-bounded : (A .atoms ≤ 126) × (A .rules ≤ 500) × (A .held ≤ 500) × (k ≤ 500) × (e ≤ A .rules)
@@ -123,7 +127,7 @@ module _ (A : Arrays) (s : Stored A) where
         atoms-are (sym (rules-many A)) (ap width atoms-are) held-is ek ee
 
     pub table-made : (t t′ cs : List ℕ) → cs ≡ countsFor (A .atoms) (A .rules) (A .held) k e → t ≡ withPairs A → t′ ≡ sets t 0 (take 6 (drop 0 cs))
-        → t′ ≡ tableOf (codeOf (decoded A))
+        → t′ ≡ withCounts A
     table-made t t′ cs c p q = q ∙ ap₂ (λ (t cs : List ℕ). sets t 0 (take 6 cs)) p c ∙ counts-laid made made-is
 
     pub totals-made : (cs : List ℕ) → cs ≡ countsFor (A .atoms) (A .rules) (A .held) k e → (v c : ℕ) → v ≡ getD cs 4 0 → c ≡ getD cs 5 0

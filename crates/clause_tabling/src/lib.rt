@@ -1,5 +1,6 @@
 // Makes the table of a program, once for each text, or its totals alone (document 01, "Variables" and "Clauses, in order"). Of the table only the cells in
 // use are written.
+use clause_links::add_links;
 use clause_literals::Sizes;
 use clause_literals::var_count;
 use clause_literals::width_of;
@@ -20,7 +21,7 @@ ghost use Rattle.encoding.specs.Code.{codeOf};
 ghost use Rattle.program.specs.Arrays.{decoded};
 ghost use Rattle.clause_tables.specs.Tables.{Stored, tableOf};
 ghost use Rattle.clause_tabling.specs.Formula.{whenNone, clausesFor, countsFor};
-ghost use Rattle.clause_tabling.specs.Stages.{arraysOf, StoredStarts, StartTotals, copied, withArrays};
+ghost use Rattle.clause_tabling.specs.Stages.{arraysOf, StoredStarts, StartTotals, copied, withArrays, withCounts};
 
 fn element(xs: &[u16], j: usize) -> u16
     requires { ⌜ j < length (now xs) ⌝ }
@@ -30,7 +31,7 @@ fn element(xs: &[u16], j: usize) -> u16
 }
 
 fn put(table: &mut [u16; CELLS], j: usize, x: u16)
-    requires { ⌜ j < 3518 ⌝ }
+    requires { ⌜ j < 4144 ⌝ }
     ensures { λ u. ⌜ now (table .exit) ≡ set (now (table .entry)) j x ⌝ }
 {
     table[j] = x;
@@ -38,7 +39,7 @@ fn put(table: &mut [u16; CELLS], j: usize, x: u16)
 
 // Writes the `size` elements of `from` from place a on into the cells from `at` on.
 fn copy(from: &[u16], a: usize, size: usize, at: usize, table: &mut [u16; CELLS])
-    requires { ⌜ (a + size ≤ length (now from)) × (at + size ≤ 3518) ⌝ }
+    requires { ⌜ (a + size ≤ length (now from)) × (at + size ≤ 4144) ⌝ }
     ensures { λ u. ⌜ now (table .exit) ≡ sets (now (table .entry)) at (take size (drop a (now (from .entry)))) ⌝ }
 {
     let mut i: usize = 0;
@@ -51,7 +52,7 @@ fn copy(from: &[u16], a: usize, size: usize, at: usize, table: &mut [u16; CELLS]
 
 // Writes h into `size` cells from `at` on.
 fn fill(h: u16, size: usize, at: usize, table: &mut [u16; CELLS])
-    requires { ⌜ at + size ≤ 3518 ⌝ }
+    requires { ⌜ at + size ≤ 4144 ⌝ }
     ensures { λ u. ⌜ now (table .exit) ≡ sets (now (table .entry)) at (replicate size h) ⌝ }
 {
     let mut i: usize = 0;
@@ -126,7 +127,7 @@ fn counts(n: u16, m: u16, o: u16, k: u16, e: u16) -> [u16; 6]
     [n, m, w, k, v, c]
 }
 
-// Writes the pairs of a program, how many there are before each rule and in all, and the counts, where the arrays stand.
+// Writes the pairs of a program, how many there are before each rule and in all, and the counts, where the arrays stand: all but the links.
 fn add_pairs<'a>(
     n: u16,
     m: u16,
@@ -138,8 +139,7 @@ fn add_pairs<'a>(
 )
     requires { ⌜ (Stored (arraysOf n m held (now heads) (now starts) (now bodies)))
         × (now table ≡ withArrays (arraysOf n m held (now heads) (now starts) (now bodies))) ⌝ }
-    ensures { λ u. ⌜ now (table .exit)
-        ≡ tableOf (codeOf (decoded (arraysOf n m held (now (heads .entry)) (now (starts .entry)) (now (bodies .entry))))) ⌝ }
+    ensures { λ u. ⌜ now (table .exit) ≡ withCounts (arraysOf n m held (now (heads .entry)) (now (starts .entry)) (now (bodies .entry))) ⌝ }
 {
     let rules = wide(m);
     let mut count: u16 = 0;
@@ -170,12 +170,13 @@ pub fn prepare<'a>(
     bodies: &'a [u16],
     table: &mut [u16; CELLS],
 )
-    requires { ⌜ (Stored (arraysOf n m held (now heads) (now starts) (now bodies))) × (now table ≡ replicate 3518 0) ⌝ }
+    requires { ⌜ (Stored (arraysOf n m held (now heads) (now starts) (now bodies))) × (now table ≡ replicate 4144 0) ⌝ }
     ensures { λ u. ⌜ now (table .exit)
         ≡ tableOf (codeOf (decoded (arraysOf n m held (now (heads .entry)) (now (starts .entry)) (now (bodies .entry))))) ⌝ }
 {
     copy_arrays(m, held, heads, starts, bodies, &mut *table);
     add_pairs(n, m, held, heads, starts, bodies, &mut *table);
+    add_links(m, heads, &mut *table);
 }
 
 // The sizes, K, V and C of a program that was read, from its counts and list starts, with no table.

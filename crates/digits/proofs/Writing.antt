@@ -3,11 +3,12 @@
 --   next-digit     the last digit of a number n, after those of m, a tenth of n
 --   digits-room    there is room for the digits of a number from 10 ^ k on
 --   text-positive, text-negative    a literal by its sign and magnitude; word-positive, word-negative: with one space
---   lead-room, lead-start, lead-tail, lead-sum, lead-put, lead-kept    a text t of a byte v and a text x: the byte, and x after it
+--   lead-room, lead-start, lead-tail, lead-sum, lead-put, lead-kept    a text t of a byte u and a text x: the byte, and x after it
+--   any-start, any-tail, any-put, any-kept    the same with a byte v in the place of u, which must be u for the text alone
 -- Assumes nothing.
 use Prim.Native.Nat.{ℕ, _+_, _-_, _/_, _%_, _^_, _≤_, _<_}
 use native.Mathlib.Omega.{arith}
-use mathlib.Core.Path.{_≡_, sym, _∙_, ap}
+use mathlib.Core.Path.{_≡_, refl, sym, _∙_, ap}
 use mathlib.Core.Bool.{Bool, true, false, false≢true}
 use mathlib.Core.List.{List, [], _∷_, _++_}
 use lib.IntN.{ℤ, pos, negsuc, natAbs}
@@ -56,30 +57,45 @@ module _ {x y : ℤ} {r : Bool} {n : ℕ} (q : y ≡ x) (e : r ≡ isNegative y)
   pub word-negative : r ≡ true → n ≡ natAbs y → literalText x ++ (32 ∷ []) ≡ 45 ∷ (decimal n ++ (32 ∷ []))
   word-negative s p = ap (λ (t : List ℕ). t ++ (32 ∷ [])) (text-negative x y r n q e s p)
 
--- ---- a byte v, then the rest
+-- ---- a byte u, then the rest
 
-module _ (b : List ℕ) {v : ℕ} {t x : List ℕ} (q : t ≡ v ∷ x) (f : Room t b) where
-  whole : Room (v ∷ x) b
-  whole = room-as (sym q) f
-
+module _ (b : List ℕ) {u : ℕ} {t x : List ℕ} (q : t ≡ u ∷ x) (f : Room t b) where
   pub lead-room : 0 < length b
-  lead-room = omega (arith, whole)
+  lead-room = omega (arith, room-as (sym q) f)
 
-  first : Wrote (v ∷ []) b (set b 0 v) 1
-  first = wrote-byte (wrote-none b) v lead-room
+  -- with any byte v at its place
+  module _ (v : ℕ) where
+    whole : Room (v ∷ x) b
+    whole = room-as (sym q) f
 
-  pub lead-start : 1 ≤ length (set b 0 v)
-  lead-start = after-start first x whole
+    first : Wrote (v ∷ []) b (set b 0 v) 1
+    first = wrote-byte (wrote-none b) v lead-room
 
-  pub lead-tail : Room x (take (length (set b 0 v) - 1) (drop 1 (set b 0 v)))
-  lead-tail = after-room first x whole
+    pub any-start : 1 ≤ length (set b 0 v)
+    any-start = after-start first x whole
+
+    pub any-tail : Room x (take (length (set b 0 v) - 1) (drop 1 (set b 0 v)))
+    any-tail = after-room first x whole
+
+    module _ {l : List ℕ} {r : ℕ} (X : Wrote x (take (length (set b 0 v) - 1) (drop 1 (set b 0 v))) l r) where
+      pub any-put : v ≡ u → Wrote t b (putMid 1 (length (set b 0 v) - 1) (set b 0 v) l) (1 + r)
+      any-put p = wrote-as (ap (λ (k : ℕ). k ∷ x) p ∙ sym q) (wrote-after first x X)
+
+      pub any-kept : length (putMid 1 (length (set b 0 v) - 1) (set b 0 v) l) ≡ length b
+      any-kept = after-kept first x whole X
+
+  pub lead-start : 1 ≤ length (set b 0 u)
+  lead-start = any-start u
+
+  pub lead-tail : Room x (take (length (set b 0 u) - 1) (drop 1 (set b 0 u)))
+  lead-tail = any-tail u
 
   pub lead-sum : {r : ℕ} → r ≡ length x → 1 + r ≤ length b
-  lead-sum = after-sum first x whole
+  lead-sum = after-sum (first u) x (whole u)
 
-  module _ {l : List ℕ} {r : ℕ} (X : Wrote x (take (length (set b 0 v) - 1) (drop 1 (set b 0 v))) l r) where
-    pub lead-put : Wrote t b (putMid 1 (length (set b 0 v) - 1) (set b 0 v) l) (1 + r)
-    lead-put = wrote-as (sym q) (wrote-after first x X)
+  module _ {l : List ℕ} {r : ℕ} (X : Wrote x (take (length (set b 0 u) - 1) (drop 1 (set b 0 u))) l r) where
+    pub lead-put : Wrote t b (putMid 1 (length (set b 0 u) - 1) (set b 0 u) l) (1 + r)
+    lead-put = any-put u X refl
 
-    pub lead-kept : length (putMid 1 (length (set b 0 v) - 1) (set b 0 v) l) ≡ length b
-    lead-kept = after-kept first x whole X
+    pub lead-kept : length (putMid 1 (length (set b 0 u) - 1) (set b 0 u) l) ≡ length b
+    lead-kept = any-kept u X

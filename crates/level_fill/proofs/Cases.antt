@@ -9,7 +9,8 @@ use mathlib.Core.List.{List}
 use Rattle.clause_tables.specs.declared.Totals.{Totals}
 use Rattle.clause_tables.specs.Tables.{totalsIn, atomsIn, codeIn}
 use Rattle.level_lists.specs.Bytes.{setIn, levelByte}
-use Rattle.level_fill.specs.Values.{atomBytes, bodyBytes, foundsBytes, levelBytes, chainBytes, familyIn}
+use Rattle.level_bits.specs.Bits.{levelBytes, chainBytes}
+use Rattle.level_fill.specs.Values.{atomBytes, bodyBytes, foundsBytes, familyIn}
 
 pub only-six : (k : ℕ) → 0 < k → k ≤ 6 → (k ≡ 1 → ⊥) → (k ≡ 2 → ⊥) → (k ≡ 3 → ⊥) → (k ≡ 4 → ⊥) → (k ≡ 5 → ⊥) → k ≡ 6
 only-six zero p h a b c d e = absurd (omega (arith, p))

@@ -7,18 +7,7 @@ use Rattle.encoding.specs.Code.{whole, inner, pairList}
 use Rattle.lists.specs.Lists.{each}
 use Rattle.meaning.specs.Samples.{setOf, fact, loop}
 use Rattle.answer_offers.specs.Offered.{valueBytes}
-use Rattle.level_fill.specs.Values.{bitBytes, lessBytes, pairBytes, familyBytes, filledWith}
-
--- the lowest bit is first
-bits-read : bitBytes 3 6 ∷ bitBytes 3 1 ∷ [] ≡ (0 ∷ 1 ∷ 1 ∷ []) ∷ (1 ∷ 0 ∷ 0 ∷ []) ∷ []
-bits-read = refl
-
-less-read : lessBytes 3 1 2 ∷ lessBytes 3 4 3 ∷ lessBytes 3 3 3 ∷ [] ≡ (0 ∷ 1 ∷ 1 ∷ []) ∷ (1 ∷ 1 ∷ 0 ∷ []) ∷ (0 ∷ 0 ∷ 0 ∷ []) ∷ []
-less-read = refl
-
--- the second chain compares the next
-pair-read : pairBytes 2 1 2 ≡ 0 ∷ 1 ∷ 0 ∷ 0 ∷ []
-pair-read = refl
+use Rattle.level_fill.specs.Values.{familyBytes, filledWith}
 
 -- document 01's answer "v 1 2 3 4 -5 -6 7"
 fact-read : valueBytes (filledWith (whole fact 2) (setOf (1 ∷ [])) (λ a. 1)) ≡ 1 ∷ 1 ∷ 1 ∷ 1 ∷ 0 ∷ 0 ∷ 1 ∷ []

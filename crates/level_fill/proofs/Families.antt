@@ -2,12 +2,11 @@
 --   body-unmet, body-is           the body of a rule, list by list
 --   founds-unmet, founds-is       whether a rule founds its head
 --   rule-asks, rule-inside, rule-row, rules-in, rules-done    one rule of many
---   pair-fits, partner-fits, owner-fits, pair-row, pairs-asks, pairs-in, pairs-done    one pair of many
 --   atom-row                      one atom of many
 --   families-room, families-written, values-written    the families one after the other
 --   levels-long, filled-is        with the levels of the stages
 -- Assumes nothing.
-use Prim.Native.Nat.{ℕ, zero, suc, _+_, _-_, _≤_, _<_}
+use Prim.Native.Nat.{ℕ, suc, _+_, _≤_, _<_}
 use native.Mathlib.Numerals.{add-one}
 use native.Mathlib.Omega.{arith}
 use mathlib.Core.Path.{_≡_, sym, _∙_, ap, ap₂, subst}
@@ -18,18 +17,18 @@ use lib.ListN.{length, getD, drop, length-append}
 use Rattle.lists.specs.Lists.{all, tab, each}
 use Rattle.lists.proofs.Tables.{length-tab}
 use Rattle.meaning.specs.Program.{Rule, Atoms, isAtom, noneIn, bodyTrue}
-use Rattle.encoding.specs.Code.{Code, rl, inner, pairTotal, pairBody, pairHead, levelOf, codeFill}
-use Rattle.theory.proofs.Atoms.{RuleIn, atom-pos, atom-le, is-atom}
-use Rattle.theory.proofs.Pairs.{body-in, head-in}
+use Rattle.encoding.specs.Code.{Code, rl, inner, levelOf, codeFill}
+use Rattle.theory.proofs.Atoms.{RuleIn, is-atom}
 use Rattle.clause_tables.specs.declared.Totals.{Totals}
 use Rattle.clause_tables.specs.Tables.{Tabled}
-use Rattle.clause_table_laws.proofs.Elements.{ranges, inner-all, pairs-fit, rules-are, atoms-are, width-are, pairs-are, vars-are, partner-is, owner-is}
+use Rattle.clause_table_laws.proofs.Elements.{ranges, inner-all, rules-are, atoms-are, width-are, vars-are}
 use Rattle.truth_clauses.specs.Truth.{valueIn}
 use Rattle.level_lists.specs.Bytes.{setIn, levelByte}
 use Rattle.level_lists.proofs.Rules.{set-is, none-is, all-is}
 use Rattle.level_stages.proofs.OneRound.{tab-byte}
 use Rattle.answer_offers.specs.Offered.{valueBytes}
-use Rattle.level_fill.specs.Values.{byteOf, foundsAt, pairBytes, pairAtBytes, familyBytes, filledWith}
+use Rattle.level_bits.specs.Bits.{byteOf}
+use Rattle.level_fill.specs.Values.{foundsAt, familyBytes, filledWith}
 use Rattle.level_fill.proofs.Whole.{filled-same, filled-fill, values-are, values-length}
 use Rattle.digits.specs.Bytes.{Room, Wrote}
 use Rattle.digits.proofs.Wrote.{wrote-as, rows-whole}
@@ -81,54 +80,6 @@ module _ {G : Code} {t : Totals} {hs ss bs ks xs ys : List ℕ} (T : Tabled G t 
   -- as many as there are
   pub rules-done : (k : ℕ) → k ≤ t .sizes .m → t .sizes .m ≤ k → (k ≤ length (G .rules)) × (length (G .rules) ≤ k)
   rules-done k h l = (subst (λ (m : ℕ). k ≤ m) (rules-are G t hs ss bs ks xs ys T) h, subst (λ (m : ℕ). m ≤ k) (rules-are G t hs ss bs ks xs ys T) l)
-
-  -- pair k + 1, where there are k before it
-  pub pairs-asks : (k : ℕ) → k < t .pairs → k < pairTotal G
-  pairs-asks k h = subst (λ (m : ℕ). k < m) (pairs-are G t hs ss bs ks xs ys T) h
-
-  pub pairs-in : (k : ℕ) → k ≤ t .pairs → k ≤ pairTotal G
-  pairs-in k h = subst (λ (m : ℕ). k ≤ m) (pairs-are G t hs ss bs ks xs ys T) h
-
-  pub pairs-done : (k : ℕ) → k ≤ t .pairs → t .pairs ≤ k → (k ≤ pairTotal G) × (pairTotal G ≤ k)
-  pairs-done k h l = (subst (λ (m : ℕ). k ≤ m) (pairs-are G t hs ss bs ks xs ys T) h, subst (λ (m : ℕ). m ≤ k) (pairs-are G t hs ss bs ks xs ys T) l)
-
-  -- ---- pair k
-  module _ (k : ℕ) (p : 0 < k) (h : k ≤ t .pairs) where
-    inside : k ≤ pairTotal G
-    inside = subst (λ (m : ℕ). k ≤ m) (pairs-are G t hs ss bs ks xs ys T) h
-
-    pub pair-fits : k ≤ 500
-    pair-fits = omega (arith, inside, pairs-fit G (T .limits))
-
-    body-of : {b : ℕ} → b ≡ getD xs (k - 1) 0 → b ≡ pairBody G k
-    body-of e = e ∙ partner-is G t hs ss bs ks xs ys T k p inside
-
-    head-of : {b : ℕ} → b ≡ getD ys (k - 1) 0 → b ≡ pairHead G k
-    head-of e = e ∙ owner-is G t hs ss bs ks xs ys T k p inside
-
-    -- both are atoms, and have a byte among the levels ls
-    has-byte : (ls : List ℕ) {a b : ℕ} → t .sizes .n ≤ length ls → a ≡ b → So (isAtom (G .n) b) → (0 < a) × (a ≤ length ls)
-    has-byte ls {a} {b} l e u =
-        let v = subst (λ (x : ℕ). So (isAtom (G .n) x)) (sym e) u in (atom-pos (G .n) a v, omega (arith, atoms, atom-le (G .n) a v, l))
-
-    pub partner-fits : (ls : List ℕ) {b : ℕ} → t .sizes .n ≤ length ls → b ≡ getD xs (k - 1) 0 → (0 < b) × (b ≤ length ls)
-    partner-fits ls l e = has-byte ls l (body-of e) (go k p inside)
-      where
-        go : (k : ℕ) → 0 < k → k ≤ pairTotal G → So (isAtom (G .n) (pairBody G k))
-        go zero p h = absurd (omega (arith, p))
-        go (suc j) p h = body-in G (ranges G (T .limits)) j h
-
-    pub owner-fits : (ls : List ℕ) {b : ℕ} → t .sizes .n ≤ length ls → b ≡ getD ys (k - 1) 0 → (0 < b) × (b ≤ length ls)
-    owner-fits ls l e = has-byte ls l (head-of e) (go k p inside)
-      where
-        go : (k : ℕ) → 0 < k → k ≤ pairTotal G → So (isAtom (G .n) (pairHead G k))
-        go zero p h = absurd (omega (arith, p))
-        go (suc j) p h = head-in G (ranges G (T .limits)) j h
-
-    -- x and y are the levels of its body atom b and its head a
-    pub pair-row : (w : ℕ) (ls : List ℕ) {a b x y : ℕ} → b ≡ getD xs (k - 1) 0 → x ≡ levelByte ls b → a ≡ getD ys (k - 1) 0 → y ≡ levelByte ls a
-        → pairBytes w x y ≡ pairAtBytes G w (levelByte ls) k
-    pair-row w ls e f g l = ap₂ (pairBytes w) (f ∙ ap (levelByte ls) (body-of e)) (l ∙ ap (levelByte ls) (head-of g))
 
   -- ---- all families, with w the width
   module _ (s ls : List ℕ) {w : ℕ} (q : w ≡ t .sizes .w) where

@@ -25,7 +25,8 @@ use Rattle.theory.proofs.Numbered.{Ranges}
 use Rattle.theory.proofs.Pairs.{inner-in, body-in, head-in}
 use Rattle.theory.proofs.Filled.{fill-length}
 use Rattle.answer_offers.specs.Offered.{valueBytes}
-use Rattle.level_fill.specs.Values.{byteOf, bitBytes, levelBytes, pairBytes, chainBytes, familyBytes, filledWith}
+use Rattle.level_bits.specs.Bits.{byteOf, bitBytes, levelBytes, pairBytes, chainBytes}
+use Rattle.level_fill.specs.Values.{familyBytes, filledWith}
 
 -- ---- the bytes of tables
 

@@ -1,34 +1,21 @@
 -- The bytes of the filled-out assignment, family by family (document 01, "Variables" and "Check and filling out").
---   truthBytes n p       the truth values p 1 to p n
 --   atomBytes n M        the atoms
 --   bodyBytes G M        t(r) of each rule, which is bodyAt G M r
 --   foundsBytes G M ℓ    s(r) of each rule, which is foundsAt G M ℓ r, for levels ℓ
---   bitBytes w x         the w lowest bits of x
---   levelBytes n w d ℓ   the bits of ℓ a + d of each atom: of its level, or its next
---   lessBytes w x y      a chain: for i from 1 to w, whether the lowest i bits of x are below those of y
---   pairBytes w x y      the two chains of a pair, for the levels x of its body atom and y of its head; pairAtBytes G w ℓ k those of pair k
---   chainBytes G w ℓ     those of each pair
---   familyBytes G n w M ℓ k    family k of these six
+--   familyBytes G n w M ℓ k    family k of six: these three, the bits of levels and of their next ones, and the chains
 --   familyIn tb s ls k    the same of the code in a table, for the bytes s of a set and ls of levels
 --   filledWith G M ℓ   the filled-out values of a set M, for levels ℓ
 -- Assumes nothing.
-use Prim.Native.Nat.{ℕ, zero, suc, _+_}
-use mathlib.Core.Bool.{Bool, cond}
-use mathlib.Core.List.{List, [], _++_}
+use Prim.Native.Nat.{ℕ, zero, suc}
+use mathlib.Core.Bool.{Bool}
+use mathlib.Core.List.{List, []}
 use lib.ListN.{length}
-use Rattle.lists.specs.Lists.{tab, each}
 use Rattle.meaning.specs.Program.{Atoms, bodyTrue}
-use Rattle.encoding.specs.Code.{Code, codeSizes, rl, inner, pairList, pairTotal, pairBody, pairHead}
-use Rattle.encoding.specs.Counter.{bit}
-use Rattle.encoding.specs.Fill.{lessAt, founds, fillWith}
+use Rattle.encoding.specs.Code.{Code, codeSizes, rl, inner, pairList}
+use Rattle.encoding.specs.Fill.{founds, fillWith}
 use Rattle.clause_tables.specs.Tables.{codeIn, atomsIn}
 use Rattle.level_lists.specs.Bytes.{setIn, levelByte}
-
-abbrev pub byteOf : Bool → ℕ
-byteOf b = cond b 1 0
-
-abbrev pub truthBytes : ℕ → (ℕ → Bool) → List ℕ
-truthBytes n p = tab n (λ i. byteOf (p i))
+use Rattle.level_bits.specs.Bits.{truthBytes, levelBytes, chainBytes}
 
 abbrev pub atomBytes : ℕ → Atoms → List ℕ
 atomBytes n M = truthBytes n M
@@ -45,27 +32,6 @@ bodyBytes G M = truthBytes (length (G .rules)) (bodyAt G M)
 
 abbrev pub foundsBytes : Code → Atoms → (ℕ → ℕ) → List ℕ
 foundsBytes G M ℓ = truthBytes (length (G .rules)) (foundsAt G M ℓ)
-
-abbrev pub bitBytes : ℕ → ℕ → List ℕ
-bitBytes w x = truthBytes w (bit x)
-
-abbrev pub levelAtBytes : ℕ → ℕ → (ℕ → ℕ) → ℕ → List ℕ
-levelAtBytes w d ℓ a = bitBytes w (ℓ a + d)
-
-abbrev pub levelBytes : ℕ → ℕ → ℕ → (ℕ → ℕ) → List ℕ
-levelBytes n w d ℓ = each n (levelAtBytes w d ℓ)
-
-abbrev pub lessBytes : ℕ → ℕ → ℕ → List ℕ
-lessBytes w x y = truthBytes w (lessAt x y)
-
-abbrev pub pairBytes : ℕ → ℕ → ℕ → List ℕ
-pairBytes w x y = lessBytes w x y ++ lessBytes w (x + 1) y
-
-abbrev pub pairAtBytes : Code → ℕ → (ℕ → ℕ) → ℕ → List ℕ
-pairAtBytes G w ℓ k = pairBytes w (ℓ (pairBody G k)) (ℓ (pairHead G k))
-
-abbrev pub chainBytes : Code → ℕ → (ℕ → ℕ) → List ℕ
-chainBytes G w ℓ = each (pairTotal G) (pairAtBytes G w ℓ)
 
 -- the six families in their order, from 1
 abbrev pub familyBytes : Code → ℕ → ℕ → Atoms → (ℕ → ℕ) → ℕ → List ℕ

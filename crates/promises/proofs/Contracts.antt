@@ -26,6 +26,8 @@ use Rattle.clause_walk.specs.Walk.{walked}
 use Rattle.clause_walk.proofs.Walked.{walked-clauses}
 use Rattle.clause_places.specs.Places.{placeAt, clauseIn}
 use Rattle.clause_runs.specs.Lines.{clauseTotal}
+use Rattle.truth_items.proofs as truth-items
+use Rattle.truth_clauses.proofs as truth-clauses
 use Rattle.call_lines.proofs as call-lines
 use Rattle.call_lines_rows.proofs.File as File
 use Rattle.answer_form.specs.Answer.{Status, AnswerMalformed, OfStatus}
@@ -33,8 +35,8 @@ use Rattle.answer_form.specs.Pieces.{OffersModel}
 use Rattle.answer_reader.specs.declared.Formed.the-variants.{Model, NoModel, Malformed as LeftForm}
 use Rattle.answer_reader.specs.Results.{formOf}
 use Rattle.answer_reader.proofs.Promised as Form
-use Rattle.answer_values.specs.Assign.{Outcome, literalsFrom, literalAt, variableAt, Unnamed, unnamedCount, assignedOf, assignedBytes, unsetCount, completed}
-use Rattle.answer_values.specs.Assign.{overwritten, literalValue}
+use Rattle.answer_bytes.specs.Bytes.{Outcome, unsetCount, completed, overwritten}
+use Rattle.answer_values.specs.Assign.{literalsFrom, literalAt, variableAt, Unnamed, unnamedCount, assignedOf, assignedBytes, literalValue}
 use Rattle.answer_values.specs.Rows.{AllFit, StrayAt, RepeatedAt}
 use Rattle.answer_values.proofs.Rows as Assigned
 use Rattle.answer_offers.specs.Offered.{valueBytes, valuesOf, Completes}
@@ -64,6 +66,9 @@ pub record Contracts (M : Type 1) : Type 2 where
   pub run : call-lines.run.Statement.statement M
   -- the check of any answer against any text: `checkCall`, that is `checkAnswer`, `checkAssignment` and `checkLevels`
   pub check : call-check.check.Statement.statement M
+  -- the test of clause j of a program's table under the bytes of an assignment: `codeTrue`; that of all clauses of an item: `itemTrue`
+  pub clause-true : truth-clauses.clause_true.Statement.statement M
+  pub item-holds : truth-items.item_holds.Statement.statement M
   -- filling out any set for any text: `fillCall`, that is `fillAnswer`, `fillAssignment` and `fillLevels`
   pub fill-out : call-fill.fill_out.Statement.statement M
   -- the number and the spot of a refusal of a text, `textNumber` and `textSpot`
@@ -103,6 +108,8 @@ contracts M =
       line = call-lines.line.Met.met;
       run = call-lines.run.Met.met;
       check = call-check.check.Met.met;
+      clause-true = truth-clauses.clause_true.Met.met;
+      item-holds = truth-items.item_holds.Met.met;
       fill-out = call-fill.fill_out.Met.met;
       text-number = refusals.text_number.Met.met;
       text-spot = refusals.text_spot.Met.met;

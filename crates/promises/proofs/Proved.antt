@@ -6,14 +6,14 @@ use mathlib.Core.Path.{_≡_, refl, sym, _∙_, ap, subst}
 use mathlib.Core.Logic.{_⊎_, inl, inr}
 use mathlib.Core.Bool.{Bool, true, false, So, false≢true}
 use mathlib.Core.List.{List, []}
-use lib.ListN.{length, take, drop}
+use lib.ListN.{length, getD, take, drop}
 use lib.Seq.{ext-getD, take-add, take-all}
 use Rattle.lists.specs.Lists.{tab, joined}
 use Rattle.lists.proofs.Tables.{length-tab, getD-tab}
 use Rattle.meaning.specs.Program.{Program, Atoms, wellFormed}
 use Rattle.meaning.specs.Stage.{Definite, reduct, Stable, level}
 use Rattle.encoding.specs.Width.{width}
-use Rattle.encoding.specs.Literal.{Assignment}
+use Rattle.encoding.specs.Literal.{Assignment, Clause, clauseTrue}
 use Rattle.encoding.specs.Clauses.{clauses}
 use Rattle.encoding.specs.Code.{codeOf}
 use Rattle.theory.proofs.LeastModel.{union-model, union-least, first-stage-unique}
@@ -24,7 +24,7 @@ use Rattle.theory.proofs.Counters.{chain-iff, successor-iff}
 use Rattle.theory.proofs.GroupMeanings.{group1-iff, group2-iff, group3-iff, group4-iff, group5-iff, group6-iff, group7-iff, pairs-are, pairs-counted}
 use Rattle.theory.proofs.Widths.{width-is, width-unique, width-table, width-zeros, width-enough}
 use Rattle.theory.proofs.Counts.{count-whole}
-use Rattle.theory.proofs.Whole.{variables-whole}
+use Rattle.theory.proofs.Whole.{clauses-whole, variables-whole}
 use Rattle.theory.proofs.Base as Base
 use Rattle.text.specs.Limits.{Limits, Admitted}
 use Rattle.program.specs.Arrays.{decoded}
@@ -51,12 +51,14 @@ use Rattle.answer_form.specs.Pieces.{Spotted, spotsOf}
 use Rattle.answer_form.proofs.Spot as AnswerSpot
 use Rattle.answer_form.proofs.Unique.{answer-unique}
 use Rattle.answer_form.proofs.FirstBytes.{literals-at}
-use Rattle.answer_values.specs.Assign.{overwritten}
+use Rattle.answer_bytes.specs.Bytes.{overwritten}
 use Rattle.answer_offers.proofs.Values.{values-complete, values-unique}
 use Rattle.call_check_rows.specs.Rows.{Offers}
 use Rattle.call_check_rows.proofs.Spots.{offers-unique, offers-named}
 use Rattle.call_check_rows.proofs.Verdicts.{answers-check-first, first-check-answers, first-check-unique, model-none, none-model}
 use Rattle.call_check_rows.proofs.Buffers.{model-writes, assumed-rest, refused-zeroes, refused-keeps, refused-levels, never-15}
+use Rattle.truth_clauses.specs.Truth.{valueIn}
+use Rattle.truth_clauses.proofs.Numbered.{program-tested, program-in-item}
 use Rattle.call_fill_rows.proofs.FirstRows.{fill-answers-first, first-fill-answers, first-fill-one, fill-accepts-none, none-fill-accepts}
 use Rattle.call_fill_rows.proofs.Written.{fill-accepted, fill-kept}
 use Rattle.correspondence.proofs.Correspond as Correspond
@@ -68,7 +70,7 @@ use Rattle.checker_output.proofs.Shown.{output-whole}
 use Rattle.checker_output.proofs.Printed.{checker-refuses, checker-shows}
 use Rattle.exports.proofs.Zero as Zero
 use Rattle.promises.specs.Promised.{LeastModel, Stability, LevelNumbers, HighestLevel, Width, GroupMeanings, ClauseList, Demand3, ProgramText, ClauseFile}
-use Rattle.promises.specs.Promised.{LineCall, RunCall, WriterOutput, WriterParts, AnswerText, CheckCall, CheckerOutput, FillCall, TextDemand3, LeftOut}
+use Rattle.promises.specs.Promised.{LineCall, RunCall, WriterOutput, WriterParts, AnswerText, CheckCall, CheckerOutput, FillCall, TextDemand3, ClauseTests, LeftOut}
 use Rattle.promises.specs.Promised.{LevelsWithoutGaps, ZeroAccepts, Promised}
 
 -- ---- 1 Meaning
@@ -318,6 +320,17 @@ accepted-demand3 t e = let a = accepted-admitted t e in (a .0, a .1, text-demand
 
 -- ---- 10 The requests of document 02
 
+clause-tests : (P : Program) → Limits P → ClauseTests P
+clause-tests P L =
+    record {
+      of-clause = λ bs j p h.
+          let e = ap (λ (cs : List Clause). clauseTrue (valueIn bs) (getD cs (pred j) [])) (clauses-whole P (width (P .atoms))) in
+          (λ s. sym e ∙ s, λ s. e ∙ s);
+      its-line = File.clause-line P L;
+      of-item = program-tested P L;
+      in-item = program-in-item P L;
+    }
+
 left-out : LeftOut
 left-out =
     record {
@@ -368,6 +381,7 @@ proved =
       fill-call = fill-call;
       text-demand3 = text-demand3;
       accepted-demand3 = accepted-demand3;
+      clause-tests = clause-tests;
       left-out = left-out;
       levels-without-gaps = levels-without-gaps;
       zero-accepts = zero-accepts;

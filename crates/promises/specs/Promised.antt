@@ -9,7 +9,7 @@
 --   7  The check: what it answers and writes (rows 8, 10 to 14 and 16), and what the checker prints
 --   8  Filling out: what it answers and writes (rows 8, 17 and 18)
 --   9  Demand 3, over texts, answers and bytes: stable models, accepted assignments and filled-out sets correspond
---   10 The requests of document 02 (Q-3: solvers that leave variables out; Q-6: levels without gaps)
+--   10 The requests of document 02 (Q-2: literals tested where they arise; Q-3: solvers that leave variables out; Q-6: levels without gaps)
 --   11 The calls for other languages: what the number of a reply says
 -- What a statement names is found in the specs/ folders of the crates that the `use` lines give. Of the code it names only the calls' own definitions, as
 -- `readOf`, `lineAnswer`, `checkAnswer` and `fillAnswer` with the bytes that they leave; that the code meets them is said in proofs/Contracts.antt. Examples
@@ -17,11 +17,11 @@
 -- Letters: P is a program, n the number of its atoms, w a width, V and C the numbers of variables and clauses, M a set of atoms, a an atom, t a program text,
 -- u an answer, xs literals with the indices of their first bytes, s a spot or a set as bytes, b and l lent buffers, j a line's number, r a row of document
 -- 01's table.
--- Nothing is assumed. The hypotheses of sections 1 to 3 and of `of-model` are met by every well-formed program, those of `clause-file`, `writer-parts` and
--- section 9 by the program of every accepted text; the other statements hold for any bytes and for the literals of any answer. Only the two programs read
--- files and write to an output, through the C library's functions (open, read, write, close), whose contracts are axioms of the kit. What a file holds, and
--- what becomes of the bytes that are handed over, is in no statement: those about the programs are about the bytes that they make of what they have read,
--- `writerText` and `checkerText`.
+-- Nothing is assumed. The hypotheses of sections 1 to 3 and of `of-model` are met by every well-formed program, those of `clause-file`, `writer-parts`,
+-- `clause-tests` and section 9 by the program of every accepted text; the other statements hold for any bytes and for the literals of any answer. Only the
+-- two programs read files and write to an output, through the C library's functions (open, read, write, close), whose contracts are axioms of the kit. What a
+-- file holds, and what becomes of the bytes that are handed over, is in no statement: those about the programs are about the bytes that they make of what they
+-- have read, `writerText` and `checkerText`.
 use Prim.Native.Nat.{ℕ, zero, suc, pred, _+_, _-_, _^_, _%_, _≤_, _<_}
 use mathlib.Core.Path.{_≡_}
 use mathlib.Core.Logic.{_↔_, _⊎_}
@@ -41,6 +41,7 @@ use Rattle.encoding.specs.Counter.{value, chain, successor}
 use Rattle.encoding.specs.Variables.{bodyVar, foundsVar, nextVar}
 use Rattle.encoding.specs.Clauses.{sizes, pairs, pairAt, pairCount, pairsBefore, group1, group2, group3, group4, group5, group6, group7}
 use Rattle.encoding.specs.Clauses.{clauses, variables, clauseCount}
+use Rattle.encoding.specs.Code.{codeOf}
 use Rattle.encoding.specs.Fill.{fill, trueAtoms, counter}
 use Rattle.theory.specs.GroupMeaning.{SomeRule, ComparesPair, FoundsRule}
 use Rattle.text.specs.Text.{textOf, HasForm, Viable, Malformed}
@@ -57,6 +58,9 @@ use Rattle.reader_laws.specs.FirstBytes.{BreachAt}
 use Rattle.reader_laws.specs.Row.{Row, FirstRow, Answers}
 use Rattle.digits.specs.Bytes.{lineText}
 use Rattle.fixed_lines.specs.Lines.{headerText, refusedText}
+use Rattle.clause_walk.specs.Walk.{groupCount, itemCount}
+use Rattle.truth_literals.specs.Items.{itemTrue}
+use Rattle.truth_clauses.specs.Truth.{valueIn, InItem, codeTrue}
 use Rattle.clause_runs.specs.Lines.{clauseTotal, linesOf, lineOf, fitting, runIn}
 use Rattle.call_lines_rows.specs.declared.LineVerdict.the-variants.{Written, Refused as LineRefused}
 use Rattle.call_lines_rows.specs.declared.RunVerdict.the-variants.{WrittenRun, RefusedRun}
@@ -396,6 +400,20 @@ pub record TextDemand3 (t : List ℕ) (P : Program) : Type 0 where
 
 -- ---- 10 The requests of document 02
 
+-- Q-2, literals tested where they arise: bs are the bytes of an assignment, and a variable is true in it if its byte is not 0. `codeTrue (codeOf P) bs j` is
+-- what the test of clause j answers. The check tests the clauses of one rule, atom or pair in a clause group together, as an item of that group:
+-- `itemTrue (codeOf P) (valueIn bs) g a` is what the test of item a of group g answers, and `InItem (codeOf P) g a i j` says that clause j is its clause i.
+pub record ClauseTests (P : Program) : Type 0 where
+  -- the test of clause j says true exactly if written clause j is true
+  pub of-clause : (bs : List ℕ) (j : ℕ) → zero < j → j ≤ clauseTotal P → So (codeTrue (codeOf P) bs j) ↔ So (clauseTrue (valueIn bs) (clauseOf P j))
+  -- the one whose print is line j
+  pub its-line : (j : ℕ) → zero < j → j ≤ clauseTotal P → lineOf P j ≡ lineText (clauseOf P j)
+  -- the test of an item says true exactly if each of its clauses is true
+  pub of-item : (bs : List ℕ) (g a : ℕ) → zero < g → g ≤ groupCount → zero < a → a ≤ itemCount (codeOf P) g
+      → So (itemTrue (codeOf P) (valueIn bs) g a) ↔ ((i j : ℕ) → InItem (codeOf P) g a i j → So (codeTrue (codeOf P) bs j))
+  -- and each clause is one of an item
+  pub in-item : (j : ℕ) → zero < j → j ≤ clauseTotal P → (g : ℕ) × (a : ℕ) × (i : ℕ) × InItem (codeOf P) g a i j
+
 -- Q-3, solvers that leave variables out: u is an answer that offers the literals xs, n any number of variables. Demand 3 for such answers is section 9.
 pub record LeftOut : Type 0 where
   -- literals that give no variable twice and none above n have a completed assignment, n values: each literal is true, and a variable that none names is false
@@ -495,6 +513,8 @@ pub record Promised : Type 1 where
   pub text-demand3 : (t : List ℕ) (P : Program) → Admitted t P → TextDemand3 t P
   -- 9: and so of every text that the reader accepts
   pub accepted-demand3 : (t : List ℕ) → readOf t .verdict ≡ Accepted → (P : Program) × Admitted t P × TextDemand3 t P
+  -- 10: the tests of clauses and of items of clauses, for every program within the limits
+  pub clause-tests : (P : Program) → Limits P → ClauseTests P
   -- 10: solvers that leave variables out
   pub left-out : LeftOut
   -- 10: levels without gaps

@@ -1,6 +1,6 @@
 -- The clauses of a chain's bit, over an assignment and plain numbers.
 --   first-bit, next-bit       those of the first bit, and of the second
---   further-bit, further-in   those of a further bit, and its variables, are as the second bit's
+--   further-bit               those of a further bit are as the second bit's
 -- Assumes nothing.
 use Prim.Native.Nat.{ℕ}
 use mathlib.Core.Path.{_≡_, refl, sym, _∙_, ap, ap₂}
@@ -14,7 +14,7 @@ use Rattle.encoding.specs.Literal.{Assignment, var, −_, literalTrue}
 use Rattle.clause_walk.specs.Walk.{chainFirst, chainNext}
 use Rattle.clause_chains.specs.declared.Chain.{Chain}
 use Rattle.truth_literals.specs.Values.{valueIn, numberTrue}
-use Rattle.truth_literals.specs.Clauses.{threeTrue, pairsTrue, BitIn, bitTrue}
+use Rattle.truth_literals.specs.Clauses.{threeTrue, pairsTrue, bitTrue}
 use Rattle.truth_literals.proofs.Values.{Says, two-true, three-true}
 
 three-more : (a b d e : Bool) → (a && ((b && d) && e)) ≡ (((a && b) && d) && e)
@@ -30,7 +30,8 @@ module _ (bs : List ℕ) (c : Chain) {z x y u v w : ℤ} (Z : Says (var (c .z .0
   first-bit e f h = ap₂ _&&_ (ap₂ _&&_ (two-true bs Nz Nx e) (two-true bs Nz Y f)) (three-true bs Z X Ny h)
 
   -- and of z at the bit before
-  pub next-bit : {g k : ℤ} → Says (var (c .g .0)) g → Says (− (c .g .0)) k → {p q : Bool} → p ≡ pairsTrue (numberTrue bs) u v y g → q ≡ pairsTrue (numberTrue bs) z x w k
+  pub next-bit : {g k : ℤ} → Says (var (c .g .0)) g → Says (− (c .g .0)) k → {p q : Bool} → p ≡ pairsTrue (numberTrue bs) u v y g
+      → q ≡ pairsTrue (numberTrue bs) z x w k
       → (p && q) ≡ bitTrue (valueIn bs) c 2
   unfolding bitTrue
   next-bit G Ng {p} e f =
@@ -58,6 +59,3 @@ module _ (A : Assignment) (c : Chain) where
   pub further-bit : {i : ℕ} {r : Bool} → (i ≡ 1 → ⊥) → r ≡ bitTrue A c 2 → r ≡ bitTrue A c i
   unfolding bitTrue
   further-bit {i} q e = e ∙ sym (ap bit-by (ne-eqb i 1 q))
-
-pub further-in : {bs : List ℕ} {c : Chain} {i : ℕ} → BitIn bs c i → (i ≡ 1 → ⊥) → BitIn bs c 2
-further-in B q = record { z-in = B .z-in; x-in = B .x-in; y-in = B .y-in; g-in = λ n. B .g-in q }

@@ -88,17 +88,20 @@ module _ (bs : List ℕ) {l : Literal} {x : ℤ} (p : Says l x) where
     pub two-true : {r : Bool} → r ≡ (numberTrue bs x || numberTrue bs y) → r ≡ twoTrue (valueIn bs) l m
     two-true e = e ∙ ap₂ _||_ (one-true refl) (literal-true bs m (q .number) (q .some) refl)
 
-    pub three-true : {n : Literal} {z : ℤ} → Says n z → {r : Bool} → r ≡ ((numberTrue bs x || numberTrue bs y) || numberTrue bs z) → r ≡ threeTrue (valueIn bs) l m n
+    pub three-true : {n : Literal} {z : ℤ} → Says n z → {r : Bool} → r ≡ ((numberTrue bs x || numberTrue bs y) || numberTrue bs z)
+        → r ≡ threeTrue (valueIn bs) l m n
     three-true {n} s e = e ∙ ap₂ _||_ (two-true refl) (literal-true bs n (s .number) (s .some) refl)
 
 -- ---- parameters that are passed on: each is what the machine reads back of it
 
-pub pairs-read : (bs : List ℕ) {z x y g z' x' y' g' : ℤ} → z' ≡ z → x' ≡ x → y' ≡ y → g' ≡ g → {p q r : Bool} → p ≡ ((numberTrue bs z' || numberTrue bs x') || numberTrue bs y')
+pub pairs-read : (bs : List ℕ) {z x y g z' x' y' g' : ℤ} → z' ≡ z → x' ≡ x → y' ≡ y → g' ≡ g → {p q r : Bool}
+    → p ≡ ((numberTrue bs z' || numberTrue bs x') || numberTrue bs y')
     → q ≡ ((numberTrue bs z' || numberTrue bs x') || numberTrue bs g') → r ≡ ((numberTrue bs z' || numberTrue bs y') || numberTrue bs g')
     → ((p && q) && r) ≡ pairsTrue (numberTrue bs) z x y g
 pairs-read bs a b c d e f h = ap₂ _&&_ (ap₂ _&&_ (e ∙ three a b c) (f ∙ three a b d)) (h ∙ three a c d)
   where
-    three : {x y z x' y' z' : ℤ} → x' ≡ x → y' ≡ y → z' ≡ z → ((numberTrue bs x' || numberTrue bs y') || numberTrue bs z') ≡ ((numberTrue bs x || numberTrue bs y) || numberTrue bs z)
+    three : {x y z x' y' z' : ℤ} → x' ≡ x → y' ≡ y → z' ≡ z
+        → ((numberTrue bs x' || numberTrue bs y') || numberTrue bs z') ≡ ((numberTrue bs x || numberTrue bs y) || numberTrue bs z)
     three p q s = ap₂ _||_ (ap₂ _||_ (ap (numberTrue bs) p) (ap (numberTrue bs) q)) (ap (numberTrue bs) s)
 
 pub place-asks : (bs : List ℕ) {x y : ℤ} {n : ℕ} → y ≡ x → n ≡ natAbs y → 0 < natAbs x → natAbs x ≤ length bs → (0 < n) × (n ≤ length bs)

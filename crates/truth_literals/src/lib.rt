@@ -4,11 +4,14 @@ use clause_literals::is_negative;
 use clause_literals::literal;
 use clause_literals::magnitude;
 use clause_literals::negated;
+use clause_literals::with_sign;
 use numbers::Var;
 ghost use mathlib.Core.Path.{_≡_};
 ghost use mathlib.Core.Bool.{_||_};
+ghost use Rattle.encoding.specs.Literal.{−_, literalTrue};
+ghost use Rattle.clause_walk.specs.Walk.{signed};
 ghost use Rattle.truth_literals.specs.Values.{valueIn, numberTrue};
-ghost use Rattle.truth_literals.specs.Clauses.{Has, LiteralIn, pairsTrue, BitIn, bitTrue};
+ghost use Rattle.truth_literals.specs.Clauses.{Has, LiteralIn, twoTrue, pairsTrue, BitIn, bitTrue};
 
 // Whether the byte of variable v, counted from 1, is not 0.
 fn byte_set(assignment: &[u8], v: usize) -> bool
@@ -54,8 +57,24 @@ pub fn three_hold(x: i32, y: i32, z: i32, assignment: &[u8]) -> bool
     holds(x, assignment) | holds(y, assignment) | holds(z, assignment)
 }
 
-// Whether every clause of a chain's first bit is true, and of a further one.
-fn first_bit_holds(c: Chain, assignment: &[u8]) -> bool
+// Whether variable v has 1 where `on` holds, else 0.
+pub fn stands(on: bool, v: Var, assignment: &[u8]) -> bool
+    requires { ⌜ Has (now assignment) (v .0) ⌝ }
+    ensures { λ r. ⌜ r ≡ literalTrue (valueIn (now (assignment .entry))) (signed on (v .0)) ⌝ }
+{
+    holds(with_sign(on, v), assignment)
+}
+
+// Whether the clause is true that x has 0, or v has 1 where `on` holds, else 0.
+pub fn implies(x: Var, on: bool, v: Var, assignment: &[u8]) -> bool
+    requires { ⌜ (Has (now assignment) (x .0)) × (Has (now assignment) (v .0)) ⌝ }
+    ensures { λ r. ⌜ r ≡ twoTrue (valueIn (now (assignment .entry))) (− (x .0)) (signed on (v .0)) ⌝ }
+{
+    two_hold(negated(x), with_sign(on, v), assignment)
+}
+
+// Whether every clause of a chain's first bit is true.
+pub fn first_bit_holds(c: Chain, assignment: &[u8]) -> bool
     requires { ⌜ BitIn (now assignment) c 1 ⌝ }
     ensures { λ r. ⌜ r ≡ bitTrue (valueIn (now (assignment .entry))) c 1 ⌝ }
 {
@@ -80,7 +99,8 @@ fn pairs_hold(z: i32, x: i32, y: i32, g: i32, assignment: &[u8]) -> bool
         & three_hold(z, y, g, assignment)
 }
 
-fn next_bit_holds(c: Chain, assignment: &[u8]) -> bool
+// Whether every clause of a further bit is true.
+pub fn next_bit_holds(c: Chain, assignment: &[u8]) -> bool
     requires { ⌜ BitIn (now assignment) c 2 ⌝ }
     ensures { λ r. ⌜ r ≡ bitTrue (valueIn (now (assignment .entry))) c 2 ⌝ }
 {
@@ -93,15 +113,4 @@ fn next_bit_holds(c: Chain, assignment: &[u8]) -> bool
     let no_y = negated(c.y);
     let no_g = negated(c.g);
     pairs_hold(no_z, no_x, y, g, assignment) & pairs_hold(z, x, no_y, no_g, assignment)
-}
-
-// Whether every clause of bit i of a chain is true.
-pub fn bit_holds(c: Chain, i: u16, assignment: &[u8]) -> bool
-    requires { ⌜ BitIn (now assignment) c i ⌝ }
-    ensures { λ r. ⌜ r ≡ bitTrue (valueIn (now (assignment .entry))) c i ⌝ }
-{
-    if i == 1 {
-        return first_bit_holds(c, assignment);
-    }
-    next_bit_holds(c, assignment)
 }

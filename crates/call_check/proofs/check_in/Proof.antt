@@ -21,7 +21,7 @@ returns-2 : tie.Need-returns-2
 returns-2 c = short-levels (told (c .before .before .before .before .before .before .before .before .before .pre) (c .before .before .before .before .totals .ensures)) (now (c .before .before .before .before .before .before .before .before .before .args .answer)) (c .before .before .before .before .before .before .before .before .before .args .total) (now (c .before .before .before .before .before .before .before .before .before .args .assignment)) (now (c .before .before .before .before .before .before .before .before .before .args .levels)) (c .before .before .if1 .left) (c .if2 .taken)
 
 returns-3 : tie.Need-returns-3
-returns-3 c = overlong (told (c .before .before .before .before .before .before .before .before .before .before .pre) (c .before .before .before .before .before .totals .ensures)) (now (c .before .before .before .before .before .before .before .before .before .before .args .answer)) (c .before .before .before .before .before .before .before .before .before .before .args .total) (now (c .before .before .before .before .before .before .before .before .before .before .args .assignment)) (now (c .before .before .before .before .before .before .before .before .before .before .args .levels)) (c .before .before .before .if1 .left) (c .before .if2 .left) (c .if3 .taken)
+returns-3 c = overlong (told (c .before .before .before .before .before .before .before .before .before .before .pre) (c .before .before .before .before .before .totals .ensures)) (now (c .before .before .before .before .before .before .before .before .before .before .args .answer)) (c .before .before .before .before .before .before .before .before .before .before .args .total) (now (c .before .before .before .before .before .before .before .before .before .before .args .assignment)) (now (c .before .before .before .before .before .before .before .before .before .before .args .levels)) (c .before .before .before .if1 .left) (c .before .if2 .left) (omega (arith, c .if3 .taken))
 
 slice-aggregate-read-form : tie.Need-slice-aggregate-read-form
 slice-aggregate-read-form c = search needs
@@ -45,10 +45,10 @@ assigned-requires : tie.Need-assigned-requires
 assigned-requires c κs = (c .before .before .before .before .before .before .before .before .before .before .before .before .before .before .before .before .before .before .before .pre, omega (arith, vars-few (told (c .before .before .before .before .before .before .before .before .before .before .before .before .before .before .before .before .before .before .before .pre) (c .before .before .before .before .before .before .before .before .before .before .before .before .before .before .totals .ensures)), ap (λ (t : Totals). t .vars) (c .before .before .before .before .before .before .before .before .before .before .before .before .before .before .totals .ensures), c .before .before .before .before .before .before .before .read-form .kept .1 .1 .0), omega (arith, c .before .before .before .before .before .before .before .before .before .before .before .before .if1 .left, ap (λ (t : Totals). t .vars) (c .before .before .before .before .before .before .before .before .before .before .before .before .before .before .totals .ensures)), omega (arith, c .before .before .before .before .before .before .before .before .before .before .if2 .left, ap (λ (t : Totals). t .sizes .n) (c .before .before .before .before .before .before .before .before .before .before .before .before .before .before .totals .ensures)))
 
 returns-4 : tie.Need-returns-4
-returns-4 c = form-malformed (told (c .before .before .before .before .before .before .before .before .before .before .before .before .before .before .before .before .pre) (c .before .before .before .before .before .before .before .before .before .before .before .totals .ensures)) (now (c .before .before .before .before .before .before .before .before .before .before .before .before .before .before .before .before .args .answer)) (c .before .before .before .before .before .before .before .before .before .before .before .before .before .before .before .before .args .total) (now (c .before .before .before .before .before .before .before .before .before .before .before .before .before .before .before .before .args .assignment)) (now (c .before .before .before .before .before .before .before .before .before .before .before .before .before .before .before .before .args .levels)) (c .before .before .before .before .before .before .before .before .before .if1 .left) (c .before .before .before .before .before .before .before .if2 .left) (c .before .before .before .before .before .before .if3 .left) (c .before .before .before .before .read-form .ensures .0) (c .before .f .given .1)
+returns-4 c = form-malformed (told (c .before .before .before .before .before .before .before .before .before .before .before .before .before .before .before .before .pre) (c .before .before .before .before .before .before .before .before .before .before .before .totals .ensures)) (now (c .before .before .before .before .before .before .before .before .before .before .before .before .before .before .before .before .args .answer)) (c .before .before .before .before .before .before .before .before .before .before .before .before .before .before .before .before .args .total) (now (c .before .before .before .before .before .before .before .before .before .before .before .before .before .before .before .before .args .assignment)) (now (c .before .before .before .before .before .before .before .before .before .before .before .before .before .before .before .before .args .levels)) (c .before .before .before .before .before .before .before .before .before .if1 .left) (c .before .before .before .before .before .before .before .if2 .left) (omega (arith, c .before .before .before .before .before .before .if3 .left)) (c .before .before .before .before .read-form .ensures .0) (c .before .f .given .1)
 
 returns-5 : tie.Need-returns-5
-returns-5 c = form-none (told (c .before .before .before .before .before .before .before .before .before .before .before .before .before .before .before .pre) (c .before .before .before .before .before .before .before .before .before .before .totals .ensures)) (now (c .before .before .before .before .before .before .before .before .before .before .before .before .before .before .before .args .answer)) (c .before .before .before .before .before .before .before .before .before .before .before .before .before .before .before .args .total) (now (c .before .before .before .before .before .before .before .before .before .before .before .before .before .before .before .args .assignment)) (now (c .before .before .before .before .before .before .before .before .before .before .before .before .before .before .before .args .levels)) (c .before .before .before .before .before .before .before .before .if1 .left) (c .before .before .before .before .before .before .if2 .left) (c .before .before .before .before .before .if3 .left) (c .before .before .before .read-form .ensures .0) (c .enum-told .given .1)
+returns-5 c = form-none (told (c .before .before .before .before .before .before .before .before .before .before .before .before .before .before .before .pre) (c .before .before .before .before .before .before .before .before .before .before .totals .ensures)) (now (c .before .before .before .before .before .before .before .before .before .before .before .before .before .before .before .args .answer)) (c .before .before .before .before .before .before .before .before .before .before .before .before .before .before .before .args .total) (now (c .before .before .before .before .before .before .before .before .before .before .before .before .before .before .before .args .assignment)) (now (c .before .before .before .before .before .before .before .before .before .before .before .before .before .before .before .args .levels)) (c .before .before .before .before .before .before .before .before .if1 .left) (c .before .before .before .before .before .before .if2 .left) (omega (arith, c .before .before .before .before .before .if3 .left)) (c .before .before .before .read-form .ensures .0) (c .enum-told .given .1)
 
 same-length : tie.Need-same-length
 same-length c = search needs
@@ -57,7 +57,7 @@ same-length-2 : tie.Need-same-length-2
 same-length-2 c = search needs
 
 returns-6 : tie.Need-returns-6
-returns-6 c = form-model (told (c .before .before .before .before .before .before .before .before .before .before .before .before .before .before .before .before .before .before .before .before .before .before .before .before .pre) (c .before .before .before .before .before .before .before .before .before .before .before .before .before .before .before .before .before .before .before .totals .ensures)) (now (c .before .before .before .before .before .before .before .before .before .before .before .before .before .before .before .before .before .before .before .before .before .before .before .before .args .answer)) (c .before .before .before .before .before .before .before .before .before .before .before .before .before .before .before .before .before .before .before .before .before .before .before .before .args .total) (now (c .before .before .before .before .before .before .before .before .before .before .before .before .before .before .before .before .before .before .before .before .before .before .before .before .args .assignment)) (now (c .before .before .before .before .before .before .before .before .before .before .before .before .before .before .before .before .before .before .before .before .before .before .before .before .args .levels)) (c .before .before .before .before .before .before .before .before .before .before .before .before .before .before .before .before .before .if1 .left) (c .before .before .before .before .before .before .before .before .before .before .before .before .before .before .before .if2 .left) (c .before .before .before .before .before .before .before .before .before .before .before .before .before .before .if3 .left) (c .before .before .before .before .before .before .before .before .before .before .before .before .read-form .ensures .0) (c .before .before .before .before .before .before .before .before .before .f2 .given .1) 9890 (vars-few (told (c .before .before .before .before .before .before .before .before .before .before .before .before .before .before .before .before .before .before .before .before .before .before .before .before .pre) (c .before .before .before .before .before .before .before .before .before .before .before .before .before .before .before .before .before .before .before .totals .ensures))) (c .before .before .before .before .before .before .before .before .before .before .before .before .read-form .ensures .1) (c .before .before .before .before .before .before .before .before .before .before .before .before .read-form .ensures .2) (c .before .before .before .before .before .before .before .before .before .before .before .before .read-form .ensures .3) (c .before .before .before .before .assigned .ensures)
+returns-6 c = form-model (told (c .before .before .before .before .before .before .before .before .before .before .before .before .before .before .before .before .before .before .before .before .before .before .before .before .pre) (c .before .before .before .before .before .before .before .before .before .before .before .before .before .before .before .before .before .before .before .totals .ensures)) (now (c .before .before .before .before .before .before .before .before .before .before .before .before .before .before .before .before .before .before .before .before .before .before .before .before .args .answer)) (c .before .before .before .before .before .before .before .before .before .before .before .before .before .before .before .before .before .before .before .before .before .before .before .before .args .total) (now (c .before .before .before .before .before .before .before .before .before .before .before .before .before .before .before .before .before .before .before .before .before .before .before .before .args .assignment)) (now (c .before .before .before .before .before .before .before .before .before .before .before .before .before .before .before .before .before .before .before .before .before .before .before .before .args .levels)) (c .before .before .before .before .before .before .before .before .before .before .before .before .before .before .before .before .before .if1 .left) (c .before .before .before .before .before .before .before .before .before .before .before .before .before .before .before .if2 .left) (omega (arith, c .before .before .before .before .before .before .before .before .before .before .before .before .before .before .if3 .left)) (c .before .before .before .before .before .before .before .before .before .before .before .before .read-form .ensures .0) (c .before .before .before .before .before .before .before .before .before .f2 .given .1) 9890 (vars-few (told (c .before .before .before .before .before .before .before .before .before .before .before .before .before .before .before .before .before .before .before .before .before .before .before .before .pre) (c .before .before .before .before .before .before .before .before .before .before .before .before .before .before .before .before .before .before .before .totals .ensures))) (c .before .before .before .before .before .before .before .before .before .before .before .before .read-form .ensures .1) (c .before .before .before .before .before .before .before .before .before .before .before .before .read-form .ensures .2) (c .before .before .before .before .before .before .before .before .before .before .before .before .read-form .ensures .3) (c .before .before .before .before .assigned .ensures)
 
 pub check-in-spec : {M : Type 1} → statement M
 check-in-spec =

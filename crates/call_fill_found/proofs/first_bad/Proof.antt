@@ -23,7 +23,7 @@ add-result : tie.Need-add-result Inv-loop μ-loop
 add-result c = search needs
 
 returns : tie.Need-returns Inv-loop μ-loop
-returns c = first-here (now (c .before .before .before .before .args .set)) (c .before .before .before .loop .i) (c .before .before .before .loop .inv .1) (c .before .before .loop-test .taken) (c .if1 .taken)
+returns c = first-here (now (c .before .before .before .before .args .set)) (c .before .before .before .loop .i) (c .before .before .before .loop .inv .1) (c .before .before .loop-test .taken) (omega (arith, c .if1 .taken))
 
 add-i : tie.Need-add-i Inv-loop μ-loop
 add-i c = search needs
@@ -32,7 +32,7 @@ loop-less : tie.Need-loop-less Inv-loop μ-loop
 loop-less c = search needs
 
 loop-again : tie.Need-loop-again Inv-loop μ-loop
-loop-again c = (omega (arith, c .before .before .loop-test .taken), none-more (now (c .before .before .before .before .args .set)) (c .before .before .before .loop .i) (c .before .before .before .loop .inv .1) (c .if1 .left))
+loop-again c = (omega (arith, c .before .before .loop-test .taken), none-more (now (c .before .before .before .before .args .set)) (c .before .before .before .loop .i) (c .before .before .before .loop .inv .1) (omega (arith, c .if1 .left)))
 
 returns-2 : tie.Need-returns-2 Inv-loop μ-loop
 returns-2 c = first-nowhere (now (c .before .before .args .set)) (c .before .loop .i) (c .before .loop .inv .1) (c .loop-test .left)

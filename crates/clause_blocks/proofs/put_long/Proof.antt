@@ -1,5 +1,5 @@
 use Rattle.clause_blocks.specs.Texts.{lowerText, longText}
-use Rattle.clause_blocks.specs.Numerals.{held}
+use Rattle.clause_numerals.specs.Numerals.{held}
 use Rattle.digits.proofs.Wrote.{room-front, wrote-after, after-start, after-room, after-sum, after-kept}
 use Rattle.digits.specs.Bytes.{lineText}
 use Rattle.clause_literals.specs.Sizes.{sizesOf}

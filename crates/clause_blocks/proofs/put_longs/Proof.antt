@@ -1,7 +1,7 @@
 use native.Mathlib.Omega.{arith}
 use Rattle.clause_blocks.proofs.Opposites.{longs-as}
 use Rattle.clause_blocks.specs.Texts.{longText}
-use Rattle.clause_blocks.specs.Numerals.{held}
+use Rattle.clause_numerals.specs.Numerals.{held}
 use Rattle.digits.proofs.Wrote.{room-as, room-front, wrote-as, wrote-after, after-start, after-room, after-sum, after-kept}
 use Rattle.clause_literals.specs.Sizes.{sizesOf}
 use borrow.Author.Needs.{needs}

@@ -1,5 +1,5 @@
 use borrow.Author.Needs.{needs}
-use Rattle.clause_blocks.proofs.Numerals.{lower-word}
+use Rattle.clause_numerals.proofs.Numerals.{lower-word}
 use Rattle.clause_blocks.specs.Texts.{lowerWord, lowerText}
 use Rattle.digits.proofs.Wrote.{wrote-none, wrote-row, row-start, row-room, row-sum, rows-whole, rows-kept}
 use Rattle.digits.specs.Bytes.{Wrote}

@@ -1,6 +1,6 @@
 use Rattle.clause_blocks.proofs.NextBlocks.{next-short, number-short, block-is}
 use Rattle.clause_blocks.specs.Texts.{pairsText, longsText}
-use Rattle.clause_blocks.specs.Numerals.{held}
+use Rattle.clause_numerals.specs.Numerals.{held}
 use Rattle.digits.proofs.Wrote.{room-as, room-front, wrote-as, wrote-after, after-start, after-room, after-sum, after-kept}
 use Rattle.clause_literals.specs.Sizes.{sizesOf}
 use Rattle.encoding.specs.Literal.{var}

@@ -1,5 +1,5 @@
 use Rattle.clause_blocks.proofs.Opposites.{pair-as}
-use Rattle.clause_blocks.specs.Numerals.{held}
+use Rattle.clause_numerals.specs.Numerals.{held}
 use Rattle.digits.proofs.Wrote.{room-as, room-front, wrote-as, wrote-after, after-start, after-room, after-sum, after-kept}
 use Rattle.digits.specs.Bytes.{lineText}
 use mathlib.Core.List.{[], _∷_}

@@ -1,6 +1,6 @@
 use borrow.Author.Needs.{needs}
 use Rattle.clause_blocks.specs.Texts.{pairText, pairAt, pairsText}
-use Rattle.clause_blocks.specs.Numerals.{held}
+use Rattle.clause_numerals.specs.Numerals.{held}
 use Rattle.digits.proofs.Wrote.{wrote-none, wrote-row, row-start, row-room, row-sum, rows-whole, rows-kept}
 use Rattle.digits.specs.Bytes.{Wrote}
 use Rattle.clause_literals.specs.Sizes.{sizesOf}

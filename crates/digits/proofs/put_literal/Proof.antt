@@ -1,4 +1,4 @@
-use Rattle.digits.proofs.Writing.{word-positive, word-negative, lead-room, lead-start, lead-tail, lead-kept, lead-put}
+use Rattle.digits.proofs.Writing.{word-positive, word-negative, lead-room, any-start, any-tail, any-put, any-kept}
 use Rattle.digits.proofs.Wrote.{room-as, wrote-as}
 use Rattle.digits.proofs.Lengths.{decimal-ten}
 use Rattle.text.specs.Decimal.{decimal}
@@ -10,49 +10,68 @@ use native.Mathlib.Omega.{arith}
 use borrow.Author.Needs.{needs}
 use Rattle.digits.proofs.put_literal.Statement.{statement}
 use Rattle.digits.proofs.put_literal.Tie as tie
+use Rattle.digits.proofs.put_literal.Reads as reads
+use Rattle.digits.proofs.put_literal.Lts as lts
+use Rattle.clause_literals.proofs.is_negative.Reads as is-negative-reads
+use Rattle.clause_literals.proofs.magnitude.Reads as magnitude-reads
+use Rattle.digits.proofs.put_number.Reads as put-number-reads
 
+-- src/lib.rt:86:13
 magnitude-requires : tie.Need-magnitude-requires
 magnitude-requires c κs = search needs
 
+-- src/lib.rt:86:13
 cast-n : tie.Need-cast-n
 cast-n c = search needs
 
+-- src/lib.rt:87:8
 is-negative-requires : tie.Need-is-negative-requires
 is-negative-requires c κs = search needs
 
+-- src/lib.rt:88:9
 slice-write-buf : tie.Need-slice-write-buf
 slice-write-buf c = lead-room (c .before .before .before .before .args .buf .now) (word-negative (toZ-ofZ (c .before .before .before .before .fits .x)) (c .before .is-negative .ensures) (c .if1 .taken) (c .before .before .magnitude .ensures)) (c .before .before .before .before .pre .1)
 
+-- src/lib.rt:89:38
 sub-put-number : tie.Need-sub-put-number
-sub-put-number c = lead-start (c .before .before .before .before .args .buf .now) (word-negative (toZ-ofZ (c .before .before .before .before .fits .x)) (c .before .is-negative .ensures) (c .if1 .taken) (c .before .before .magnitude .ensures)) (c .before .before .before .before .pre .1)
+sub-put-number c = any-start (c .before .before .before .before .args .buf .now) (word-negative (toZ-ofZ (c .before .before .before .before .fits .x)) (c .before .is-negative .ensures) (c .if1 .taken) (c .before .before .magnitude .ensures)) (c .before .before .before .before .pre .1) _
 
+-- src/lib.rt:89:38
 part-put-number-start : tie.Need-part-put-number-start
-part-put-number-start c = lead-start (c .before .before .before .before .args .buf .now) (word-negative (toZ-ofZ (c .before .before .before .before .fits .x)) (c .before .is-negative .ensures) (c .if1 .taken) (c .before .before .magnitude .ensures)) (c .before .before .before .before .pre .1)
+part-put-number-start c = any-start (c .before .before .before .before .args .buf .now) (word-negative (toZ-ofZ (c .before .before .before .before .fits .x)) (c .before .is-negative .ensures) (c .if1 .taken) (c .before .before .magnitude .ensures)) (c .before .before .before .before .pre .1) _
 
+-- src/lib.rt:89:38
 part-put-number-end : tie.Need-part-put-number-end
 part-put-number-end c = search needs
 
+-- src/lib.rt:89:20
 put-number-requires : tie.Need-put-number-requires
-put-number-requires c κs = lead-tail (c .before .before .before .before .before .args .buf .now) (word-negative (toZ-ofZ (c .before .before .before .before .before .fits .x)) (c .before .before .is-negative .ensures) (c .before .if1 .taken) (c .before .before .before .magnitude .ensures)) (c .before .before .before .before .before .pre .1)
+put-number-requires c κs = any-tail (c .before .before .before .before .before .args .buf .now) (word-negative (toZ-ofZ (c .before .before .before .before .before .fits .x)) (c .before .before .is-negative .ensures) (c .before .if1 .taken) (c .before .before .before .magnitude .ensures)) (c .before .before .before .before .before .pre .1) _
 
+-- src/lib.rt:89:16
 add-result : tie.Need-add-result
 add-result c =
     omega (arith, c .before .before .put-number .ensures .count, length-append (decimal (c .before .before .before .before .before .before .magnitude .result)) (32 ∷ []), decimal-ten (c .before .before .before .before .before .before .magnitude .result) (omega (arith, c .before .before .before .before .before .before .magnitude .ok)))
 
+-- src/lib.rt:89:9
 same-length : tie.Need-same-length
 same-length c =
-    lead-kept (c .before .before .before .before .before .before .before .before .args .buf .now) (word-negative (toZ-ofZ (c .before .before .before .before .before .before .before .before .fits .x)) (c .before .before .before .before .before .is-negative .ensures) (c .before .before .before .before .if1 .taken) (c .before .before .before .before .before .before .magnitude .ensures)) (c .before .before .before .before .before .before .before .before .pre .1) (c .before .before .put-number .ensures)
+    any-kept (c .before .before .before .before .before .before .before .before .args .buf .now) (word-negative (toZ-ofZ (c .before .before .before .before .before .before .before .before .fits .x)) (c .before .before .before .before .before .is-negative .ensures) (c .before .before .before .before .if1 .taken) (c .before .before .before .before .before .before .magnitude .ensures)) (c .before .before .before .before .before .before .before .before .pre .1) _ (c .before .before .put-number .ensures)
 
+-- src/lib.rt:89:9
 returns : tie.Need-returns
 returns c =
-    lead-put (c .before .before .before .before .before .before .before .before .args .buf .now) (word-negative (toZ-ofZ (c .before .before .before .before .before .before .before .before .fits .x)) (c .before .before .before .before .before .is-negative .ensures) (c .before .before .before .before .if1 .taken) (c .before .before .before .before .before .before .magnitude .ensures)) (c .before .before .before .before .before .before .before .before .pre .1) (c .before .before .put-number .ensures)
+    any-put (c .before .before .before .before .before .before .before .before .args .buf .now) (word-negative (toZ-ofZ (c .before .before .before .before .before .before .before .before .fits .x)) (c .before .before .before .before .before .is-negative .ensures) (c .before .before .before .before .if1 .taken) (c .before .before .before .before .before .before .magnitude .ensures)) (c .before .before .before .before .before .before .before .before .pre .1) _ (c .before .before .put-number .ensures) (omega arith)
 
+-- src/lib.rt:91:5
 put-number-requires-2 : tie.Need-put-number-requires-2
 put-number-requires-2 c κs = room-as (sym (word-positive (toZ-ofZ (c .before .before .before .before .before .fits .x)) (c .before .before .is-negative .ensures) (c .before .if1 .left) (c .before .before .before .magnitude .ensures))) (c .before .before .before .before .before .pre .1)
 
+-- src/lib.rt:82:1
 same-length-2 : tie.Need-same-length-2
 same-length-2 c = search needs
 
+-- src/lib.rt:82:1
 returns-2 : tie.Need-returns-2
 returns-2 c = wrote-as (sym (word-positive (toZ-ofZ (c .before .before .before .before .before .before .before .before .fits .x)) (c .before .before .before .before .before .is-negative .ensures) (c .before .before .before .before .if1 .left) (c .before .before .before .before .before .before .magnitude .ensures))) (c .before .before .put-number2 .ensures)
 

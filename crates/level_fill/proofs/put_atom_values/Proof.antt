@@ -1,12 +1,12 @@
 use borrow.Author.Needs.{needs}
 use Rattle.level_fill.proofs.Families.{atom-row}
-use Rattle.level_fill.specs.Values.{truthBytes}
+use Rattle.level_bits.specs.Bits.{truthBytes}
 use Rattle.level_lists.specs.Bytes.{setIn}
 use native.Mathlib.Omega.{arith}
 use mathlib.Core.Path.{refl}
 use denote.Ref.{now}
 use Prim.Native.Nat.{_-_, _≤_}
-use Rattle.level_fill.proofs.Writes.{put-room, put-kept, put-next, put-all}
+use Rattle.level_bits.proofs.Writes.{put-room, put-kept, put-next, put-all}
 use Rattle.digits.proofs.Wrote.{wrote-none}
 use Rattle.digits.specs.Bytes.{Wrote}
 use Rattle.level_fill.proofs.put_atom_values.Statement.{statement}

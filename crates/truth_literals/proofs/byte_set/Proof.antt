@@ -6,15 +6,15 @@ use Rattle.truth_literals.proofs.byte_set.Tie as tie
 use Rattle.truth_literals.proofs.byte_set.Reads as reads
 use Rattle.truth_literals.proofs.byte_set.Lts as lts
 
--- src/lib.rt:18:16
+-- src/lib.rt:21:16
 sub-result : tie.Need-sub-result
 sub-result c = search needs
 
--- src/lib.rt:18:5
+-- src/lib.rt:21:5
 shared-slice-read-result : tie.Need-shared-slice-read-result
 shared-slice-read-result c = search needs
 
--- src/lib.rt:14:1
+-- src/lib.rt:17:1
 returns : tie.Need-returns
 returns c = value-is (now (c .before .args .assignment)) (c .before .args .v)
 

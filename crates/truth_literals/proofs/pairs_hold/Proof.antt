@@ -9,19 +9,19 @@ use Rattle.truth_literals.proofs.pairs_hold.Reads as reads
 use Rattle.truth_literals.proofs.pairs_hold.Lts as lts
 use Rattle.truth_literals.proofs.three_hold.Reads as three-hold-reads
 
--- src/lib.rt:78:5
+-- src/lib.rt:97:5
 three-hold-requires : tie.Need-three-hold-requires
 three-hold-requires c κs = search needs
 
--- src/lib.rt:79:11
+-- src/lib.rt:98:11
 three-hold-requires-2 : tie.Need-three-hold-requires-2
 three-hold-requires-2 c κs = search needs
 
--- src/lib.rt:80:11
+-- src/lib.rt:99:11
 three-hold-requires-3 : tie.Need-three-hold-requires-3
 three-hold-requires-3 c κs = search needs
 
--- src/lib.rt:74:1
+-- src/lib.rt:93:1
 returns : tie.Need-returns
 returns c = pairs-read (now (c .before .before .before .before .args .assignment)) (toZ-ofZ (c .before .before .before .before .fits .z)) (toZ-ofZ (c .before .before .before .before .fits .x)) (toZ-ofZ (c .before .before .before .before .fits .y)) (toZ-ofZ (c .before .before .before .before .fits .g)) (c .before .before .three-hold .ensures) (c .before .three-hold2 .ensures) (c .three-hold3 .ensures)
 

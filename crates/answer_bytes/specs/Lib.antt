@@ -1,0 +1,2 @@
+-- Bytes: the bytes of an assignment
+pub mod Bytes

@@ -1,0 +1,2 @@
+-- BitTexts: the lines of a chain's bit
+pub mod BitTexts

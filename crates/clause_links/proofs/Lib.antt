@@ -1,0 +1,2 @@
+-- Linking: the loop that links the rules, from the last to the first
+pub mod Linking

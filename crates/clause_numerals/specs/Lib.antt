@@ -1,0 +1,2 @@
+-- Numerals: literals with the digits of their variables
+pub mod Numerals

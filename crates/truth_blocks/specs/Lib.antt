@@ -1,2 +1,0 @@
--- Blocks: truth of whole blocks of groups 3 to 6
-pub mod Blocks
