@@ -13,7 +13,7 @@ mod texts;
 #[path = "../../benches/compare/tuned/mod.rs"]
 mod tuned;
 
-use models::{bounds, least};
+use models::{bounds, least, literals};
 use plain::{read_program, Program};
 use quadrensolo::MAX_LINE;
 use random::Random;
@@ -159,6 +159,40 @@ fn check() {
     });
     assert_ne!(tally.assumed, 0);
     tally.end((1..=8).chain(10..=14).chain([16]));
+}
+
+/// The values of a model, or all false where none was found, with one variable flipped: each of up to 2,000, one after the other. Which clause is false first?
+#[test]
+fn false_clauses() {
+    let mut tally = Tally::new("false clauses");
+    cases(&mut tally, 60, |random, tally| {
+        let text = texts::sound(random);
+        let (variables, atoms, set) = proposed(random, &text);
+        let (mut values, mut levels) = (vec![0; variables], vec![0; atoms]);
+        let _ = plain::fill_out(&text, &set, &mut values, &mut levels);
+        let mut checked = |values: &[u8]| {
+            let answer = format!("s SATISFIABLE\nv {} 0\n", literals(values).join(" "));
+            let inputs: [&[u8]; 2] = [&text, answer.as_bytes()];
+            tally.compare(
+                random,
+                [variables, atoms],
+                &inputs,
+                &[],
+                |side, [assignment, levels]| {
+                    (side.check)(&text, answer.as_bytes(), assignment, levels)
+                },
+            );
+        };
+        if variables > 0 {
+            checked(&values);
+        }
+        for v in 0..variables.min(2_000) {
+            values[v] ^= 1;
+            checked(&values);
+            values[v] ^= 1;
+        }
+    });
+    tally.end([16]);
 }
 
 #[test]
