@@ -7,12 +7,12 @@
 --   quickOf m u           the literal whose digits begin u, with its minus if m is 1 and its space
 --   quickAt t p           the literal that stands in t at p
 --   takes n t p b         it is of a variable up to n that has no value in b, and nine bytes of t are left
---   Gives t n p b q c     the literals of t from position p up to q are each of a variable up to n that has no value yet, and give the buffer b their values: c
---   Passes t n p b q c    these are all that `takes` allows
+--   Gives t n p b q c     each literal of t from position p up to q is one that `takes` allows, and they give the buffer b their values: c
+--   Passes t n p b q c    and the one at q is not: so q and c are fixed
 -- Assumes nothing.
 use Prim.Native.Nat.{ℕ, _+_, _-_, _≤_}
 use mathlib.Core.Path.{_≡_}
-use mathlib.Core.Bool.{Bool, false, not, _&&_, cond}
+use mathlib.Core.Bool.{Bool, true, false, not, _&&_, cond}
 use mathlib.Core.List.{List}
 use lib.Dec.{eqb, ltb, leb}
 use lib.ListN.{length, getD, set, drop}
@@ -51,10 +51,10 @@ takes n t p b = leb 9 (length t - p) && takesQuick n (quickAt t p) b
 
 pub data Gives (t : List ℕ) (n p : ℕ) (b : List ℕ) : (q : ℕ) (c : List ℕ) → Type 0 where
   none : Gives t n p b p b
-  plus : {q : ℕ} {c : List ℕ} (k first behind : ℕ) → Gives t n p b q c → nextLiteral t q ≡ Next.literal (var k) first behind → k ≤ n → getD c (k - 1) 0 ≡ 2
-      → Gives t n p b behind (set c (k - 1) 1)
-  minus : {q : ℕ} {c : List ℕ} (k first behind : ℕ) → Gives t n p b q c → nextLiteral t q ≡ Next.literal (− k) first behind → k ≤ n → getD c (k - 1) 0 ≡ 2
-      → Gives t n p b behind (set c (k - 1) 0)
+  plus : {q : ℕ} {c : List ℕ} (k first behind : ℕ) → Gives t n p b q c → takes n t q c ≡ true → nextLiteral t q ≡ Next.literal (var k) first behind → k ≤ n
+      → getD c (k - 1) 0 ≡ 2 → Gives t n p b behind (set c (k - 1) 1)
+  minus : {q : ℕ} {c : List ℕ} (k first behind : ℕ) → Gives t n p b q c → takes n t q c ≡ true → nextLiteral t q ≡ Next.literal (− k) first behind → k ≤ n
+      → getD c (k - 1) 0 ≡ 2 → Gives t n p b behind (set c (k - 1) 0)
 
 pub record Passes (t : List ℕ) (n p : ℕ) (b : List ℕ) (q : ℕ) (c : List ℕ) : Type 0 where
   pub each : Gives t n p b q c

@@ -59,8 +59,8 @@ module _ (t : List ℕ) (n p : ℕ) (b : List ℕ) where
 
   pub gives-keep : p ≤ length t → {q : ℕ} {c : List ℕ} → Gives t n p b q c → PassKeeps q c
   gives-keep h Gives.none = record { further = omega arith; within = h; form = λ k. refl; outcome = refl; bytes = refl }
-  gives-keep h (Gives.plus {q = q} {c = c} k f j g is a e) = one-keeps q c (gives-keep h g) (var k) f j is a e
-  gives-keep h (Gives.minus {q = q} {c = c} k f j g is a e) = one-keeps q c (gives-keep h g) (− k) f j is a e
+  gives-keep h (Gives.plus {q = q} {c = c} k f j g so is a e) = one-keeps q c (gives-keep h g) (var k) f j is a e
+  gives-keep h (Gives.minus {q = q} {c = c} k f j g so is a e) = one-keeps q c (gives-keep h g) (− k) f j is a e
 
   -- ---- after an answer
 

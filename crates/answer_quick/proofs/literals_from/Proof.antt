@@ -83,7 +83,7 @@ loop-less c = let w = quick-taken (now (c .before .before .before .before .befor
 -- src/lib.rt:129:5
 loop-again : tie.Need-loop-again Inv-loop μ-loop
 loop-again c = let w = quick-taken (now (c .before .before .before .before .before .before .before .before .before .before .before .before .before .before .args .answer)) (c .before .before .before .before .before .before .before .before .before .before .before .loop .p) (omega (arith, c .before .before .before .before .before .before .before .before .before .before .before .loop .inv .0, c .before .before .before .before .before .before .before .before .before .before .loop-test .taken)) _ (c .before .before .before .before .before .before .before .before .before .quick-at .ensures) (c .before .before .before .before .before .before .before .if1 .left) in
-    (omega (arith, w .most, c .before .before .before .before .before .before .before .before .before .before .before .loop .inv .0, c .before .before .before .before .before .before .before .before .before .before .loop-test .taken), length-set (c .before .before .before .before .before .before .before .before .before .before .before .loop .assignment) (c .before .before .before .before .before .before .before .before .before .quick-at .result .value - 1) (c .before .value-of .result) ∙ c .before .before .before .before .before .before .before .before .before .before .before .loop .inv .1, gives-more _ _ _ _ _ _ (c .before .before .before .before .before .before .before .before .before .before .before .loop .inv .2) _ w (c .before .before .before .before .before .if2 .left) (omega (arith, c .before .before .if3 .left)) _ (c .before .value-of .ensures))
+    (omega (arith, w .most, c .before .before .before .before .before .before .before .before .before .before .before .loop .inv .0, c .before .before .before .before .before .before .before .before .before .before .loop-test .taken), length-set (c .before .before .before .before .before .before .before .before .before .before .before .loop .assignment) (c .before .before .before .before .before .before .before .before .before .quick-at .result .value - 1) (c .before .value-of .result) ∙ c .before .before .before .before .before .before .before .before .before .before .before .loop .inv .1, gives-more _ _ _ _ _ _ (c .before .before .before .before .before .before .before .before .before .before .before .loop .inv .2) _ w (c .before .before .before .before .before .before .before .before .before .before .loop-test .taken) (c .before .before .before .before .before .before .before .before .before .quick-at .ensures) (c .before .before .before .before .before .before .before .if1 .left) (c .before .before .before .before .before .if2 .left) (omega (arith, c .before .before .if3 .left)) _ (c .before .value-of .ensures))
 
 -- src/lib.rt:124:1
 same-length-4 : tie.Need-same-length-4 Inv-loop μ-loop
