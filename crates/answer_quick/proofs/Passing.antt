@@ -15,7 +15,7 @@ use Rattle.encoding.specs.Literal.{Literal}
 use Literal.{var, −_}
 use Rattle.answer_form.specs.Pieces.{Next, nextLiteral}
 use Rattle.answer_quick.specs.declared.Quick.{Quick}
-use Rattle.answer_quick.specs.Quick.{valueOf, quickAt, takesQuick, takes, Gives, Passes}
+use Rattle.answer_quick.specs.Quick.{signValue, quickAt, takesQuick, takes, Gives, Passes}
 use Rattle.answer_quick.proofs.Reading.{Taken}
 
 taken : (t : List ℕ) (n q : ℕ) (c : List ℕ) (x : Quick) → 9 ≤ length t - q → x ≡ quickAt t q → (x .value ≡ 0 → ⊥) → x .value ≤ n → getD c (x .value - 1) 0 ≡ 2
@@ -25,16 +25,16 @@ taken t n q c x l i k h e = rw (le-leb 9 (length t - q) l, ← i, ne-eqb (x .val
 
 module _ (t : List ℕ) (n p : ℕ) (b : List ℕ) (q : ℕ) (c : List ℕ) (g : Gives t n p b q c) where
   pub gives-more : (x : Quick) → Taken t q x → 9 ≤ length t - q → x ≡ quickAt t q → (x .value ≡ 0 → ⊥) → x .value ≤ n → getD c (x .value - 1) 0 ≡ 2
-      → (y : ℕ) → y ≡ valueOf (x .minus) → Gives t n p b (q + x .size) (set c (x .value - 1) y)
-  unfolding valueOf
+      → (y : ℕ) → y ≡ signValue (x .minus) → Gives t n p b (q + x .size) (set c (x .value - 1) y)
+  unfolding signValue
   gives-more x w l i k h e y f = ⊎-elim plain negated (w .next)
     where
       so : takes n t q c ≡ true
       so = taken t n q c x l i k h e
 
-      by : (m v : ℕ) → x .minus ≡ m → valueOf m ≡ v → Gives t n p b (q + x .size) (set c (x .value - 1) v)
+      by : (m v : ℕ) → x .minus ≡ m → signValue m ≡ v → Gives t n p b (q + x .size) (set c (x .value - 1) v)
           → Gives t n p b (q + x .size) (set c (x .value - 1) y)
-      by m v i j = subst (λ (u : ℕ). Gives t n p b (q + x .size) (set c (x .value - 1) u)) (sym (f ∙ ap valueOf i ∙ j))
+      by m v i j = subst (λ (u : ℕ). Gives t n p b (q + x .size) (set c (x .value - 1) u)) (sym (f ∙ ap signValue i ∙ j))
 
       plain : (x .minus ≡ 0) × (nextLiteral t q ≡ Next.literal (var (x .value)) (q + 1) (q + x .size)) → Gives t n p b (q + x .size) (set c (x .value - 1) y)
       plain z = by 0 1 (z .0) refl (Gives.plus (x .value) (q + 1) (q + x .size) g so (z .1) h e)

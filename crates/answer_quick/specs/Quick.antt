@@ -2,7 +2,7 @@
 -- and a byte that is no digit. The byte of variable v stands at v - 1: 1 or 0 is its value, 2 says that it has none yet.
 --   firstTest b           b is a digit from 1 to 9
 --   minusOf b             1 for the byte of a minus, else 0
---   valueOf m             the value that a literal gives its variable; m is 1 if it has a minus, else 0
+--   signValue m             the value that a literal gives its variable; m is 1 if it has a minus, else 0
 --   noQuick               what is answered where no literal stands in the common form
 --   quickOf m u           the literal whose digits begin u, with its minus if m is 1 and its space
 --   quickAt t p           the literal that stands in t at p
@@ -27,8 +27,8 @@ firstTest b = cond (ltb b 49) false (ltb b 58)
 unfoldable pub minusOf : ℕ → ℕ
 minusOf b = cond (eqb b 45) 1 0
 
-unfoldable pub valueOf : ℕ → ℕ
-valueOf m = cond (eqb m 0) 1 0
+unfoldable pub signValue : ℕ → ℕ
+signValue m = cond (eqb m 0) 1 0
 
 abbrev pub noQuick : Quick
 noQuick = record { value = 0; minus = 0; size = 0 }

@@ -5,7 +5,7 @@ ghost use Prim.Native.Nat.{ℕ, _+_, _*_, _-_, _≤_};
 ghost use mathlib.Core.Path.{_≡_};
 ghost use mathlib.Core.List.{List, _∷_};
 ghost use lib.ListN.{length};
-ghost use Rattle.answer_quick.specs.Quick.{firstTest, minusOf, valueOf, quickOf, quickAt, Passes};
+ghost use Rattle.answer_quick.specs.Quick.{firstTest, minusOf, signValue, quickOf, quickAt, Passes};
 
 // A literal with its space: its variable, or 0 where none stands in the common form; 1 for a minus, else 0; and how many bytes it has.
 pub struct Quick {
@@ -118,7 +118,7 @@ fn quick_at(answer: &[u8], at: usize) -> Quick
 
 // The value that a literal gives its variable; m is 1 if it has a minus, else 0.
 fn value_of(m: usize) -> u8
-    ensures { λ r. ⌜ r ≡ valueOf m ⌝ }
+    ensures { λ r. ⌜ r ≡ signValue m ⌝ }
 {
     if m == 0 {
         return 1;

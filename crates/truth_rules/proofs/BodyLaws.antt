@@ -19,7 +19,7 @@ use Rattle.encoding.specs.Variables.{Sizes, bodyVar}
 use Rattle.clause_walk.specs.Walk.{signed, two, bodyLiteral, bodyOpposite, slots1, slot1}
 use Rattle.truth_literals.specs.Clauses.{Has, twoTrue}
 use Rattle.truth_literals.proofs.Gathered.{all-more, or-more, all-done, or-done, any-after}
-use Rattle.truth_rules.specs.Rules.{AtomsIn, bodyClause, bodyFails, bodyTrue}
+use Rattle.truth_rules.specs.Rules.{AtomsIn, bodyClause, bodyFails, bodyItemTrue}
 
 -- ---- the clauses of a body, as code goes through them
 
@@ -38,8 +38,8 @@ module _ (A : Assignment) (bs : List ℕ) (p j : ℕ) {v : ℕ} (q : v ≡ getD 
       (u ∙ ap₂ (λ (d : Bool) (v : ℕ). literalTrue A (signed d v)) (sym (leb·suc-suc p j)) q)
 
 pub body-all : (A : Assignment) (t : ℕ) (bs : List ℕ) (p : ℕ) {j : ℕ} → j ≤ length bs → length bs ≤ j → {y l x : Bool} → y ≡ allTo j (bodyClause A t bs p)
-    → l ≡ literalTrue A (var t) → x ≡ (l || anyTo j (bodyFails A bs p)) → (y && x) ≡ bodyTrue A t bs p
-unfolding bodyTrue
+    → l ≡ literalTrue A (var t) → x ≡ (l || anyTo j (bodyFails A bs p)) → (y && x) ≡ bodyItemTrue A t bs p
+unfolding bodyItemTrue
 body-all A t bs p {j} h n e u f = ap₂ _&&_ (all-done (bodyClause A t bs p) j e h n) (or-done (bodyFails A bs p) j f u h n)
 
 -- ---- all clauses, by their slots
@@ -68,6 +68,6 @@ module _ (A : Assignment) (S : Sizes) (r : ℕ) (bs : List ℕ) (p : ℕ) where
       ap (λ (d : Bool). clause-by d (suc (length bs))) (lt-leb (suc (length bs)) (length bs) (le-refl (suc (length bs))))
       ∙ any-after suc (λ i. refl) long-slot (bodyFails A bs p) (length bs) (λ j h. opposite j)
 
-  pub body-is : bodyTrue A (bodyVar S r) bs p ≡ allTo (suc (length bs)) clause
-  unfolding bodyTrue
+  pub body-is : bodyItemTrue A (bodyVar S r) bs p ≡ allTo (suc (length bs)) clause
+  unfolding bodyItemTrue
   body-is = sym (ap₂ _&&_ (allTo-ext (length bs) clause (bodyClause A (bodyVar S r) bs p) atom-clause) long-clause)

@@ -31,7 +31,7 @@ use Rattle.truth_literals.specs.Clauses.{Has}
 use Rattle.truth_literals.specs.Items.{itemTrue}
 use Rattle.truth_literals.proofs.Items.{block-of, block-at, item-one}
 use Rattle.truth_literals.proofs.Variables.{count-grows, atom-in, body-in}
-use Rattle.truth_rules.specs.Rules.{AtomsIn, bodyTrue, ruleTrue}
+use Rattle.truth_rules.specs.Rules.{AtomsIn, bodyItemTrue, ruleTrue}
 use Rattle.truth_rules.proofs.BodyLaws.{body-is}
 use Rattle.truth_rules.proofs.RuleLaws.{rule-is}
 
@@ -43,7 +43,7 @@ module _ (G : Code) (r : ℕ) (p : 0 < r) where
     unfolding blockCount groupOf
     body-at = block-at G 1 r (omega arith) (omega arith) p h 1 (omega arith) (le-refl 1)
 
-    pub body-of : (A : Assignment) → bodyTrue A (bodyVar (codeSizes G) r) (bodyOf G r) (positives G r) ≡ itemTrue G A 1 r
+    pub body-of : (A : Assignment) → bodyItemTrue A (bodyVar (codeSizes G) r) (bodyOf G r) (positives G r) ≡ itemTrue G A 1 r
     unfolding blockCount size slots slot groupOf
     body-of A =
         body-is A (codeSizes G) r (bodyOf G r) (positives G r)
@@ -101,10 +101,10 @@ module _ {G : Code} {t : Totals} {hs ss bs ks xs ys : List ℕ} (T : Tabled G t 
           var-is : v ≡ bodyVar (codeSizes G) a
           var-is = u ∙ ap (λ (S : Sizes). bodyVar S a) (sizes-are T)
 
-          pub body-item : (A : Assignment) {z : ℕ} → z ≡ c - b → bodyTrue A v us z ≡ itemTrue G A 1 a
+          pub body-item : (A : Assignment) {z : ℕ} → z ≡ c - b → bodyItemTrue A v us z ≡ itemTrue G A 1 a
           body-item A {z} s =
-              ap (λ (v : ℕ). bodyTrue A v us z) var-is
-              ∙ ap₂ (bodyTrue A (bodyVar (codeSizes G) a)) body-are (s ∙ ap₂ (λ (c b : ℕ). c - b) f e ∙ span1 T R in-rules)
+              ap (λ (v : ℕ). bodyItemTrue A v us z) var-is
+              ∙ ap₂ (bodyItemTrue A (bodyVar (codeSizes G) a)) body-are (s ∙ ap₂ (λ (c b : ℕ). c - b) f e ∙ span1 T R in-rules)
               ∙ body-of G a p h A
 
           pub body-asks : (vs : List ℕ) → t .vars ≤ length vs → (Has vs v) × (AtomsIn vs us)

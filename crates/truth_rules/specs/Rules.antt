@@ -1,6 +1,6 @@
 -- Truth of whole items of groups 1 and 6: the bodies of rules, and the rules.
 --   AtomsIn vs bs               each atom of bs has a byte in vs
---   bodyTrue A t bs p           group 1, a rule with the variable t of its body and the body atoms bs, the first p of them positive: every clause is true
+--   bodyItemTrue A t bs p           group 1, a rule with the variable t of its body and the body atoms bs, the first p of them positive: every clause is true
 --   foundsTrue A S r k b        group 6, rule r with b pairs after k others: the clauses of s(r) are true
 --   factTrue A S r h            its last clauses, where it has no pair and head h
 --   boundTrue A S r k b         its last clause, where it has pairs
@@ -29,8 +29,8 @@ bodyClause A t bs p y = twoTrue A (− t) (bodyLiteral bs p y)
 abbrev pub bodyFails : Assignment → List ℕ → ℕ → ℕ → Bool
 bodyFails A bs p y = literalTrue A (bodyOpposite bs p y)
 
-unfoldable pub bodyTrue : Assignment → ℕ → List ℕ → ℕ → Bool
-bodyTrue A t bs p = allTo (length bs) (bodyClause A t bs p) && (literalTrue A (var t) || anyTo (length bs) (bodyFails A bs p))
+unfoldable pub bodyItemTrue : Assignment → ℕ → List ℕ → ℕ → Bool
+bodyItemTrue A t bs p = allTo (length bs) (bodyClause A t bs p) && (literalTrue A (var t) || anyTo (length bs) (bodyFails A bs p))
 
 -- ---- group 6
 

@@ -19,7 +19,7 @@ ghost use Rattle.encoding.specs.Variables.{varCount};
 ghost use Rattle.clause_literals.specs.Sizes.{sizesOf, Bounded};
 ghost use Rattle.truth_literals.specs.Values.{valueIn};
 ghost use Rattle.truth_literals.specs.Clauses.{Has};
-ghost use Rattle.truth_rules.specs.Rules.{AtomsIn, bodyTrue, foundsTrue, factTrue, boundTrue, ruleTrue};
+ghost use Rattle.truth_rules.specs.Rules.{AtomsIn, bodyItemTrue, foundsTrue, factTrue, boundTrue, ruleTrue};
 
 // The variable of the body atom after j others.
 fn atom_after(atoms: &[u16], j: usize) -> Var
@@ -32,7 +32,7 @@ fn atom_after(atoms: &[u16], j: usize) -> Var
 // Group 1, a rule with the variable t of its body and the body atoms `atoms`, the first p of them positive: whether every clause is true.
 pub fn body_holds<'a>(t: Var, atoms: &'a [u16], p: usize, assignment: &'a [u8]) -> bool
     requires { ⌜ (Has (now assignment) (t .0)) × (AtomsIn (now assignment) (now atoms)) ⌝ }
-    ensures { λ r. ⌜ r ≡ bodyTrue (valueIn (now (assignment .entry))) (t .0) (now (atoms .entry)) p ⌝ }
+    ensures { λ r. ⌜ r ≡ bodyItemTrue (valueIn (now (assignment .entry))) (t .0) (now (atoms .entry)) p ⌝ }
 {
     let mut ok = true;
     let mut long = stands(true, t, assignment);
