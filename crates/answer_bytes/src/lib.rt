@@ -1,6 +1,8 @@
 // The bytes of an assignment, one for each variable (document 01, "Check and filling out"; rows 13 and 14): 1 or 0 is a value, 2 says that it has none yet.
 // They are filled, copied with the variables completed that have no value, counted, and given the value of a literal. A variable that has no value is read as
 // false (document 02, Q-3).
+#![tactic(auto)]
+
 ghost use Rattle.std.specs.Prelude.{◌^◌, ◌≤◌, ◌<◌, ◌≡◌, nat_abs, cond, ◌++◌, eqb, length, take, drop};
 ghost use Rattle.answer_bytes.specs.Bytes.{put_outcome, put_bytes, unset_count, completed_byte, completed, overwritten, number_value, assigned_for};
 
@@ -8,7 +10,7 @@ use clause_literals::{is_negative, magnitude};
 use numbers::Var;
 
 // Each literal is assigned; the first that is not is of a variable above V, or of one that has a value: the index of its first byte.
-#[derive(Drop)]
+#[derive(Clone, Copy)]
 pub enum Assigned {
     Done,
     Stray(usize),

@@ -17,7 +17,7 @@ use borrow.Author.Tests.{eqb-true, eqb-false, lt-ltb, ne_eqb}
 use Rattle.lists.specs.Lists.{all}
 use Rattle.lists.specs.Ascii.{ascii}
 use Rattle.lists.proofs.Bools.{and_in, and_left, and_right}
-use Rattle.encoding.specs.Literal.{Literal, literal_number, variable}
+use Rattle.encoding.specs.Literal.{Literal, literal_number}
 use Literal.{var, −◌}
 use Rattle.digits.specs.Bytes.{literal_text}
 use Rattle.text.specs.Decimal.{decimal}
@@ -123,7 +123,7 @@ noted_back P q r m b t f g a = go (eqb b 10) refl (moved q b (cond (eqb b 10) r 
     go true e a = record { note = []; rest = t; is = ap (λ (x : ℕ). x ∷ t) (eqb-true b 10 e); one_line_lem = refl; then = f a }
     go false e a =
         let n = g a in
-        record { note = b ∷ n.note; rest = n.rest; is = ap (λ (u : List ℕ). b ∷ u) n.is; one_line_lem = rw e n.one_line; then = n.then }
+        record { note = b ∷ n.note; rest = n.rest; is = ap (λ (u : List ℕ). b ∷ u) n.is; one_line_lem = rw e n.one_line_lem; then = n.then }
 
 after_back : (b : ℕ) (t : List ℕ) → (answer_accepts 41 t ≡ true → Noted After t) → answer_accepts 40 (b ∷ t) ≡ true → After (b ∷ t)
 after_back b t f a = go (eqb b 99) refl (moved 40 b _ t (step_after b) a)
@@ -135,7 +135,7 @@ after_back b t f a = go (eqb b 99) refl (moved 40 b _ t (step_after b) a)
         record {
           comments = n.note ∷ r.comments;
           is = ap₂ ◌∷◌ (eqb-true b 99 e) n.is ∙ ap (λ (u : List ℕ). 99 ∷ (n.note ++ (10 ∷ u))) r.is ∙ sym (comment_then n.note (comments_text r.comments));
-          one_line_lem = and_in n.one_line r.one_line;
+          one_line_lem = and_in n.one_line_lem r.one_line_lem;
         }
     go false e a = absurd (dead t a)
 
@@ -259,7 +259,7 @@ values_before t i = go i.rest i.is i.then
               ∙ sym (append_assoc (spaced_text vs ++ (10 ∷ [])) (lines_text d.lines) tail));
           lines_proper = and_in i.all_named d.lines_proper;
           last_named = d.last_named;
-          one_line_lem = d.one_line;
+          one_line_lem = d.one_line_lem;
         }
     go r e (LineEnd.zeroed {t = u} d) =
         record {
@@ -270,7 +270,7 @@ values_before t i = go i.rest i.is i.then
               ∙ sym (append_assoc (spaced_text vs) (32 ∷ 48 ∷ 10 ∷ []) (comments_text d.comments)));
           lines_proper = refl;
           last_named = i.all_named;
-          one_line_lem = d.one_line;
+          one_line_lem = d.one_line_lem;
         }
 
 comment_before : (t : List ℕ) → Noted Body t → Body (99 ∷ t)
@@ -283,9 +283,9 @@ comment_before t n =
       after = d.after;
       is = ap (λ (w : List ℕ). 99 ∷ w) n.is ∙ ap (λ (w : List ℕ). 99 ∷ (n.note ++ (10 ∷ w))) d.is ∙ sym (comment_then n.note (lines_text d.lines ++ tail))
           ∙ sym (append_assoc (comment_text n.note) (lines_text d.lines) tail);
-      lines_proper = and_in n.one_line d.lines_proper;
+      lines_proper = and_in n.one_line_lem d.lines_proper;
       last_named = d.last_named;
-      one_line_lem = d.one_line;
+      one_line_lem = d.one_line_lem;
     }
 
 body_back : (b : ℕ) (t : List ℕ) → (answer_accepts 34 t ≡ true → Noted Body t) → (answer_accepts 35 t ≡ true → InLine t) → answer_accepts 33 (b ∷ t) ≡ true → Body (b ∷ t)
@@ -303,7 +303,7 @@ unfolding proper answer_text
 satisfiable_form t d =
     record {
       answer = Answer.model [] d.lines d.last d.after;
-      is_proper = and_in d.lines_proper (and_in d.last_named d.one_line);
+      is_proper = and_in d.lines_proper (and_in d.last_named d.one_line_lem);
       its_text = ap (λ (u : List ℕ). satisfiable_text ++ u) d.is;
     }
 
@@ -322,14 +322,14 @@ comment_form t n = go n.then.answer n.then.is_proper n.then.its_text
     go (Answer.model before lines last after) p e =
         record {
           answer = Answer.model (n.note ∷ before) lines last after;
-          is_proper = and_in (and_in n.one_line (and_left (all one_line before) _ p)) (and_right (all one_line before) _ p);
+          is_proper = and_in (and_in n.one_line_lem (and_left (all one_line before) _ p)) (and_right (all one_line before) _ p);
           its_text = ap (λ (w : List ℕ). 99 ∷ w) start ∙ ap (λ (w : List ℕ). 99 ∷ (n.note ++ (10 ∷ w))) e ∙ sym (comment_then n.note _)
               ∙ sym (append_assoc (comment_text n.note) (comments_text before) _);
         }
     go (Answer.no_model before status rest) p e =
         record {
           answer = Answer.no_model (n.note ∷ before) status rest;
-          is_proper = and_in n.one_line p;
+          is_proper = and_in n.one_line_lem p;
           its_text = ap (λ (w : List ℕ). 99 ∷ w) start ∙ ap (λ (w : List ℕ). 99 ∷ (n.note ++ (10 ∷ w))) e ∙ sym (comment_then n.note _)
               ∙ sym (append_assoc (comment_text n.note) (comments_text before) _);
         }

@@ -1,12 +1,14 @@
 // Literals of a solver answer in their common form, read and assigned at once: a space, a minus or none, one to four digits of which the first is not 0, and a
 // byte that is no digit. What stands otherwise is left to the readers of the crates answer_words and answer_reader.
+#![tactic(auto)]
+
 ghost use Rattle.std.specs.Prelude.{ℕ, ◌+◌, ◌*◌, ◌-◌, ◌≤◌, ◌≡◌, List, ◌∷◌, length};
 ghost use Rattle.answer_quick.specs.Quick.{first_test, minus_of, sign_value, quick_of, quick_at, Passes};
 
 use reader_form::is_digit;
 
 // A literal with its space: its variable, or 0 where none stands in the common form; 1 for a minus, else 0; and how many bytes it has.
-#[derive(Drop)]
+#[derive(Clone, Copy)]
 pub struct Quick {
     pub value: usize,
     pub minus: usize,

@@ -1,5 +1,7 @@
 // A solver answer: its status, its literals one after the other, and what follows literal 0
 // (document 01, "Solver answer"). The definitions are those of the crate answer_form; states are those of its automaton.
+#![tactic(auto)]
+
 ghost use Rattle.std.specs.Prelude.{◌+◌, ◌<◌, max, ◌≡◌, drop};
 ghost use Rattle.answer_form.specs.Pieces.{status_of, minus_from, literal_from, next_literal, close_of};
 ghost use Rattle.answer_reader.specs.Results.{found_for, next_for, close_for, closed_form};
@@ -11,7 +13,7 @@ use answer_words::{
 use reader_form::is_digit;
 
 // Which status, and the index of the byte 10 that ends its line; or the spot where the answer leaves the form.
-#[derive(Drop)]
+#[derive(Clone, Copy)]
 pub enum Found {
     Satisfiable(usize),
     Other,
@@ -19,7 +21,7 @@ pub enum Found {
 }
 
 // A literal, capped, with the index of its first byte and the position after it; literal 0 and the index after it; or the spot.
-#[derive(Drop)]
+#[derive(Clone, Copy)]
 pub enum Next {
     Literal(i32, usize, usize),
     Last(usize),
@@ -27,14 +29,14 @@ pub enum Next {
 }
 
 // Whether only a line end and c lines follow literal 0; or the spot.
-#[derive(Drop)]
+#[derive(Clone, Copy)]
 pub enum Closed {
     Fine,
     Left(usize),
 }
 
 // An answer with the status SATISFIABLE, and the position at which its literals begin; one with another status; or the spot.
-#[derive(Drop)]
+#[derive(Clone, Copy)]
 pub enum Formed {
     Model(usize),
     NoModel,
@@ -151,7 +153,7 @@ fn next_literal(answer: &[u8], at: usize) -> Next
 // ---- the reader
 
 // A solver answer and a position in it.
-#[derive(Drop)]
+#[derive(Clone, Copy)]
 pub struct AnswerReader<'a> {
     pub answer: &'a [u8],
     pub position: usize,

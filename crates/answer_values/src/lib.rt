@@ -1,5 +1,7 @@
 // Reads a solver answer in one pass: decides its form and assigns its literals to a lent buffer, one byte for each variable (document 01, "Check and filling
 // out"; rows 11 to 14). A variable that no literal names is read as false (document 02, Q-3).
+#![tactic(auto)]
+
 ghost use Rattle.std.specs.Prelude.{◌^◌, ◌≤◌, ◌<◌, ◌≡◌, nat_abs, length};
 ghost use Rattle.answer_reader.specs.Results.{model_from, form_of};
 ghost use Rattle.answer_bytes.specs.Bytes.{put_outcome, put_bytes, unset_count, number_value, assigned_for};
@@ -11,7 +13,7 @@ use answer_quick::literals_from;
 use answer_reader::{Formed, Found, Next, close, closed_form, next_from, status};
 
 // The form of an answer, how its literals were assigned, and how many variables no literal names, 0 if the answer is refused.
-#[derive(Drop)]
+#[derive(Clone, Copy)]
 pub struct AnswerRead {
     pub form: Formed,
     pub outcome: Assigned,

@@ -1,5 +1,7 @@
 // What stands in a solver answer, piece by piece (document 01, "Solver answer"): c lines, fixed strings, spaces and numbers, read byte by byte.
 // The definitions are those of the crate answer_form; states are those of its automaton.
+#![tactic(auto)]
+
 ghost use Rattle.std.specs.Prelude.{◌+◌, ◌*◌, ◌-◌, ◌^◌, ◌≤◌, ◌<◌, min, ◌≡◌, length, drop};
 ghost use Rattle.encoding.specs.Literal.{literal_number, var, −◌};
 ghost use Rattle.answer_form.specs.Automaton.{seek_step, end_step};
@@ -125,7 +127,7 @@ pub fn with_digit(v: u32, b: u8) -> u32
 }
 
 // A number, capped, and the index after its digits.
-#[derive(Drop)]
+#[derive(Clone, Copy)]
 pub struct Number {
     pub value: u32,
     pub behind: usize,
@@ -186,7 +188,7 @@ fn seek_step(q: u8, b: u8) -> u8
 }
 
 // The index after the next space; or the spot.
-#[derive(Drop)]
+#[derive(Clone, Copy)]
 pub enum Space {
     Behind(usize),
     Left(usize),

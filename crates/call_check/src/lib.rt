@@ -1,4 +1,6 @@
 // The check of a solver answer against a program (document 01, "Check and filling out"; document 02, Q-3).
+#![tactic(auto)]
+
 ghost use Rattle.std.specs.Prelude.{◌≡◌, length};
 ghost use Rattle.clause_tables.specs.Tables.{Ready, code_in};
 ghost use Rattle.call_results.specs.Results.{called};

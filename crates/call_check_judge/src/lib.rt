@@ -1,4 +1,6 @@
 // The check of values that an answer gave: rows 13, 14 and 16, and what an accepted one writes (document 01, "Check and filling out").
+#![tactic(auto)]
+
 ghost use Rattle.std.specs.Prelude.{◌≤◌, ◌≡◌, length, take};
 ghost use Rattle.encoding.specs.Code.{variables_of};
 ghost use Rattle.clause_tables.specs.Tables.{Ready, code_in, atoms_in, vars_in};

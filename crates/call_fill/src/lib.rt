@@ -1,4 +1,6 @@
 // Filling out a proposed set of atoms (document 01, "Check and filling out").
+#![tactic(auto)]
+
 ghost use Rattle.std.specs.Prelude.{◌≡◌, length};
 ghost use Rattle.clause_tables.specs.Tables.{Ready, code_in};
 ghost use Rattle.call_results.specs.Results.{called};

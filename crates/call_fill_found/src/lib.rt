@@ -1,4 +1,6 @@
 // Filling out a set of the right form: row 18, and what an accepted one writes (document 01, "Check and filling out").
+#![tactic(auto)]
+
 ghost use Rattle.std.specs.Prelude.{◌≤◌, ◌≡◌, ◌++◌, length, drop};
 ghost use Rattle.lists.specs.Lists.{tab};
 ghost use Rattle.encoding.specs.Code.{level_of};

@@ -1,4 +1,6 @@
 // One line of the clause file, and a run of lines (document 01, "Clauses, in order").
+#![tactic(auto)]
+
 ghost use Rattle.std.specs.Prelude.{◌-◌, ◌≡◌, length};
 ghost use Rattle.clause_tables.specs.Tables.{Ready, code_in};
 ghost use Rattle.clause_runs.specs.Lines.{code_run_bytes};

@@ -1,4 +1,6 @@
 // The reply of a call for other languages, from its verdict.
+#![tactic(auto)]
+
 ghost use Rattle.std.specs.Prelude.{◌≡◌};
 ghost use Rattle.call_replies.specs.Replies.{accepted_reply, refused_reply, of_line, of_run, of_check, of_fill};
 
@@ -9,7 +11,7 @@ use refusals::{check_number, check_spot, fill_number, fill_spot, line_number, li
 
 // The row's number and the spot of a refusal, both 0 for acceptance; and the numbers that an accepted call gives, 0 where it gives none.
 #[repr(C)]
-#[derive(Drop)]
+#[derive(Clone, Copy)]
 pub struct Reply {
     pub number: u64,
     pub spot: u64,

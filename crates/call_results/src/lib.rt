@@ -1,4 +1,6 @@
 // The levels that an accepted assignment shows, and the two numbers that an accepted call returns (document 01, "Check and filling out").
+#![tactic(auto)]
+
 ghost use Rattle.std.specs.Prelude.{◌+◌, ◌*◌, ◌≤◌, ◌<◌, max, ◌≡◌, cond, ◌++◌, length, drop};
 ghost use Rattle.lists.specs.Lists.{tab, highest};
 ghost use Rattle.encoding.specs.Fill.{counter};

@@ -1,4 +1,6 @@
 // Reads a program text for a call: into the table of its program, or V and C alone. The arrays that the reader fills are lent, so no program is copied.
+#![tactic(auto)]
+
 ghost use Rattle.std.specs.Prelude.{◌≡◌, replicate};
 ghost use Rattle.reader.specs.Verdict.{read_of};
 ghost use Rattle.reader.specs.Counted.{counted_of};
@@ -50,7 +52,7 @@ pub fn load_counted(front: &[u8], total: usize, table: &mut [u16; CELLS]) -> Rea
 }
 
 // The verdict on a text, and the totals of its program, all 0 where the text is refused.
-#[derive(Drop)]
+#[derive(Clone, Copy)]
 pub struct TotalsRead {
     pub verdict: ReadVerdict,
     pub totals: Totals,

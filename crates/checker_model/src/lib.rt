@@ -1,4 +1,6 @@
 // The lines of a model, written into a lent buffer (document 01, "Programs"; document 02, Q-3).
+#![tactic(auto)]
+
 ghost use Rattle.std.specs.Prelude.{◌≤◌, ◌<◌, ◌≡◌, ◌++◌, length};
 ghost use Rattle.lists.specs.Ascii.{ascii};
 ghost use Rattle.digits.specs.Bytes.{Room, Wrote};

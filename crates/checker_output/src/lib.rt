@@ -1,5 +1,7 @@
 // The checker: reads a program text and a solver answer from two files and prints the model that the answer shows, or why none is shown (document 01,
 // "Programs"; document 02, Q-3).
+#![tactic(auto)]
+
 ghost use Rattle.std.specs.Prelude.{◌≤◌, ◌≡◌, length};
 ghost use Rattle.digits.specs.Bytes.{Wrote};
 ghost use Rattle.clause_tables.specs.Tables.{Ready, code_in};

@@ -1,5 +1,7 @@
 // Runs the checker on pairs of files that the arguments name, PROGRAM ANSWER, each output below a line with the two names. A file that cannot be opened
 // reads as no bytes.
+#![tactic(auto)]
+
 use checker_output::show_model;
 
 // Prints the two names that the arguments j and k have, and the output.

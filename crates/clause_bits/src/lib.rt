@@ -1,5 +1,7 @@
 // Group 5: the lines of a chain's bit, formed from signed literals, into a lent buffer (document 01, "Clauses, in order"). Each function writes at the front of
 // the buffer and returns how many bytes it wrote.
+#![tactic(auto)]
+
 ghost use Rattle.digits.specs.Bytes.{Room, Wrote};
 ghost use Rattle.clause_numerals.specs.Numerals.{Numbered, held};
 ghost use Rattle.clause_bits.specs.BitTexts.{starts_text, ends_text, half_text, first_text, next_text, ShortBit, bit_text};

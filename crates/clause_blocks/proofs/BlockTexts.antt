@@ -13,7 +13,7 @@ use lib.ListN.{length}
 use borrow.Author.Tests.{eqb-true}
 use Rattle.lists.specs.Lists.{each}
 use Rattle.lists.proofs.Tables.{each_ext}
-use Rattle.encoding.specs.Code.{Code, its}
+use Rattle.encoding.specs.Code.{Code}
 use Rattle.encoding.specs.Literal.{Literal, variable}
 use Rattle.clause_literals.specs.Sizes.{sizes_of, Bounded}
 use Rattle.digits.specs.Bytes.{line_text}

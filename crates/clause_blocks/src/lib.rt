@@ -1,6 +1,8 @@
 // Whole blocks of groups 4 and 5, which have most of the clauses, written into a lent buffer: the digits of a variable are found once for all clauses of
 // the block that have it, and the clauses are formed from signed literals (document 01, "Clauses, in order"). Each function that writes does so at the front of
 // the buffer and returns how many bytes it wrote.
+#![tactic(auto)]
+
 ghost use Rattle.std.specs.Prelude.{◌≤◌, ◌<◌, ◌≡◌, true};
 ghost use Rattle.encoding.specs.Literal.{var};
 ghost use Rattle.encoding.specs.Variables.{level_var};

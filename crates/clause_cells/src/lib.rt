@@ -1,4 +1,6 @@
 // Reads the table of a program. No other code but the one that makes the table knows where its regions stand.
+#![tactic(auto)]
+
 ghost use Rattle.std.specs.Prelude.{◌+◌, ◌-◌, ◌*◌, ◌≤◌, ◌<◌, ◌≡◌, get_or, take, drop};
 ghost use Rattle.clause_tables.specs.Tables.{Ready, region, totals_in, heads_in, bodies_in, before_in, partners_in, owners_in, starts_in, firsts_in, links_in};
 

@@ -1,4 +1,6 @@
 // Group 5: the variables of a chain's bit, and the literal in a slot of one of its clauses (document 01, "Clauses, in order").
+#![tactic(auto)]
+
 ghost use Rattle.std.specs.Prelude.{◌+◌, ◌≤◌, ◌<◌, ◌≡◌};
 ghost use Rattle.encoding.specs.Literal.{literal_number};
 ghost use Rattle.clause_literals.specs.Sizes.{sizes_of, Bounded};
@@ -11,7 +13,7 @@ use clause_literals::{
 use numbers::{Atom, Pair, Var};
 
 // The variables of a chain's bit: z, x and y, and g, which is z at the bit before.
-#[derive(Drop)]
+#[derive(Clone, Copy)]
 pub struct Chain {
     pub z: Var,
     pub x: Var,

@@ -1,4 +1,6 @@
 // How many clauses groups have, their items, and those before an item (document 01, "Clauses, in order").
+#![tactic(auto)]
+
 ghost use Rattle.std.specs.Prelude.{pred, ◌+◌, ◌*◌, ◌≤◌, ◌<◌, ◌≡◌, false, length, get_or};
 ghost use Rattle.lists.specs.Lists.{sum};
 ghost use Rattle.clause_walk.specs.Walk.{group_count, item_count};

@@ -1,4 +1,6 @@
 // The place of clause j, found by passing whole groups, items and blocks.
+#![tactic(auto)]
+
 ghost use Rattle.std.specs.Prelude.{◌≤◌, ◌<◌, ◌≡◌, false};
 ghost use Rattle.clause_walk.specs.Walk.{group_count, item_count, block_count, size as size_at, At};
 ghost use Rattle.clause_tables.specs.Tables.{Ready, code_in, clauses_in};
@@ -16,7 +18,7 @@ use numbers::{Atom, wide};
 const LAST_BUT_ONE: u16 = GROUPS - 1;
 
 // A part, from 1, of several that follow one another, and how many clauses of that part stand before the one looked for.
-#[derive(Drop)]
+#[derive(Clone, Copy)]
 pub struct PartFound {
     pub number: u16,
     pub left: usize,

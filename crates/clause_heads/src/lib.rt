@@ -1,4 +1,6 @@
 // The next rule whose head is an atom, and the slots without a literal that it lets the walk pass (document 01, groups 2 and 7).
+#![tactic(auto)]
+
 ghost use Rattle.std.specs.Prelude.{◌+◌, ◌-◌, ◌^◌, ◌≤◌, ◌<◌, ◌≡◌, length, take};
 ghost use Rattle.clause_tables.specs.Tables.{Ready, heads_in};
 ghost use Rattle.clause_heads.specs.NextHead.{is_at, among_eight, next_head, past_others, past_empty};

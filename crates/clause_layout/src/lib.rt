@@ -1,4 +1,6 @@
 // The walk of the clause list by its numbers: how many items, blocks, clauses and slots there are, and the literal in a slot.
+#![tactic(auto)]
+
 ghost use Rattle.std.specs.Prelude.{◌+◌, ◌-◌, ◌≤◌, ◌<◌, ◌≡◌, take, drop};
 ghost use Rattle.encoding.specs.Literal.{literal_number};
 ghost use Rattle.clause_literals.specs.Sizes.{sizes_of, Bounded};

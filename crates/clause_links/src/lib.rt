@@ -1,5 +1,7 @@
 // Writes into the table of a program the first rule of each atom, and of each rule the next one with the same head, so that the rules of an atom are met
 // with no others between.
+#![tactic(auto)]
+
 ghost use Rattle.std.specs.Prelude.{◌-◌, ◌≤◌, ◌<◌, ◌≡◌, length, get_or, take};
 ghost use Rattle.clause_links.specs.Linked.{Unlinked, link_one, linked};
 

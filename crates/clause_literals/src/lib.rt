@@ -1,5 +1,7 @@
 // Literals as signed 32-bit numbers, the width, and the numbers of the variables (document 01, "Variables" and "Which places take which form").
 // Only these functions compute with an i32; other crates pass it on.
+#![tactic(auto)]
+
 ghost use Rattle.std.specs.Prelude.{◌^◌, ◌≤◌, ◌<◌, ◌≡◌, cond, eqb, neg_ℤ, nat_abs};
 ghost use Rattle.encoding.specs.Literal.{literal_number, var, −◌};
 ghost use Rattle.encoding.specs.Width.{width};
@@ -89,7 +91,7 @@ pub fn width_of(n: u16) -> u16
 }
 
 // n atoms, m rules and counters of w bits.
-#[derive(Drop)]
+#[derive(Clone, Copy)]
 pub struct Sizes {
     pub n: u16,
     pub m: u16,

@@ -1,5 +1,7 @@
 // Literals with the digits of their variables, and the lines of clauses of one to three of them, written into a lent buffer: the digits of a variable are found
 // once for all clauses of a block that have it (document 01, "Which places take which form").
+#![tactic(auto)]
+
 ghost use Rattle.std.specs.Prelude.{◌≡◌, cond, [], ◌∷◌, ◌++◌};
 ghost use Rattle.encoding.specs.Literal.{var};
 ghost use Rattle.clause_literals.specs.Signed.{is_negative};
@@ -11,7 +13,7 @@ use digits::{Digits, digits_of, put_digits};
 use numbers::Var;
 
 // A literal as a signed number, and the digits of its variable.
-#[derive(Drop)]
+#[derive(Clone, Copy)]
 pub struct Numeral {
     pub literal: i32,
     pub digits: Digits,

@@ -1,4 +1,6 @@
 // The walk of the clause list from clause to clause.
+#![tactic(auto)]
+
 ghost use Rattle.std.specs.Prelude.{suc, ◌+◌, ◌≤◌, ◌<◌, ◌≡◌, false};
 ghost use Rattle.clause_tables.specs.Tables.{Ready, code_in, clauses_in, heads_in};
 ghost use Rattle.clause_places.specs.Places.{place_at};
@@ -15,7 +17,7 @@ const LAST_BUT_ONE: u16 = GROUPS - 1;
 const PAST: u16 = GROUPS + 1;
 
 // A clause's group, item, block and number in its block, and how many clauses follow in the block, blocks in the item and items in the group.
-#[derive(Drop)]
+#[derive(Clone, Copy)]
 pub struct Coordinates {
     pub group: u16,
     pub item: u16,
@@ -27,7 +29,7 @@ pub struct Coordinates {
 }
 
 // A clause by its number, with its coordinates. Number 0 is before the first clause.
-#[derive(Drop)]
+#[derive(Clone, Copy)]
 pub struct Place {
     pub number: usize,
     pub coordinates: Coordinates,

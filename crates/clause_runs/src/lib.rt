@@ -1,4 +1,6 @@
 // The lines of the clause file from a place on, into a lent buffer (document 01, "Clauses, in order").
+#![tactic(auto)]
+
 ghost use Rattle.std.specs.Prelude.{suc, ◌+◌, ◌≤◌, ◌<◌, ◌≡◌, true, leb, length};
 ghost use Rattle.digits.specs.Bytes.{Room, Wrote};
 ghost use Rattle.clause_walk.specs.Walk.{group_count, item_count};
@@ -20,7 +22,7 @@ use fixed_lines::{header_length, put_header};
 use numbers::wide;
 
 // A run of lines as far as it fits: how many lines, their bytes, and the place of the line after them.
-#[derive(Drop)]
+#[derive(Clone, Copy)]
 pub struct RunPart {
     pub lines: usize,
     pub bytes: usize,

@@ -1,4 +1,6 @@
 // The literal in a slot of a clause, from the clause's place in the walk, in all groups but the chains' (document 01, "Clauses, in order").
+#![tactic(auto)]
+
 ghost use Rattle.std.specs.Prelude.{pred, ◌+◌, ◌-◌, ◌≤◌, ◌<◌, ◌≡◌, length};
 ghost use Rattle.encoding.specs.Literal.{literal_number, var, −◌};
 ghost use Rattle.encoding.specs.Variables.{body_var, founds_var, below_var, next_below_var};

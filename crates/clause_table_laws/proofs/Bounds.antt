@@ -27,7 +27,7 @@ use Rattle.meaning.specs.Program.{no_rule, is_atom}
 use Rattle.encoding.specs.Literal.{Literal, var, −◌, variable, literal_number, Clause}
 use Rattle.encoding.specs.Variables.{Sizes, body_var, founds_var}
 use Rattle.encoding.specs.Clauses.{body_atoms}
-use Rattle.encoding.specs.Code.{Code, program_of, code_sizes, inner, pair_total, pair_body, pair_head, before, clauses_of, clause_total_of, variables_of}
+use Rattle.encoding.specs.Code.{Code, program_of, code_sizes, inner, pair_total, clauses_of, clause_total_of, variables_of}
 use Rattle.encoding.proofs.Literals.{number_size}
 use Rattle.theory.proofs.Atoms.{atom_pos, atom_le, rule_in_lem}
 use Rattle.theory.proofs.Counts.{count_clauses}

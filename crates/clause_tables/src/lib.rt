@@ -1,5 +1,7 @@
 // One table for each program, made once before its clauses are walked: its counts, its arrays, those of its pairs (document 01, "Variables") and
 // the rules of each atom.
+#![tactic(auto)]
+
 use clause_literals::Sizes;
 
 // Where each region of the table begins. Its cells past those in use are 0.
@@ -23,7 +25,7 @@ pub const LINKS_AT: usize = 3644;
 pub const CELLS: usize = 4144;
 
 // The sizes, the number of pairs, V and C.
-#[derive(Drop)]
+#[derive(Clone, Copy)]
 pub struct Totals {
     pub sizes: Sizes,
     pub pairs: u16,

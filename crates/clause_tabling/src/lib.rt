@@ -1,5 +1,7 @@
 // Makes the table of a program, once for each text, or its totals alone (document 01, "Variables" and "Clauses, in order"). Of the table only the cells in
 // use are written.
+#![tactic(auto)]
+
 ghost use Rattle.std.specs.Prelude.{◌+◌, ◌-◌, ◌*◌, ◌≤◌, ◌<◌, ◌≡◌, length, get_or, set, take, drop, replicate};
 ghost use Rattle.std.proofs.lemmas.List.Edits.{sets};
 ghost use Rattle.encoding.specs.Code.{code_of};

@@ -1,4 +1,6 @@
 // The lines of clauses, written into a lent buffer (document 01, "Clauses, in order").
+#![tactic(auto)]
+
 ghost use Rattle.std.specs.Prelude.{◌^◌, ◌<◌, ◌≡◌, nat_abs, length};
 ghost use Rattle.digits.specs.Bytes.{literals_text, line_text, Room, Wrote};
 ghost use Rattle.clause_walk.specs.Walk.{clause_at, At};

@@ -1,4 +1,6 @@
 // Decimal numbers and literals as bytes, written into a lent buffer.
+#![tactic(auto)]
+
 ghost use Rattle.std.specs.Prelude.{◌+◌, ◌%◌, ◌^◌, ◌<◌, ◌≡◌, [], ◌∷◌, ◌++◌, nat_abs, length};
 ghost use Rattle.text.specs.Decimal.{decimal};
 ghost use Rattle.digits.specs.Bytes.{literal_text, Room, Wrote};
@@ -88,7 +90,7 @@ pub fn put_literal(x: i32, buf: &mut [u8]) -> usize
 }
 
 // The digits of a number below 10,000, as bytes, 0 before the first, and how many it has.
-#[derive(Drop)]
+#[derive(Clone, Copy)]
 pub struct Digits {
     pub a: u8,
     pub b: u8,

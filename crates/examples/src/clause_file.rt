@@ -10,7 +10,7 @@ use call_lines_rows::RunVerdict;
 use std::num::wrapping_add_usize;
 
 // What is written of a clause file: its lines and bytes so far, their sum, how many bytes the last run has, and whether no line is left.
-#[derive(Drop)]
+#[derive(Clone, Copy)]
 struct Written {
     lines: usize,
     bytes: usize,

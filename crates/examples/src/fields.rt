@@ -5,21 +5,21 @@ ghost use Rattle.io.specs.Counts.{IsPrefixLen};
 use crate::hex::{Decoded, decode, digit_value};
 
 // Where a field of a line starts and ends.
-#[derive(Drop)]
+#[derive(Clone, Copy)]
 struct Bounds {
     from: usize,
     to: usize,
 }
 
 // A number, and whether there is one.
-#[derive(Drop)]
+#[derive(Clone, Copy)]
 pub struct Parsed {
     pub good: bool,
     pub value: usize,
 }
 
 // How many bytes each of four fields stands for, and whether a line has four, all of the form.
-#[derive(Drop)]
+#[derive(Clone, Copy)]
 pub struct Lengths {
     pub good: bool,
     pub first: usize,

@@ -5,7 +5,7 @@ ghost use Rattle.std.specs.Prelude.{◌+◌, ◌<◌, ◌≤◌, length};
 ghost use Rattle.io.specs.Counts.{IsPrefixLen};
 
 // An item of a field: a byte, how often it stands, and how many bytes of the field the item takes, 0 for what is no item.
-#[derive(Drop)]
+#[derive(Clone, Copy)]
 struct Item {
     byte: u8,
     times: usize,
@@ -13,7 +13,7 @@ struct Item {
 }
 
 // What became of a field: whether it is of the form and its bytes fit, and how many they are.
-#[derive(Drop)]
+#[derive(Clone, Copy)]
 pub struct Decoded {
     pub good: bool,
     pub length: usize,

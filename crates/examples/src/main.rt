@@ -11,6 +11,8 @@
 // with a text, an answer or a set of more than 70,000 bytes, a buffer or an assignment of more than 65,536 or levels of more than 4,096.
 //
 // A file .lp is a program text: prints line 0 of its clause file, then `LINES BYTES SUM` of the whole file, then its last line; or `refused NUMBER SPOT`.
+#![tactic(auto)]
+
 mod clause_file;
 mod fields;
 mod files;

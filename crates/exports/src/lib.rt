@@ -1,4 +1,6 @@
 // The functions that C, Rust and other languages call (include/quadrensolo.h): thin, over numbers and byte slices.
+#![tactic(auto)]
+
 ghost use Rattle.std.specs.Prelude.{◌≡◌};
 ghost use Rattle.call_lines_rows.specs.Lines.{answered};
 ghost use Rattle.call_results.specs.Results.{called};

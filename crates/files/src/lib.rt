@@ -1,10 +1,12 @@
 // The front of an input, and how many bytes the input has.
+#![tactic(auto)]
+
 ghost use Rattle.std.specs.Prelude.{◌≤◌, ◌≡◌, length};
 ghost use Rattle.io.specs.Counts.{IsPrefixLen};
 ghost use Rattle.files.specs.Count.{read_on, Counted};
 
 // How many bytes of an input were kept, how many were read in all, and whether its end was met.
-#[derive(Drop)]
+#[derive(Clone, Copy)]
 pub struct Front {
     pub kept: usize,
     pub total: usize,

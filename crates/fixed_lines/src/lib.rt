@@ -1,4 +1,6 @@
 // The lines with fixed words, written into a lent buffer: the first line of the clause file and the line of a refusal (document 01, "Clauses, in order").
+#![tactic(auto)]
+
 ghost use Rattle.std.specs.Prelude.{◌^◌, ◌<◌, ◌≡◌, [], ◌∷◌, ◌++◌, length};
 ghost use Rattle.lists.specs.Ascii.{ascii};
 ghost use Rattle.text.specs.Decimal.{decimal};

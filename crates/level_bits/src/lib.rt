@@ -1,4 +1,6 @@
 // The bits of levels and the chains that compare them, into a lent buffer (document 01, "Check and filling out").
+#![tactic(auto)]
+
 ghost use Rattle.std.specs.Prelude.{◌≤◌, ◌<◌, ◌≡◌, cond, eqb, length};
 ghost use Rattle.digits.specs.Bytes.{Room, Wrote};
 ghost use Rattle.clause_tables.specs.Tables.{Ready, totals_in, code_in, atoms_in};

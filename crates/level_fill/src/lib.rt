@@ -1,4 +1,6 @@
 // The filled-out assignment of a set of atoms and their levels, family by family into a lent buffer (document 01, "Check and filling out").
+#![tactic(auto)]
+
 ghost use Rattle.std.specs.Prelude.{◌≤◌, ◌<◌, ◌≡◌, ◌++◌, length, drop};
 ghost use Rattle.lists.specs.Lists.{tab};
 ghost use Rattle.meaning.specs.Program.{body_true};

@@ -1,4 +1,6 @@
 // What the lists of a rule say of a set of atoms and of levels, each given as a byte for every atom (document 01, "Meaning").
+#![tactic(auto)]
+
 ghost use Rattle.std.specs.Prelude.{pred, ◌≤◌, ◌<◌, ◌≡◌, ltb, length, set as put};
 ghost use Rattle.std.proofs.Math.Bool.{So};
 ghost use Rattle.lists.specs.Lists.{all};

@@ -1,5 +1,7 @@
 // The level numbers of a set of atoms (document 01, "Meaning"): the stages of its reduct, in one round over the rules for each,
 // and the smallest atom where the set and the least model differ.
+#![tactic(auto)]
+
 ghost use Rattle.std.specs.Prelude.{◌≤◌, ◌<◌, ◌≡◌, not, ◌||◌, ◌++◌, eqb, length, drop};
 ghost use Rattle.std.specs.Bool.{beq};
 ghost use Rattle.lists.specs.Lists.{any, tab};

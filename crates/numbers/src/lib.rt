@@ -1,4 +1,6 @@
 // Numbers that never stand for one another (document 01, "Which places take which form"): each kind counts from 1.
+#![tactic(auto)]
+
 ghost use Rattle.std.specs.Prelude.{◌≡◌};
 
 // The most atoms of a program (document 01, "Program text").
@@ -19,19 +21,19 @@ pub const STARTS: usize = 2 * MAX_RULES as usize + 1;
 // The length of the array of body atoms.
 pub const BODIES: usize = MAX_BODY_ATOMS as usize;
 
-#[derive(Drop)]
+#[derive(Clone, Copy)]
 pub struct Atom(pub u16);
 
 // A rule's place in text order.
-#[derive(Drop)]
+#[derive(Clone, Copy)]
 pub struct Rule(pub u16);
 
 // A pair's place in text order (document 01, "Variables").
-#[derive(Drop)]
+#[derive(Clone, Copy)]
 pub struct Pair(pub u16);
 
 // A variable of the clauses.
-#[derive(Drop)]
+#[derive(Clone, Copy)]
 pub struct Var(pub u16);
 
 // The variable of an atom (document 01, "Variables": variable a is atom a).

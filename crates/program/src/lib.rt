@@ -1,4 +1,6 @@
 // A program in flat arrays.
+#![tactic(auto)]
+
 ghost use Rattle.std.specs.Prelude.{◌-◌, ◌≤◌, ◌<◌, ◌≡◌, length, get_or};
 ghost use Rattle.program.specs.Arrays.{empty_program};
 

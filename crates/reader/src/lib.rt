@@ -1,4 +1,6 @@
 // The reader of program text.
+#![tactic(auto)]
+
 ghost use Rattle.std.specs.Prelude.{◌≡◌};
 ghost use Rattle.reader_work.specs.Fold.{Ends, read_from, started};
 ghost use Rattle.reader_words.specs.Standing.{read_rest};
@@ -17,7 +19,7 @@ use refusals::TextRefusal;
 pub const MAX_TEXT: usize = 65536;
 
 // Whether a text is a program.
-#[derive(Drop)]
+#[derive(Clone, Copy)]
 pub enum ReadVerdict {
     Accepted,
     Refused(TextRefusal),

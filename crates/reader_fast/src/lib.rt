@@ -2,6 +2,8 @@
 //
 // Each function goes on from where the reading stands, or stays there: the rest of the text is read to the same end from the stand that it
 // returns. None of them refuses a text. What they do not take is left to the automaton.
+#![tactic(auto)]
+
 ghost use Rattle.std.specs.Prelude.{◌≡◌};
 ghost use Rattle.reader_words.specs.Standing.{read_rest, Goes, GoesHeads, GoesStarts, GoesBodies};
 

@@ -1,4 +1,6 @@
 // The automaton of the program text: from a place in the form, one byte on.
+#![tactic(auto)]
+
 ghost use Rattle.std.specs.Prelude.{◌≡◌, ◌<◌, get_or};
 ghost use Rattle.reader_form.specs.Automaton.{form_at, digit_test, literal_of, leave_of, digit_of, item_of, act_at, form_step};
 
@@ -66,7 +68,7 @@ pub const ACT_LIST: u8 = 5;
 pub const ACT_LINE: u8 = 6;
 
 // Place k of the form, how far it is read there, and what the last byte does.
-#[derive(Drop)]
+#[derive(Clone, Copy)]
 pub struct FormState {
     pub k: usize,
     pub mode: u8,

@@ -1,4 +1,6 @@
 // Where the reading of a program text stands between two parts of the form, and what the text has there: a fixed word, a number of one to three digits.
+#![tactic(auto)]
+
 ghost use Rattle.std.specs.Prelude.{◌<◌, ◌≡◌};
 ghost use Rattle.reader_words.specs.Standing.{has_at, short_number_of, short_number_at, ready_at, list_at, listing_at, fits_at, added_to};
 
@@ -7,7 +9,7 @@ use reader_form::{AT_PLACE, AT_SPACE, FORM_NEGATIVE, FORM_POSITIVE, is_digit};
 
 // Where the reading stands, with no number begun and nothing refused: the place in the form and its mode, the next byte, what is counted,
 // and the list's last number. The fields leave no gap between them, so a copy moves whole words.
-#[derive(Drop)]
+#[derive(Clone, Copy)]
 pub struct Stand {
     pub k: usize,
     pub at: usize,
@@ -19,7 +21,7 @@ pub struct Stand {
 }
 
 // A number, and how many digits it has: count 0 stands for no number.
-#[derive(Drop)]
+#[derive(Clone, Copy)]
 pub struct ShortNumber {
     pub value: u16,
     pub count: usize,

@@ -1,4 +1,6 @@
 // What the reader keeps while it reads a program text, and what each byte does to it (document 01, rows 3 to 7).
+#![tactic(auto)]
+
 ghost use Rattle.std.specs.Prelude.{◌-◌, ◌≤◌, ◌<◌, ◌≡◌, set};
 ghost use Rattle.reader_work.specs.Work.{refused_of, with_prev, grown_of, value_after, begin_after, atoms_ended, head_ended, head_stored, body_ended, body_stored};
 ghost use Rattle.reader_work.specs.Work.{opened_of, start_stored, rule_shut, ended_of, ended_heads, ended_bodies, bracket_of, bracket_starts};
@@ -12,7 +14,7 @@ const LAST_RULE: u16 = MAX_RULES - 1;
 
 // What is read so far: the number of atoms, the rules and body atoms stored, the list's last number, and the first refusal with its spot
 // (number 0 while there is none).
-#[derive(Drop)]
+#[derive(Clone, Copy)]
 pub struct Counts {
     pub atoms: u16,
     pub rules: u16,
@@ -248,7 +250,7 @@ fn bracket(act: u8, i: usize, c: Counts, starts: &mut [u16; STARTS]) -> Counts
 }
 
 // The place in the form, and the number being read there: its value so far and its first byte, both 0 where there is none.
-#[derive(Drop)]
+#[derive(Clone, Copy)]
 pub struct Token {
     pub k: usize,
     pub value: u16,

@@ -1,9 +1,11 @@
 // The refusals of each call, with their numbers and spots (docs/FORMATS.md, "Verdicts").
+#![tactic(auto)]
+
 ghost use Rattle.std.specs.Prelude.{◌≡◌};
 ghost use Rattle.refusals.specs.Numbers.{text_number, text_spot, line_number, line_spot, check_number, check_spot, fill_number, fill_spot};
 
 // Why a program text is refused, rows 1 to 7, each with its spot.
-#[derive(Drop)]
+#[derive(Clone, Copy)]
 pub enum TextRefusal {
     Overlong(usize),
     Malformed(usize),
@@ -15,7 +17,7 @@ pub enum TextRefusal {
 }
 
 // Why no line is written: the text is refused, the buffer is short, or there is no such clause, each with its spot.
-#[derive(Drop)]
+#[derive(Clone, Copy)]
 pub enum LineRefusal {
     Text(TextRefusal),
     ShortBuffer(usize),
@@ -23,7 +25,7 @@ pub enum LineRefusal {
 }
 
 // Why no model is shown, each with its spot.
-#[derive(Drop)]
+#[derive(Clone, Copy)]
 pub enum CheckRefusal {
     Text(TextRefusal),
     ShortBuffer(usize),
@@ -36,7 +38,7 @@ pub enum CheckRefusal {
 }
 
 // Why a set is not filled out, each with its spot.
-#[derive(Drop)]
+#[derive(Clone, Copy)]
 pub enum FillRefusal {
     Text(TextRefusal),
     ShortBuffer(usize),

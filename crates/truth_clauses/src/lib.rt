@@ -1,4 +1,6 @@
 // Truth of clauses under an assignment (document 01, "Check and filling out").
+#![tactic(auto)]
+
 ghost use Rattle.std.specs.Prelude.{◌+◌, ◌^◌, ◌≤◌, ◌<◌, ◌≡◌, nat_abs, length};
 ghost use Rattle.lists.specs.Lists.{any};
 ghost use Rattle.encoding.specs.Literal.{literal_true, clause_true};

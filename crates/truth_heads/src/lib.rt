@@ -1,4 +1,6 @@
 // Truth of whole items of groups 2 and 7 under an assignment: the rules of an atom (document 01, "Check and filling out").
+#![tactic(auto)]
+
 ghost use Rattle.std.specs.Prelude.{◌≤◌, ◌<◌, ◌≡◌, length};
 ghost use Rattle.encoding.specs.Code.{code_sizes};
 ghost use Rattle.clause_walk.specs.Walk.{heads_of};
@@ -12,7 +14,7 @@ use numbers::{Atom, atom_var};
 use truth_literals::stands;
 
 // What the rules of an atom say: `each`, that each clause of the atom and such a rule is true; `some`, that some such rule's variable has 1.
-#[derive(Drop)]
+#[derive(Clone, Copy)]
 pub struct Support {
     pub each: bool,
     pub some: bool,

@@ -1,4 +1,6 @@
 // Truth of all clauses of an item under an assignment: of a rule, an atom or a pair in a clause group (document 01, "Check and filling out"; document 02, Q-2).
+#![tactic(auto)]
+
 ghost use Rattle.std.specs.Prelude.{◌≤◌, ◌<◌, ◌≡◌, length};
 ghost use Rattle.clause_walk.specs.Walk.{group_count, item_count};
 ghost use Rattle.clause_tables.specs.Tables.{Ready, code_in, vars_in};

@@ -1,4 +1,6 @@
 // Truth of whole items of groups 3, 4 and 5 under an assignment: counters and chains (document 01, "Check and filling out").
+#![tactic(auto)]
+
 ghost use Rattle.std.specs.Prelude.{◌+◌, ◌^◌, ◌<◌, ◌≡◌, ◌||◌, ◌&&◌};
 ghost use Rattle.encoding.specs.Literal.{var, −◌};
 ghost use Rattle.clause_literals.specs.Sizes.{sizes_of};

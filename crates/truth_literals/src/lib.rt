@@ -1,4 +1,6 @@
 // Truth of single literals, of clauses of two and three, and of a chain's bit, under an assignment (document 01, "Check and filling out").
+#![tactic(auto)]
+
 ghost use Rattle.std.specs.Prelude.{◌≡◌, ◌||◌};
 ghost use Rattle.encoding.specs.Literal.{−◌, literal_true};
 ghost use Rattle.clause_walk.specs.Walk.{signed};

@@ -1,4 +1,6 @@
 // Truth of whole items of groups 1 and 6 under an assignment: the bodies of rules, and the rules (document 01, "Check and filling out").
+#![tactic(auto)]
+
 ghost use Rattle.std.specs.Prelude.{◌+◌, ◌≤◌, ◌<◌, ◌≡◌, length, get_or};
 ghost use Rattle.encoding.specs.Variables.{var_count};
 ghost use Rattle.clause_literals.specs.Sizes.{sizes_of, Bounded};

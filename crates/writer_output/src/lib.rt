@@ -1,5 +1,7 @@
 // The writer: reads a program text and prints its clause file, or why the text is refused (document 01, "Programs"). What is printed is handed to the
 // output in parts; each function that hands over returns how many bytes it handed.
+#![tactic(auto)]
+
 ghost use Rattle.std.specs.Prelude.{◌≤◌, ◌≡◌, length};
 ghost use Rattle.lists.specs.Lists.{joined};
 ghost use Rattle.refusals.specs.Numbers.{text_number, text_spot};

@@ -1,4 +1,6 @@
 // Runs the writer on the files that the arguments name, each output below a line with the file's name. A file that cannot be opened reads as no bytes.
+#![tactic(auto)]
+
 use writer_output::{say_output, write_clauses};
 
 // Prints the writer's output for the file of that name.

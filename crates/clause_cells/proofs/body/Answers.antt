@@ -1,0 +1,10 @@
+use native.Mathlib.Omega.{arith}
+use Rattle.clause_cells.proofs.Parts.{part_at}
+use Rattle.clause_table_laws.proofs.Cells.{cells}
+use Rattle.clause_cells.proofs.body.Goals as goal
+
+pub slice_bounds-result-end : goal.slice_bounds-result-end
+slice_bounds-result-end c = omega (arith, cells c.requires.0, c.requires.1, c.requires.2)
+
+pub returns : goal.returns
+returns c = part_at c.args.table.now 516 500 c.args.first c.args.end c.requires.1 c.requires.2

@@ -1,0 +1,21 @@
+use Rattle.clause_literals.proofs.Products.{atoms_fit, atom_fits, next_number_lem}
+use native.Mathlib.Omega.{arith}
+use Rattle.clause_literals.proofs.next_var.Goals as goal
+
+pub overflow_mul-result-2 : goal.overflow_mul-result-2
+overflow_mul-result-2 c = omega (arith, atoms_fit c.args.s c.requires.0)
+
+pub overflow_add-result-2 : goal.overflow_add-result-2
+overflow_add-result-2 c = omega (arith, c.requires.0.atoms, c.requires.0.rules, atoms_fit c.args.s c.requires.0)
+
+pub overflow_mul-result-3 : goal.overflow_mul-result-3
+overflow_mul-result-3 c = omega (arith, atom_fits c.args.s c.requires.0 c.args.a.0 c.requires.2)
+
+pub overflow_add-result-3 : goal.overflow_add-result-3
+overflow_add-result-3 c = omega (arith, c.requires.0.atoms, c.requires.0.rules, atoms_fit c.args.s c.requires.0, atom_fits c.args.s c.requires.0 c.args.a.0 c.requires.2)
+
+pub overflow_add-result-4 : goal.overflow_add-result-4
+overflow_add-result-4 c = omega (arith, c.requires.0.atoms, c.requires.0.rules, c.requires.3, atoms_fit c.args.s c.requires.0, atom_fits c.args.s c.requires.0 c.args.a.0 c.requires.2)
+
+pub returns : goal.returns
+returns c = next_number_lem c.args.s c.args.a.0 c.args.i

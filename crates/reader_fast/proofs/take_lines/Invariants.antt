@@ -1,0 +1,11 @@
+use Prim.Native.Nat.{◌-◌}
+use lib.ListN.{length}
+use mathlib.Core.Path.{◌≡◌}
+use Rattle.reader_words.specs.Standing.{read_rest}
+use Rattle.reader_fast.proofs.take_lines.Given as goal
+
+abbrev pub invariant-loop-p : goal.invariant-loop-p
+invariant-loop-p l = read_rest l.p l.heads l.starts l.bodies l.text ≡ read_rest l.initial.p l.initial.heads l.initial.starts l.initial.bodies l.text
+
+abbrev pub decreases-loop-p : goal.decreases-loop-p
+decreases-loop-p l = length l.text - l.p.at
