@@ -55,7 +55,7 @@ literals_named t p = within_named t (length t) p
 -- ---- what each outcome means
 
 pub data Meant (n : ℕ) (xs : List Spotted) : Outcome → Type 0 where
-  all_fit_lem : AllFit n xs → Meant n xs Outcome.done
+  all_fit : AllFit n xs → Meant n xs Outcome.done
   stray_at : (s : ℕ) → StrayAt n xs s → Meant n xs (Outcome.stray s)
   repeated_at : (s : ℕ) → RepeatedAt n xs s → Meant n xs (Outcome.repeated s)
 

@@ -360,7 +360,7 @@ module _ (t u : List ℕ) (a l : ℕ) where
               told_16 : 0 < code_first_false (code_of P) (value_bytes ys) → CheckTold t u a l
               told_16 h =
                   model_at (FalseClause (code_first_false (code_of P) (value_bytes ys))) 9
-                  (false_clause P A xs offer (code_first_false (code_of P) (value_bytes ys)) h falses.within (falses.is_false h))
+                  (false_clause P A xs offer (code_first_false (code_of P) (value_bytes ys)) h falses.within (falses.is_false_lem h))
                   (record {
                     stray = λ i h g. absurd (stray_unfit i g (fit i h));
                     repeated = λ i j h g q. absurd (repeated_unfit i j g q (fit i h));
@@ -384,7 +384,7 @@ module _ (t u : List ℕ) (a l : ℕ) where
                     admitted = A;
                     offers = offer;
                     fit = fit;
-                    each_true_lem = falses.all_true h;
+                    each_true_lem = falses.all_true_lem h;
                     room = room;
                     levels_room = levels_room;
                     not_overlong = fits;

@@ -14,7 +14,7 @@ use mathlib.Core.List.{List}
 use lib.Dec.{eqb, ltb}
 use lib.ListN.{length, get_or}
 use borrow.Author.Tests.{lt-ltb, le-ltb, eq-eqb, ne_eqb, eqb-true, eqb-false, ltb-true}
-use Rattle.lists.specs.Lists.{tab, first, highest}
+use Rattle.lists.specs.Lists.{tab}
 use Rattle.lists.proofs.Bools.{and_left}
 use Rattle.lists.proofs.Tests.{le_or_lt}
 use Rattle.lists.proofs.First.{first_is, first_pos, first_le, first_none}
@@ -34,7 +34,7 @@ use Rattle.reader.specs.Verdict.{read_of}
 use Rattle.refusals.specs.Numbers.{text_number, text_spot}
 use Rattle.reader_laws.specs.Row.{rank, NoLater, ranked, nearer, smaller, FirstRow}
 use Rattle.text.specs.Limits.{Admitted}
-use Rattle.reader_laws.proofs.Rows.{answers_first, accepted_none}
+use Rattle.reader_laws.proofs.Rows.{accepted_none}
 use Rattle.call_laws.proofs.Texts.{admitted_program, one_admitted, refused_row, refused_admits_none}
 use Rattle.answer_offers.specs.Offered.{value_bytes}
 use Rattle.truth_clauses.specs.Truth.{value_in}

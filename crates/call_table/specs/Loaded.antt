@@ -11,7 +11,6 @@ use Rattle.refusals.specs.declared.TextRefusal.{TextRefusal}
 use Rattle.reader.specs.declared.ReadResult.{ReadResult}
 use Rattle.reader.specs.declared.ReadVerdict.{ReadVerdict}
 use Rattle.reader.specs.declared.ReadVerdict.TheVariants.{Accepted, Refused}
-use Rattle.clause_tables.specs.declared.Totals.{Totals}
 use Rattle.clause_tables.specs.Tables.{totals_of, table_of}
 use Rattle.call_table.specs.declared.TotalsRead.{TotalsRead}
 

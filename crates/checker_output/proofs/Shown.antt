@@ -9,13 +9,11 @@
 use Prim.Native.Nat.{ℕ, ◌≤◌, ◌<◌}
 use native.Mathlib.Nat.{le_trans}
 use native.Mathlib.Omega.{arith}
-use mathlib.Core.Path.{◌≡◌, refl, sym, ◌∙◌, ap, subst}
+use mathlib.Core.Path.{◌≡◌, sym, ◌∙◌, ap, subst}
 use mathlib.Core.Logic.{⊎_elim}
-use mathlib.Core.List.{List, [], ◌∷◌}
+use mathlib.Core.List.{List}
 use lib.ListN.{length, take, replicate}
 use lib.Seq.{take_all}
-use types.Run.{OneOf, miss}
-use denote.Enum.Declared.{tag_of}
 use borrow.Author.Tests.{lt-ltb}
 use Rattle.encoding.specs.Code.{Code, code_of}
 use Rattle.lists.proofs.Tests.{le_or_lt}
@@ -24,6 +22,7 @@ use Rattle.reader.specs.Verdict.{read_of}
 use Rattle.reader.specs.declared.ReadVerdict.{ReadVerdict}
 use Rattle.reader.specs.declared.ReadVerdict.TheVariants.{Accepted, Refused as TextRefused}
 use Rattle.refusals.specs.declared.TextRefusal.{TextRefusal}
+use Rattle.refusals.specs.declared.CheckRefusal.{CheckRefusal}
 use Rattle.refusals.specs.declared.CheckRefusal.TheVariants.{Text}
 use Rattle.clause_tables.specs.declared.Totals.{Totals}
 use Rattle.clause_tables.specs.Tables.{Ready, totals_of, totals_in, code_in}
@@ -32,7 +31,6 @@ use Rattle.reader.proofs.Counted.{counted_whole}
 use Rattle.call_results.specs.Results.{program_read}
 use Rattle.call_check_rows.specs.declared.CheckVerdict.{CheckVerdict}
 use Rattle.call_check_rows.specs.declared.CheckVerdict.TheVariants.{Model, Refused}
-use Rattle.call_check_rows.specs.contracts.CheckVerdict.{the_type}
 use Rattle.call_check_rows.specs.Check.{check_after_reading, check_result, call_result, check_verdict_of, CheckGives}
 use Rattle.checker_model.specs.Model.{shown_model}
 use Rattle.checker_output.specs.Output.{checker_refusal_line, checker_verdict_text, result_text, checked_text, checker_output_of, checker_output, checker_text}
@@ -59,13 +57,8 @@ module _ (G : Code) (t : List ℕ) (k : ℕ) {v : CheckVerdict} {bs ls : List �
   pub text_model : {i j c n : ℕ} → n ≡ G.n → v ≡ Model i j c → shown_model n c bs ls ≡ checked_text G t k
   text_model {c = c} e m = ap (λ (n : ℕ). shown_model n c bs ls) e ∙ sym (ap (λ (w : CheckVerdict). checker_verdict_text G.n w bs ls) m) ∙ said
 
-  -- v is told to be the second variant
-  pub text_refused : OneOf (1 ∷ []) (tag_of the_type v) → checker_refusal_line v ≡ checked_text G t k
-  text_refused m = go v m refl ∙ said
-    where
-      go : (w : CheckVerdict) → OneOf (1 ∷ []) (tag_of the_type w) → v ≡ w → checker_refusal_line v ≡ checker_verdict_text G.n v bs ls
-      go (Model i j c) m e = absurd (miss (1 ∷ []) 0 tt m)
-      go (Refused q) m e = ap checker_refusal_line e ∙ sym (ap (λ (w : CheckVerdict). checker_verdict_text G.n w bs ls) e)
+  pub text_refused : {q : CheckRefusal} → v ≡ Refused q → checker_refusal_line v ≡ checked_text G t k
+  text_refused {q} e = ap checker_refusal_line e ∙ sym (ap (λ (w : CheckVerdict). checker_verdict_text G.n w bs ls) e) ∙ said
 
 -- by the reader's verdict
 module _ (x : ReadResult) (t : List ℕ) (k : ℕ) where

@@ -60,11 +60,11 @@ pub fn put_output(text: &[u8], size: usize, answer: &[u8], total: usize, out: &m
 }
 
 // Reads the two files of those names and prints the lines.
-pub fn show_model(program: &[u8], answer: &[u8]) {
+pub fn show_model(rt: &HostRuntime, program: &[u8], answer: &[u8]) {
     let mut text = [0u8; 65537];
     let mut given = [0u8; 65537];
-    let t = read_file(program, &mut text);
-    let a = read_file(answer, &mut given);
+    let t = read_file(rt, program, &mut text);
+    let a = read_file(rt, answer, &mut given);
     let n = t.kept;
     let k = a.kept;
     let mut out = [0u8; 1131];

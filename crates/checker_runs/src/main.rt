@@ -3,25 +3,25 @@
 #![tactic(auto)]
 
 use checker_output::show_model;
+use files::argument;
 
-// Prints the two names that the arguments j and k have, and the output.
-fn say_run(j: usize, k: usize) {
-    let mut program = io::buffer();
-    let n = os::arg(j, &mut program);
-    let mut answer = io::buffer();
-    let m = os::arg(k, &mut answer);
-    io::write_all(1, &program[..n]);
+// Prints the two names, and the output.
+fn say_run(rt: &HostRuntime, program: &[u8], answer: &[u8]) {
+    io::write_all(1, program);
     io::write_all(1, b" ");
-    io::write_all(1, &answer[..m]);
+    io::write_all(1, answer);
     io::write_all(1, b"\n");
-    show_model(&program[..n], &answer[..m]);
+    show_model(rt, program, answer);
 }
 
-fn main() {
-    let pairs = os::arg_count() / 2;
-    let mut i: usize = 0;
-    while i < pairs {
-        say_run(i + i + 1, i + i + 2);
-        i += 1;
+fn main(rt: HostRuntime) {
+    for i in 0..usize::MAX / 2 {
+        let mut program = io::buffer();
+        let Some(n) = argument(&rt, i + i + 1, &mut program) else {
+            return;
+        };
+        let mut answer = io::buffer();
+        let m = argument(&rt, i + i + 2, &mut answer).unwrap_or(0);
+        say_run(&rt, &program[..n], &answer[..m]);
     }
 }

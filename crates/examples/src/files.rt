@@ -1,6 +1,9 @@
 // Files by name, and the endings of names.
 ghost use Rattle.io.specs.Counts.{IsPrefixLen};
 
+use std::fs::File;
+use std::os::fd::AsRawFd;
+
 // Whether s ends with the bytes of `end`.
 pub fn ends_with(s: &[u8], end: &[u8]) -> bool {
     if s.len() < end.len() {
@@ -18,14 +21,14 @@ pub fn ends_with(s: &[u8], end: &[u8]) -> bool {
 }
 
 // Reads a file into buf and answers how many bytes it has, 0 for one that cannot be opened.
-pub fn read_file(path: &[u8], buf: &mut [u8]) -> usize
+pub fn read_file(rt: &HostRuntime, path: &[u8], buf: &mut [u8]) -> usize
     ensures { IsPrefixLen result buf.new }
 {
-    let fd = os::open_read(path);
-    if fd < 0 {
+    let Ok(name) = str::from_utf8(path) else {
         return 0;
+    };
+    match File::open(rt, name) {
+        Ok(file) => io::read_full(file.as_raw_fd(), buf),
+        Err(_) => 0,
     }
-    let n = io::read_full(fd, buf);
-    libc::close(fd);
-    n
 }

@@ -30,6 +30,7 @@ use lines::{say_line, say_run};
 use models::say_model;
 use reads::say_read;
 use replies::print_bad_case;
+use std::env::{Env, FillError};
 
 // Prints what a line of the file of that name gives.
 fn say_call(name: &[u8], line: &[u8]) {
@@ -70,9 +71,9 @@ fn say_calls(name: &[u8], file: &[u8]) {
 }
 
 // Prints what the file of that name gives.
-fn say_file(name: &[u8]) {
+fn say_file(rt: &HostRuntime, name: &[u8]) {
     let mut file = [0u8; 262144];
-    let n = read_file(name, &mut file);
+    let n = read_file(rt, name, &mut file);
     if ends_with(name, b".lp") {
         say_program(&file[..n]);
         return;
@@ -80,18 +81,13 @@ fn say_file(name: &[u8]) {
     say_calls(name, &file[..n]);
 }
 
-// Prints what the file that argument k names gives.
-fn say_argument(k: usize) {
-    let mut name = io::buffer();
-    let n = os::arg(k, &mut name);
-    say_file(&name[..n]);
-}
-
-fn main() {
-    let n = os::arg_count();
-    let mut k: usize = 1;
-    while k < n {
-        say_argument(k);
-        k += 1;
+fn main(rt: HostRuntime) {
+    for k in 1..usize::MAX {
+        let mut name = io::buffer();
+        match rt.arg(k, &mut name) {
+            Ok(n) => say_file(&rt, &name[..n]),
+            Err(FillError::TooLong) => say_file(&rt, b""),
+            Err(FillError::NotPresent) => return,
+        }
     }
 }

@@ -2,8 +2,8 @@
 -- Assumes nothing.
 use Prim.Native.Nat.{ℕ, ◌≤◌}
 use native.Mathlib.Omega.{arith}
-use mathlib.Core.Path.{◌≡◌, sym, ap}
-use mathlib.Core.List.{List, ◌++◌}
+use mathlib.Core.Path.{sym, ap}
+use mathlib.Core.List.{List}
 use lib.ListN.{length, drop, length-append}
 use lib.Seq.{length-take-le}
 use Rattle.digits.specs.Bytes.{Wrote}

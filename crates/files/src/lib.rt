@@ -1,9 +1,13 @@
 // The front of an input, and how many bytes the input has.
 #![tactic(auto)]
 
-ghost use Rattle.std.specs.Prelude.{◌≤◌, ◌≡◌, length};
+ghost use Rattle.std.specs.Prelude.{◌≤◌, ◌≡◌, length, IfSome};
 ghost use Rattle.io.specs.Counts.{IsPrefixLen};
 ghost use Rattle.files.specs.Count.{read_on, Counted};
+
+use std::env::{Env, FillError};
+use std::fs::File;
+use std::os::fd::AsRawFd;
 
 // How many bytes of an input were kept, how many were read in all, and whether its end was met.
 #[derive(Clone, Copy)]
@@ -57,20 +61,39 @@ pub fn read_open(fd: i32, buf: &mut [u8]) -> Front
     f
 }
 
-// Puts the front of the file named `path` into buf, and reads the rest to count it. A file that cannot be opened reads as no bytes.
-pub fn read_file(path: &[u8], buf: &mut [u8]) -> Front
+// What is read of a file that cannot be opened.
+fn no_bytes() -> Front
+    ensures { (result.kept ≡ 0) × (Counted result) }
+{
+    Front {
+        kept: 0,
+        total: 0,
+        ended: true,
+    }
+}
+
+// Puts the front of the file named `path` into buf, and reads the rest to count it. A file that cannot be opened reads as no bytes, as does one whose name is not
+// UTF-8.
+pub fn read_file(rt: &HostRuntime, path: &[u8], buf: &mut [u8]) -> Front
     requires { length buf.old ≤ 65537 }
     ensures { (IsPrefixLen result.kept buf.new) × (Counted result) }
 {
-    let fd = os::open_read(path);
-    if fd < 0 {
-        return Front {
-            kept: 0,
-            total: 0,
-            ended: true,
-        };
+    let Ok(name) = str::from_utf8(path) else {
+        return no_bytes();
+    };
+    match File::open(rt, name) {
+        Ok(file) => read_open(file.as_raw_fd(), &mut *buf),
+        Err(_) => no_bytes(),
     }
-    let f = read_open(fd, &mut *buf);
-    libc::close(fd);
-    f
+}
+
+// Puts argument k of the program at the front of the buffer and returns its length, or 0 where it does not fit. None says that there is none.
+pub fn argument(rt: &HostRuntime, k: usize, buf: &mut [u8]) -> Option<usize>
+    ensures { IfSome result (λ n. IsPrefixLen n buf.new) }
+{
+    match rt.arg(k, &mut *buf) {
+        Ok(n) => Some(n),
+        Err(FillError::TooLong) => Some(0),
+        Err(FillError::NotPresent) => None,
+    }
 }

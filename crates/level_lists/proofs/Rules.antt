@@ -15,7 +15,7 @@ use native.Mathlib.Nat.{le_trans, add-zero, not-suc-le-zero}
 use native.Mathlib.Omega.{arith}
 use mathlib.Core.Path.{◌≡◌, refl, sym, ◌∙◌, ap, subst}
 use mathlib.Core.Bool.{Bool, true, false, not, ◌&&◌, So, false≢true}
-use mathlib.Core.List.{List, [], ◌∷◌, ◌++◌}
+use mathlib.Core.List.{List, ◌++◌}
 use lib.ListN.{length, get_or, take, drop}
 use lib.Seq.{take-take, take-add, drop-drop, take_at, drop_at}
 use Rattle.encoding.specs.Code.{Code}

@@ -14,7 +14,7 @@ use Rattle.lists.proofs.Bools.{and_left}
 use Rattle.lists.proofs.Tests.{up_to_lem, any_append, any_each, any_to_in}
 use Rattle.theory.proofs.Atoms.{atom_le}
 use Rattle.meaning.specs.Program.{is_atom}
-use Rattle.encoding.specs.Code.{Code, clauses_of, variables_of, its}
+use Rattle.encoding.specs.Code.{Code, clauses_of, variables_of}
 use Rattle.encoding.specs.Literal.{Literal, literal_true, clause_true, variable}
 use Rattle.encoding.proofs.Literals.{number_size}
 use Rattle.clause_walk.specs.Walk.{slots, slot, clause_at, At}

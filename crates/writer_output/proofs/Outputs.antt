@@ -12,7 +12,6 @@ use Rattle.meaning.specs.Program.{Program}
 use Rattle.text.specs.Limits.{Admitted}
 use Rattle.program.specs.Arrays.{decoded}
 use Rattle.program.proofs.Decode.{decoded_kept}
-use Rattle.reader.specs.declared.ReadResult.{ReadResult}
 use Rattle.reader.specs.declared.ReadVerdict.{ReadVerdict}
 use Rattle.reader.specs.declared.ReadVerdict.TheVariants.{Accepted, Refused}
 use Rattle.reader.specs.Verdict.{read_of}

@@ -1,0 +1,15 @@
+use Prim.Native.Nat.{◌-◌, ◌≤◌}
+use lib.ListN.{length, drop}
+use mathlib.Core.List.{◌++◌}
+use mathlib.Core.Path.{◌≡◌}
+use Rattle.truth_clauses.specs.Truth.{value_in}
+use Rattle.lists.specs.Lists.{tab}
+use Rattle.clause_literals.specs.Sizes.{sizes_of}
+use Rattle.encoding.specs.Fill.{counter}
+use Rattle.call_results.proofs.put_counters.Given as goal
+
+abbrev pub invariant-loop-a : goal.invariant-loop-a
+invariant-loop-a l = (l.a ≤ l.s.n) × (length l.levels ≡ length l.initial.levels) × (l.levels ≡ tab l.a (counter (sizes_of l.s) (value_in l.assignment)) ++ drop l.a l.initial.levels)
+
+abbrev pub decreases-loop-a : goal.decreases-loop-a
+decreases-loop-a l = l.s.n - l.a

@@ -1,0 +1,15 @@
+use Rattle.truth_heads.proofs.SupportLaws.{Visited}
+use Rattle.truth_literals.specs.Values.{value_in}
+use Rattle.clause_table_laws.proofs.Links.{rules_before}
+use Rattle.clause_tables.specs.Tables.{code_in}
+use Rattle.clause_walk.specs.Walk.{heads_of}
+use Rattle.encoding.specs.Code.{code_sizes}
+use lib.ListN.{length}
+use Prim.Native.Nat.{◌-◌}
+use Rattle.truth_heads.proofs.support_of.Given as goal
+
+abbrev pub invariant-loop-r : goal.invariant-loop-r
+invariant-loop-r l = Visited (value_in l.assignment) (code_sizes (code_in l.table)) (heads_of (code_in l.table)) l.a.0 l.founds l.r.0 l.each l.some
+
+abbrev pub decreases-loop-r : goal.decreases-loop-r
+decreases-loop-r l = length (heads_of (code_in l.table)) - rules_before (length (heads_of (code_in l.table))) l.r.0

@@ -1,0 +1,14 @@
+use Rattle.truth_literals.proofs.BitLaws.{next_bit}
+use Rattle.truth_literals.proofs.Values.{positive_size, negated_size, says}
+use Rattle.encoding.specs.Literal.{var, −◌}
+use native.Mathlib.Omega.{arith}
+use Rattle.truth_literals.proofs.next_bit_holds.Goals as goal
+
+pub pairs_hold-requires : goal.pairs_hold-requires
+pairs_hold-requires c = omega (arith, positive_size c.literal-z.type_inv c.literal-z.ensures, positive_size c.literal-x.type_inv c.literal-x.ensures, positive_size c.literal-y.type_inv c.literal-y.ensures, positive_size c.literal-g.type_inv c.literal-g.ensures, negated_size c.args.c.z.0 c.negated-no_z.type_inv c.negated-no_z.ensures, negated_size c.args.c.x.0 c.negated-no_x.type_inv c.negated-no_x.ensures, negated_size c.args.c.y.0 c.negated-no_y.type_inv c.negated-no_y.ensures, negated_size c.args.c.g.0 c.negated-no_g.type_inv c.negated-no_g.ensures, c.requires.g_in (λ e. omega (arith, e)))
+
+pub pairs_hold-requires-2 : goal.pairs_hold-requires-2
+pairs_hold-requires-2 c = omega (arith, positive_size c.literal-z.type_inv c.literal-z.ensures, positive_size c.literal-x.type_inv c.literal-x.ensures, positive_size c.literal-y.type_inv c.literal-y.ensures, positive_size c.literal-g.type_inv c.literal-g.ensures, negated_size c.args.c.z.0 c.negated-no_z.type_inv c.negated-no_z.ensures, negated_size c.args.c.x.0 c.negated-no_x.type_inv c.negated-no_x.ensures, negated_size c.args.c.y.0 c.negated-no_y.type_inv c.negated-no_y.ensures, negated_size c.args.c.g.0 c.negated-no_g.type_inv c.negated-no_g.ensures, c.requires.g_in (λ e. omega (arith, e)))
+
+pub returns : goal.returns
+returns c = next_bit c.args.assignment.now c.args.c (says (var _) c.literal-z.type_inv c.literal-z.ensures c.requires.z_in.0) (says (var _) c.literal-x.type_inv c.literal-x.ensures c.requires.x_in.0) (says (var _) c.literal-y.type_inv c.literal-y.ensures c.requires.y_in.0) (says (− _) c.negated-no_z.type_inv c.negated-no_z.ensures c.requires.z_in.0) (says (− _) c.negated-no_x.type_inv c.negated-no_x.ensures c.requires.x_in.0) (says (− _) c.negated-no_y.type_inv c.negated-no_y.ensures c.requires.y_in.0) (says (var _) c.literal-g.type_inv c.literal-g.ensures (c.requires.g_in (λ e. omega (arith, e))).0) (says (− _) c.negated-no_g.type_inv c.negated-no_g.ensures (c.requires.g_in (λ e. omega (arith, e))).0) c.pairs_hold.ensures c.pairs_hold-2.ensures
