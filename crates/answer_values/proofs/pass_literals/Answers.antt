@@ -1,5 +1,4 @@
 use Rattle.answer_values.proofs.Passing.{stays, passes_done}
-use Rattle.answer_values.proofs.Taking.{}
 use Rattle.answer_values.proofs.pass_literals.Goals as goal
 
 pub returns-in_default : goal.returns-in_default

@@ -1,4 +1,3 @@
-use Rattle.answer_values.proofs.Taking.{}
 use Rattle.answer_values.proofs.OnePass.{next_stays, next_put}
 use Prim.Native.Nat.{◌^◌, ◌<◌}
 use lib.IntN.{ℤ, nat_abs}

@@ -1,5 +1,3 @@
-use Rattle.clause_layout.proofs.Groups.{rule1, rule6, body_asks, supported_asks, implied_asks, zero_asks, next_asks, rule_asks, founded_asks, rule_fits_lem, span_asks}
-use Rattle.clause_layout.proofs.Groups.{held_in, slot_body, slot_supported, slot_implied, slot_zero, slot_next, slot_rule, slot_last}
 use Rattle.clause_layout.proofs.Groups.{rule1, rule6, body_asks, supported_asks, implied_asks, zero_asks, next_asks, rule_asks, founded_asks, rule_fits_lem, span_asks, held_in, slot_body, slot_supported, slot_implied, slot_zero, slot_next, slot_rule, slot_last}
 use Rattle.clause_layout.proofs.BlockChains.{block_five, slot_chain}
 use native.Mathlib.Omega.{arith}

@@ -1,5 +1,4 @@
 use Rattle.clause_numerals.proofs.Numerals.{number_back, opposite_is, opposite_asks}
-use Rattle.clause_numerals.proofs.Numerals.{opposite_is, opposite_asks}
 use Rattle.clause_literals.proofs.Signed.{read_back}
 use Rattle.clause_numerals.proofs.opposite.Goals as goal
 

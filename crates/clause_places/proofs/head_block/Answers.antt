@@ -1,5 +1,4 @@
-use Rattle.clause_heads.proofs.NextHeads.{front_fits}
-use Rattle.clause_heads.proofs.NextHeads.{next_in}
+use Rattle.clause_heads.proofs.NextHeads.{front_fits, next_in}
 use Rattle.clause_heads.specs.NextHead.{next_head}
 use Rattle.clause_places.proofs.HeadBlock.{head_block_is}
 use Prim.Native.Nat.{ℕ}

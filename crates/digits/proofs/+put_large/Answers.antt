@@ -6,9 +6,9 @@ use Rattle.digits.proofs.+put_large.Goals as goal
 
 pub put_large-k-requires : goal.put_large-k-requires
 put_large-k-requires t c = (
-    omega (arith, c.decreases, c.if-n-lt10000.false),
-    omega (arith, length_large c.args.n (omega (arith, c.if-n-lt10000.false)), c.requires),
-  )
+  omega (arith, c.decreases, c.if-n-lt10000.false),
+  omega (arith, length_large c.args.n (omega (arith, c.if-n-lt10000.false)), c.requires),
+)
 
 pub bounds-buf-k : goal.bounds-buf-k
 bounds-buf-k t c = omega (arith, length_large c.args.n (omega (arith, c.if-n-lt10000.false)), c.put_large-k.ensures.count, c.requires)

@@ -12,7 +12,7 @@ pub overflow_add-result : goal.overflow_add-result
 overflow_add-result c = omega (arith, c.decimal_length-k.ensures, decimal_ten c.magnitude.result (omega (arith, c.magnitude.type_inv)))
 
 pub returns-then-is_negative : goal.returns-then-is_negative
-returns-then-is_negative c = 
+returns-then-is_negative c =
     let s = c in
     let text = text_negative s.args.x _ _ _ (to_z-of_z s.ranges.x) c.is_negative.ensures c.if-is_negative.true c.magnitude.ensures in
     omega (arith, c.decimal_length-k.ensures, ap (λ (t : List ℕ). length t) text)
@@ -21,7 +21,7 @@ pub overflow_add-result-2 : goal.overflow_add-result-2
 overflow_add-result-2 c = omega (arith, c.decimal_length-k.ensures, decimal_ten c.magnitude.result (omega (arith, c.magnitude.type_inv)))
 
 pub returns : goal.returns
-returns c = 
+returns c =
     let s = c in
     let text = text_positive s.args.x _ _ _ (to_z-of_z s.ranges.x) c.is_negative.ensures c.if-is_negative.false c.magnitude.ensures in
     omega (arith, c.decimal_length-k.ensures, ap (λ (t : List ℕ). length t) text)

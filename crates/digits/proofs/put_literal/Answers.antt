@@ -3,7 +3,7 @@ use Rattle.digits.proofs.Wrote.{room_as, wrote_as}
 use Rattle.digits.proofs.Lengths.{decimal_ten}
 use Rattle.text.specs.Decimal.{decimal}
 use mathlib.Core.Path.{sym}
-use mathlib.Core.List.{[], ◌∷◌}
+use mathlib.Core.List.{◌∷◌}
 use lib.ListN.{length-append}
 use mir.Facts.{to_z-of_z}
 use native.Mathlib.Omega.{arith}
@@ -22,15 +22,15 @@ pub put_number-requires : goal.put_number-requires
 put_number-requires c = any_tail c.args.buf.now (word_negative (to_z-of_z c.ranges.x) c.is_negative.ensures c.if-is_negative.true c.magnitude-n.ensures) c.requires.1 _
 
 pub overflow_add-result : goal.overflow_add-result
-overflow_add-result c = 
+overflow_add-result c =
     omega (arith, c.put_number.ensures.count, length-append (decimal c.magnitude-n.result) (32 ∷ []), decimal_ten c.magnitude-n.result (omega (arith, c.magnitude-n.type_inv)))
 
 pub shape_of-buf-then-is_negative : goal.shape_of-buf-then-is_negative
-shape_of-buf-then-is_negative c = 
+shape_of-buf-then-is_negative c =
     any_kept c.args.buf.now (word_negative (to_z-of_z c.ranges.x) c.is_negative.ensures c.if-is_negative.true c.magnitude-n.ensures) c.requires.1 _ c.put_number.ensures
 
 pub returns-then-is_negative : goal.returns-then-is_negative
-returns-then-is_negative c = 
+returns-then-is_negative c =
     any_put c.args.buf.now (word_negative (to_z-of_z c.ranges.x) c.is_negative.ensures c.if-is_negative.true c.magnitude-n.ensures) c.requires.1 _ c.put_number.ensures (omega arith)
 
 pub put_number-requires-2 : goal.put_number-requires-2

@@ -19,7 +19,7 @@ pub bounds-buf-1 : goal.bounds-buf-1
 bounds-buf-1 c = search (rules, digits_room c.args.buf.now 1 c.args.n c.if-n-lt10.false c.requires.1)
 
 pub returns-then-n-lt100 : goal.returns-then-n-lt100
-returns-then-n-lt100 c = 
+returns-then-n-lt100 c =
     let b = c.args.buf.now in
     let n = c.args.n in
     let r = digits_room b 1 n c.if-n-lt10.false c.requires.1 in
@@ -36,7 +36,7 @@ pub bounds-buf-2 : goal.bounds-buf-2
 bounds-buf-2 c = search (rules, digits_room c.args.buf.now 2 c.args.n c.if-n-lt100.false c.requires.1)
 
 pub returns-then-n-lt1000 : goal.returns-then-n-lt1000
-returns-then-n-lt1000 c = 
+returns-then-n-lt1000 c =
     let b = c.args.buf.now in
     let n = c.args.n in
     let r = digits_room b 2 n c.if-n-lt100.false c.requires.1 in
@@ -57,7 +57,7 @@ pub bounds-buf-3 : goal.bounds-buf-3
 bounds-buf-3 c = search (rules, digits_room c.args.buf.now 3 c.args.n c.if-n-lt1000.false c.requires.1)
 
 pub returns : goal.returns
-returns c = 
+returns c =
     let b = c.args.buf.now in
     let n = c.args.n in
     let r = digits_room b 3 n c.if-n-lt1000.false c.requires.1 in

@@ -1,6 +1,5 @@
 use mathlib.Core.Path.{◌≡◌}
 use lib.ListN.{length}
-use mathlib.Core.Path.{◌≡◌}
 use Rattle.files.proofs.Count.{Reads, ahead}
 use Rattle.files.proofs.read_open.Given as goal
 

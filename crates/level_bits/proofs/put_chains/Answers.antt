@@ -1,6 +1,6 @@
 use borrow.Author.Rules.{rules}
 use Rattle.clause_tables.specs.declared.Totals.{Totals}
-use mathlib.Core.Path.{ap}
+use mathlib.Core.Path.{ap, refl}
 use Rattle.clause_table_laws.proofs.Cells.{arrays}
 use native.Mathlib.Omega.{arith}
 use Rattle.clause_tables.specs.Tables.{code_in}
@@ -8,7 +8,6 @@ use Rattle.level_lists.specs.Bytes.{level_byte}
 use Rattle.level_bits.specs.Bits.{pair_at_bytes}
 use Rattle.level_bits.proofs.Pairs.{pairs_asks, pairs_in, pairs_done}
 use Rattle.digits.proofs.Wrote.{wrote_none, wrote_row, row_start, row_room, row_sum, rows_whole, rows_kept}
-use mathlib.Core.Path.{refl}
 use Rattle.level_bits.proofs.put_chains.Goals as goal
 
 pub loop-k-init : goal.loop-k-init
@@ -36,6 +35,6 @@ pub shape_of-buf : goal.shape_of-buf
 shape_of-buf c = rows_kept (pair_at_bytes (code_in c.args.table.now) c.args.w (level_byte c.args.levels.now)) (pairs_in (arrays c.requires.0) c.loop-k.k c.loop-k.invariant.0) c.requires.2 c.loop-k.invariant.1
 
 pub returns : goal.returns
-returns c = 
+returns c =
     let q = pairs_done (arrays c.requires.0) c.loop-k.k c.loop-k.invariant.0 (omega (arith, c.loop-k-test.false, ap (λ (t : Totals). t.pairs) c.totals-t.ensures)) in
     rows_whole (pair_at_bytes (code_in c.args.table.now) c.args.w (level_byte c.args.levels.now)) q.0 q.1 c.loop-k.invariant.1

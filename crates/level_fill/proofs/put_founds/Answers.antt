@@ -31,6 +31,6 @@ pub shape_of-buf : goal.shape_of-buf
 shape_of-buf c = put_kept (founds_at (code_in c.args.table.now) (set_in (atoms_in c.args.table.now) c.args.set.now) (level_byte c.args.levels.now)) (length (code_in c.args.table.now).rules) c.requires.3 c.loop-r.invariant.1 (rules_in_lem (arrays c.requires.0) c.loop-r.r c.loop-r.invariant.0)
 
 pub returns : goal.returns
-returns c = 
+returns c =
     let q = rules_done (arrays c.requires.0) c.loop-r.r c.loop-r.invariant.0 (omega (arith, c.loop-r-test.false, ap (λ (t : Totals). t.sizes.m) c.totals-t.ensures)) in
     put_all (founds_at (code_in c.args.table.now) (set_in (atoms_in c.args.table.now) c.args.set.now) (level_byte c.args.levels.now)) (length (code_in c.args.table.now).rules) c.requires.3 c.loop-r.invariant.1 q.0 q.1 c.wide.ensures

@@ -18,7 +18,7 @@ pub slice_bounds-write_all-end : goal.slice_bounds-write_all-end
 slice_bounds-write_all-end c = c.next_part-part.ensures.counts.1
 
 pub overflow_add-said : goal.overflow_add-said
-overflow_add-said c = 
+overflow_add-said c =
     let s = c.next_part-part.ensures.stands in
     omega (arith, s.bounded, s.within, total_short (told c.requires c.totals-t.ensures), total_is (told c.requires c.totals-t.ensures))
 

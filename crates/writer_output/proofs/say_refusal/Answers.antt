@@ -7,7 +7,7 @@ use Rattle.fixed_lines.specs.Lines.{refused_text}
 use Rattle.writer_output.proofs.say_refusal.Goals as goal
 
 pub put_refusal-n-requires : goal.put_refusal-n-requires
-put_refusal-n-requires c = 
+put_refusal-n-requires c =
     omega (arith, refused_small c.text_number.result c.text_spot.result (omega (arith, c.text_number.type_inv)) (omega (arith, c.text_spot.type_inv)))
 
 pub slice_bounds-out-end : goal.slice_bounds-out-end

@@ -18,7 +18,7 @@ pub overflow_add-out-in-loop-i-2 : goal.overflow_add-out-in-loop-i-2
 overflow_add-out-in-loop-i-2 c = omega arith
 
 pub bounds-out-i-in-loop-i : goal.bounds-out-i-in-loop-i
-bounds-out-i-in-loop-i c = 
+bounds-out-i-in-loop-i c =
     let l = c.loop-i in omega (arith, length-set l.out (l.i + l.i) c.high_digit.result)
 
 pub overflow_add-i : goal.overflow_add-i
