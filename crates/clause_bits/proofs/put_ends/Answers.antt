@@ -2,7 +2,7 @@ use Rattle.clause_bits.specs.BitTexts.{ends_text}
 use Rattle.clause_numerals.specs.Numerals.{held}
 use Rattle.digits.proofs.Wrote.{room_front, wrote_after, after_start, after_room, after_sum, after_kept}
 use Rattle.digits.specs.Bytes.{line_text}
-use mathlib.Core.List.{◌∷◌}
+use mathlib.Core.List.{[], ◌∷◌}
 use borrow.Author.Rules.{rules}
 use Rattle.clause_bits.proofs.put_ends.Goals as goal
 

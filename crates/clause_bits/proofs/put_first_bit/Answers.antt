@@ -4,7 +4,7 @@ use Rattle.clause_bits.specs.BitTexts.{starts_text}
 use Rattle.clause_numerals.specs.Numerals.{held}
 use Rattle.digits.proofs.Wrote.{room_as, room_front, wrote_as, wrote_after, after_start, after_room, after_sum, after_kept}
 use Rattle.digits.specs.Bytes.{line_text}
-use mathlib.Core.List.{◌∷◌}
+use mathlib.Core.List.{[], ◌∷◌}
 use borrow.Author.Rules.{rules}
 use Rattle.clause_bits.proofs.put_first_bit.Goals as goal
 

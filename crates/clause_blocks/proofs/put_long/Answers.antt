@@ -3,7 +3,7 @@ use Rattle.clause_numerals.specs.Numerals.{held}
 use Rattle.digits.proofs.Wrote.{room_front, wrote_after, after_start, after_room, after_sum, after_kept}
 use Rattle.digits.specs.Bytes.{line_text}
 use Rattle.clause_literals.specs.Sizes.{sizes_of}
-use mathlib.Core.List.{◌∷◌}
+use mathlib.Core.List.{[], ◌∷◌}
 use borrow.Author.Rules.{rules}
 use Rattle.clause_blocks.proofs.put_long.Goals as goal
 

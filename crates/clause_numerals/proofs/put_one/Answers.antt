@@ -1,6 +1,7 @@
 use native.Mathlib.Omega.{arith}
 use lib.Seq.{lt-length-set}
 use Rattle.clause_numerals.proofs.Numerals.{cons_front, one_room, one_put}
+use mathlib.Core.List.{[]}
 use mathlib.Core.Path.{refl}
 use borrow.Author.Rules.{rules}
 use Rattle.clause_numerals.proofs.put_one.Goals as goal

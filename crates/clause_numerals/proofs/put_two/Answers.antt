@@ -2,7 +2,7 @@ use Rattle.clause_numerals.proofs.Numerals.{line_cons}
 use Rattle.clause_numerals.specs.Numerals.{held}
 use Rattle.digits.proofs.Wrote.{room_as, room_front, wrote_as, wrote_after, after_start, after_room, after_sum, after_kept}
 use Rattle.digits.specs.Bytes.{literal_text, line_text}
-use mathlib.Core.List.{◌∷◌, ◌++◌}
+use mathlib.Core.List.{[], ◌∷◌, ◌++◌}
 use borrow.Author.Rules.{rules}
 use Rattle.clause_numerals.proofs.put_two.Goals as goal
 

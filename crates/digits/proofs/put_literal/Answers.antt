@@ -3,7 +3,7 @@ use Rattle.digits.proofs.Wrote.{room_as, wrote_as}
 use Rattle.digits.proofs.Lengths.{decimal_ten}
 use Rattle.text.specs.Decimal.{decimal}
 use mathlib.Core.Path.{sym}
-use mathlib.Core.List.{◌∷◌}
+use mathlib.Core.List.{[], ◌∷◌}
 use lib.ListN.{length-append}
 use mir.Facts.{to_z-of_z}
 use native.Mathlib.Omega.{arith}

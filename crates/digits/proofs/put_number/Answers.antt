@@ -1,7 +1,7 @@
 use Rattle.digits.proofs.Wrote.{wrote_byte, wrote_kept, byte_room, room_front}
 use Rattle.digits.proofs.Lengths.{decimal_fits}
 use Rattle.text.specs.Decimal.{decimal}
-use mathlib.Core.List.{◌∷◌}
+use mathlib.Core.List.{[], ◌∷◌}
 use native.Mathlib.Omega.{arith}
 use Rattle.digits.proofs.put_number.Goals as goal
 

@@ -1,4 +1,5 @@
 use mathlib.Core.Path.{refl}
+use mathlib.Core.List.{[]}
 use Rattle.files.proofs.Count.{none_read}
 use Rattle.files.proofs.no_bytes.Goals as goal
 

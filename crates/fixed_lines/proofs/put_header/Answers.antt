@@ -2,7 +2,7 @@ use Rattle.fixed_lines.proofs.Parts.{header_parts}
 use Rattle.digits.proofs.Wrote.{room_as, room_front, wrote_as, wrote_after, after_start, after_room, after_sum, after_kept}
 use Rattle.text.specs.Decimal.{decimal}
 use Rattle.lists.specs.Ascii.{ascii}
-use mathlib.Core.List.{◌∷◌, ◌++◌}
+use mathlib.Core.List.{[], ◌∷◌, ◌++◌}
 use mathlib.Core.Path.{sym}
 use borrow.Author.Rules.{rules}
 use Rattle.fixed_lines.proofs.put_header.Goals as goal

@@ -1,6 +1,6 @@
 use Rattle.digits.proofs.Wrote.{room_front, wrote_after, after_start, after_room, after_sum, after_kept}
 use Rattle.text.specs.Decimal.{decimal}
-use mathlib.Core.List.{◌∷◌, ◌++◌}
+use mathlib.Core.List.{[], ◌∷◌, ◌++◌}
 use borrow.Author.Rules.{rules}
 use Rattle.fixed_lines.proofs.put_named.Goals as goal
 
