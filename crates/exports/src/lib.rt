@@ -1,4 +1,4 @@
-// The functions that C, Rust and other languages call (include/quadrensolo.h): thin, over numbers and byte slices.
+// The functions that C, Rust and other languages call: thin, over numbers and byte slices. exports_c exports them to C (include/quadrensolo.h).
 #![tactic(auto)]
 
 ghost use Rattle.std.specs.Prelude.{◌≡◌};
@@ -15,8 +15,7 @@ use reader::ReadVerdict;
 use refusals::{text_number, text_spot};
 
 // Reads a program text: V and C.
-#[unsafe(no_mangle)]
-pub extern "C" fn qs_read(text: &[u8]) -> Reply
+pub fn qs_read(text: &[u8]) -> Reply
     ensures { result ≡ read_reply text.now }
 {
     let x = read_totals(text);
@@ -28,8 +27,7 @@ pub extern "C" fn qs_read(text: &[u8]) -> Reply
 }
 
 // Line j of the text's clause file, written into the buffer from `place` on: its length.
-#[unsafe(no_mangle)]
-pub extern "C" fn qs_line(text: &[u8], j: usize, place: usize, buf: &mut [u8]) -> Reply
+pub fn qs_line(text: &[u8], j: usize, place: usize, buf: &mut [u8]) -> Reply
     ensures { answered result buf.new ≡ line_replied text.now j place buf.old }
 {
     let v = line(text, j, place, &mut *buf);
@@ -37,8 +35,7 @@ pub extern "C" fn qs_line(text: &[u8], j: usize, place: usize, buf: &mut [u8]) -
 }
 
 // As many whole lines as fit the buffer, from line j on: how many lines, and how many bytes.
-#[unsafe(no_mangle)]
-pub extern "C" fn qs_run(text: &[u8], j: usize, buf: &mut [u8]) -> Reply
+pub fn qs_run(text: &[u8], j: usize, buf: &mut [u8]) -> Reply
     ensures { answered result buf.new ≡ run_replied text.now j buf.old }
 {
     let v = run(text, j, &mut *buf);
@@ -46,13 +43,7 @@ pub extern "C" fn qs_run(text: &[u8], j: usize, buf: &mut [u8]) -> Reply
 }
 
 // The check of a solver answer: how many atoms are true, the highest level, and how many variables the answer left out.
-#[unsafe(no_mangle)]
-pub extern "C" fn qs_check(
-    text: &[u8],
-    answer: &[u8],
-    assignment: &mut [u8],
-    levels: &mut [u8],
-) -> Reply
+pub fn qs_check(text: &[u8], answer: &[u8], assignment: &mut [u8], levels: &mut [u8]) -> Reply
     ensures { called result assignment.new levels.new
         ≡ check_replied text.now answer.now assignment.old levels.old }
 {
@@ -61,13 +52,7 @@ pub extern "C" fn qs_check(
 }
 
 // Filling out a proposed set of atoms: how many atoms are true, and the highest level.
-#[unsafe(no_mangle)]
-pub extern "C" fn qs_fill(
-    text: &[u8],
-    set: &[u8],
-    assignment: &mut [u8],
-    levels: &mut [u8],
-) -> Reply
+pub fn qs_fill(text: &[u8], set: &[u8], assignment: &mut [u8], levels: &mut [u8]) -> Reply
     ensures { called result assignment.new levels.new
         ≡ fill_replied text.now set.now assignment.old levels.old }
 {
