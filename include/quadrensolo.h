@@ -1,6 +1,6 @@
 /* Quadrensolo: ground normal logic programs as clauses for a SAT solver, the check of the solver's answer, and filling out a proposed set of atoms.
  *
- * Build the library with `rt staticlib exports` and link target/staticlib/libexports.a. The archive is for x86-64 Linux, and it calls memcpy and memset
+ * Build the library with `tools/build archive` and link target/staticlib/libexports.a. The archive is for x86-64 Linux, and it calls memcpy and memset
  * alone.
  *
  * For every function:

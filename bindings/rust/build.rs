@@ -17,7 +17,7 @@ fn main() {
     println!("cargo:rerun-if-changed={}", archive.display());
     if !archive.is_file() {
         eprintln!(
-            "{} is missing: build it with `rt staticlib exports`, or set QS_LIB_DIR to the folder that has it.",
+            "{} is missing: build it with `tools/build archive`, or set QS_LIB_DIR to the folder that has it.",
             archive.display()
         );
         std::process::exit(1);

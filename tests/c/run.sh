@@ -5,7 +5,7 @@ cd "$(dirname "$0")/../.."
 archive=target/staticlib/libexports.a
 mkdir -p target/c
 if [ ! -f "$archive" ] || [ -n "$(find crates -name '*.rt' -newer "$archive")" ]; then
-    rt staticlib exports >target/c/staticlib.log 2>&1 || { cat target/c/staticlib.log >&2; exit 1; }
+    tools/build archive >target/c/staticlib.log 2>&1 || { cat target/c/staticlib.log >&2; exit 1; }
 fi
 "${CC:-gcc}" -std=c99 -O2 -Wall -Wextra -Werror -Iinclude tests/c/smoke.c "$archive" -o target/c/smoke
 target/c/smoke

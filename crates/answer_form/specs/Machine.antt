@@ -1,6 +1,6 @@
 -- An automaton over bytes, with numbers for states: one of them is dead, and no byte leads out of it.
 --   accepted_by step final q t  from state q the bytes t end in a final state
---   read_by step dead q t        how many bytes of t are read from state q before the dead state; all of them where t stops short
+--   read_by step dead q t       how many bytes of t are read from state q before the dead state; all of them where t stops short
 -- Assumes nothing.
 use Rattle.std.specs.Prelude.{ℕ, suc, Bool, cond, List, [], ◌∷◌, eqb}
 

@@ -7,7 +7,7 @@
 --   digits_value v t  the number of v's digits and the digits at the front of t
 --   capped_value m v t the same, of which no more than m is kept
 --   behind_digits i t  the index after the digits at the front of t
---   next_literal t p  the next literal from position p on, the index of its first byte and the position after it; or literal 0 and the index after
+--   next_literal t p   the next literal from position p on, the index of its first byte and the position after it; or literal 0 and the index after
 --                     it; or the spot where t leaves the form
 --   close_of t i      whether only a line end and c lines stand from i on; or the spot where t leaves the form
 --   Reads t p xs c    from position p on the literals are xs, with the indices of their first bytes, and then the text ends as c says

@@ -6,7 +6,7 @@
 --   offered bs          the answer with these literals in one v line, without comments
 --   offered_text bs     its text
 --   is_positive v l     l is the positive literal of variable v
---   values_of n xs       the values of variables 1 to n by the literals xs: v has the value true if its positive literal is one of them
+--   values_of n xs      the values of variables 1 to n by the literals xs: v has the value true if its positive literal is one of them
 --   LiteralsTrue xs bs  each literal of xs is true where the variables have the values bs
 --   Completes n xs bs   bs are n values that make each literal of xs true, and a variable that no literal of xs names is false: the completed assignment
 -- Assumes nothing.

@@ -53,7 +53,8 @@ abbrev pub check_refused : CheckRefusal → Result CheckRefusal
 check_refused r = Result.refused r
 
 unfoldable pub values_judged : Code → ℕ → List ℕ → Result CheckRefusal
-values_judged G c bs = cond (ltb 0 (code_first_false G bs)) (check_refused (FalseClause (code_first_false G bs))) (Result.accepted c bs (counters (code_sizes G) bs))
+values_judged G c bs =
+    cond (ltb 0 (code_first_false G bs)) (check_refused (FalseClause (code_first_false G bs))) (Result.accepted c bs (counters (code_sizes G) bs))
 
 abbrev pub completed_result : Code → List ℕ → Result CheckRefusal
 completed_result G bs = values_judged G (unset_count (variables_of G) bs) (completed bs)

@@ -7,7 +7,7 @@
 -- Assumes nothing.
 use Rattle.std.specs.Prelude.{ℕ, ◌≤◌, ◌<◌, ◌≡◌, cond, List, ◌++◌, length, get_or, drop}
 use Rattle.std.proofs.Math.Bool.{So}
-use Rattle.lists.specs.Lists.{tab, sum, highest as highestOf}
+use Rattle.lists.specs.Lists.{tab, sum, highest as highest_of}
 use Rattle.meaning.specs.Program.{Program, is_atom}
 use Rattle.meaning.specs.Stage.{Stable, least_model, level}
 use Rattle.encoding.specs.Width.{width}
@@ -58,6 +58,6 @@ pub record Fills (t s b l : List ℕ) (k h : ℕ) (P : Program) : Type 0 where
   pub bytes : (i : ℕ) → i < length s → get_or s i 0 ≤ 1
   pub stable : Stable P (set_in P.atoms s)
   pub count_is : k ≡ sum P.atoms (λ a. cond (set_in P.atoms s a) 1 0)
-  pub highest_is : h ≡ highestOf P.atoms (level P (set_in P.atoms s))
+  pub highest_is : h ≡ highest_of P.atoms (level P (set_in P.atoms s))
   pub assignment_is : fill_assignment t s b (length l) ≡ value_bytes (fill P (width P.atoms) (set_in P.atoms s)) ++ drop (var_total P) b
   pub levels_is : fill_levels t s (length b) l ≡ tab P.atoms (level P (set_in P.atoms s)) ++ drop P.atoms l

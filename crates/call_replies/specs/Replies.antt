@@ -3,8 +3,8 @@
 --   accepted_reply a b c, refused_reply r s  the two kinds of reply
 --   totals_reply P            V and C of the program P
 --   of_reading v P            the reply for the reader's verdict, where P is the program
---   of_line, of_run, of_check, of_fill  the reply for a verdict: a line's length; lines and bytes; true atoms and highest level, twice, and for the check how many
---                             variables were left out
+--   of_line, of_run, of_check, of_fill  the reply for a verdict: a line's length; lines and bytes; true atoms and highest level, twice, and for the check
+--                             how many variables were left out
 -- Assumes nothing.
 use Rattle.std.specs.Prelude.{ℕ}
 use Rattle.meaning.specs.Program.{Program}

@@ -1,5 +1,5 @@
 -- The checker's output (document 01, "Programs"; document 02, Q-3).
---   checker_refusal_line v         the line of a refusal, nothing for a model
+--   checker_refusal_line v          the line of a refusal, nothing for a model
 --   checker_verdict_text n v bs ls  the lines of the verdict v, for n atoms and the values bs and levels ls that the check has left in its buffers: those of a
 --                                  model, with the number of variables that were assumed; or the line of a refusal
 --   result_text G x                the lines of the result x, for the code G and buffers of zeros, 9,890 and 126 of them

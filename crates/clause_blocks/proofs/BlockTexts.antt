@@ -1,7 +1,7 @@
 -- The blocks of groups 4 and 5, in a code whose tables are given.
 --   bit_block_lem, next_block  the lines of a chain's bit, and of a block of group 4, are those of the walk's block
---   bit_short               the variables of the bit are from 1 to 9,999
---   next_block_asks         what `put_next_block` asks
+--   bit_short                  the variables of the bit are from 1 to 9,999
+--   next_block_asks            what `put_next_block` asks
 -- Assumes nothing.
 use Prim.Native.Nat.{ℕ, suc, ◌*◌, ◌≤◌, ◌<◌}
 use native.Mathlib.Omega.{arith}

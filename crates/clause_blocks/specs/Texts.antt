@@ -1,12 +1,12 @@
 -- The lines of whole blocks of group 4, the next levels, from their literals.
---   lower_word S a j         -v(a,j) and one space
---   lower_text S a k         -v(a,1) to -v(a,k), each followed by one space
---   pair_text x u v          the two lines of a lower bit, whose variable is x
---   pair_at S a u v j         those of bit j
---   pairs_text S a k u v     those of the k lowest bits
---   long_text S a k u v      the line of the k lower bits, negated, and of u and v
---   longs_text S a k u v     this with u and v negated, and as they are
---   next_block_text S a i    the lines of block i of atom a
+--   lower_word S a j       -v(a,j) and one space
+--   lower_text S a k       -v(a,1) to -v(a,k), each followed by one space
+--   pair_text x u v        the two lines of a lower bit, whose variable is x
+--   pair_at S a u v j      those of bit j
+--   pairs_text S a k u v   those of the k lowest bits
+--   long_text S a k u v    the line of the k lower bits, negated, and of u and v
+--   longs_text S a k u v   this with u and v negated, and as they are
+--   next_block_text S a i  the lines of block i of atom a
 -- Assumes nothing.
 use Rattle.std.specs.Prelude.{ℕ, pred, List, [], ◌∷◌, ◌++◌}
 use Rattle.lists.specs.Lists.{each}

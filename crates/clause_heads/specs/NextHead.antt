@@ -1,9 +1,9 @@
 -- The next rule whose head is an atom, by its index in the heads, and the slots without a literal.
---   next_head hs a i   the first index of hs, from i on, where a stands; if there is none, the length, or i where that is more
+--   next_head hs a i    the first index of hs, from i on, where a stands; if there is none, the length, or i where that is more
 --   is_at hs a i        a stands at index i
 --   among_eight hs a i  a stands at one of the eight indexes from i on
 --   past_others hs a l  how many slots of a's last clause are done once the empty ones after slot l are passed
---   past_empty         the same of any clause, from m and the heads
+--   past_empty          the same of any clause, from m and the heads
 -- Assumes nothing.
 use Rattle.std.specs.Prelude.{ℕ, suc, ◌+◌, ◌-◌, Bool, ◌||◌, cond, List, [], ◌∷◌, get_or, take, drop, eqb, ltb}
 
@@ -20,8 +20,8 @@ is_at hs a i = eqb (get_or hs i 0) a
 
 unfoldable pub among_eight : List ℕ → ℕ → ℕ → Bool
 among_eight hs a i =
-    (((((((is_at hs a i || is_at hs a (i + 1)) || is_at hs a (i + 2)) || is_at hs a (i + 3)) || is_at hs a (i + 4)) || is_at hs a (i + 5)) || is_at hs a (i + 6))
-    || is_at hs a (i + 7))
+    (((((((is_at hs a i || is_at hs a (i + 1)) || is_at hs a (i + 2)) || is_at hs a (i + 3)) || is_at hs a (i + 4)) || is_at hs a (i + 5))
+    || is_at hs a (i + 6)) || is_at hs a (i + 7))
 
 -- slots can be empty in the last clause of an atom in groups 2 and 7, where slot l is that of rule l − 1
 abbrev pub past_others : List ℕ → ℕ → ℕ → ℕ

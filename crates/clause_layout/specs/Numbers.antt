@@ -1,8 +1,8 @@
 -- Numbers of items, blocks and clauses, from the totals and the heads.
---   items_of t g       how many items group g has, from the totals
---   blocks_of s g     how many blocks an item of group g has, from the sizes
---   start_at ss r k    start k of rule r: where B begins (0), where C begins (1), where C ends (2)
---   implied_size      group 2: how many clauses block i of atom a has, from m and the heads
+--   items_of t g     how many items group g has, from the totals
+--   blocks_of s g    how many blocks an item of group g has, from the sizes
+--   start_at ss r k  start k of rule r: where B begins (0), where C begins (1), where C ends (2)
+--   implied_size     group 2: how many clauses block i of atom a has, from m and the heads
 -- Assumes nothing.
 use Rattle.std.specs.Prelude.{ℕ, suc, ◌+◌, ◌-◌, ◌*◌, cond, List, get_or, eqb, ltb}
 use Rattle.clause_literals.specs.declared.Sizes.{Sizes}

@@ -5,7 +5,7 @@ ghost use Rattle.std.specs.Prelude.{◌+◌, ◌-◌, ◌≤◌, ◌<◌, ◌≡
 ghost use Rattle.encoding.specs.Literal.{literal_number};
 ghost use Rattle.clause_literals.specs.Sizes.{sizes_of, Bounded};
 ghost use Rattle.clause_slots.specs.SlotNumber.{slot_number, rule_var};
-ghost use Rattle.clause_walk.specs.Walk.{slots1, slot1, of_head, size as size_at, slots as slotsAt, slot as slot_at};
+ghost use Rattle.clause_walk.specs.Walk.{slots1, slot1, of_head, size as size_at, slots as slots_at, slot as slot_at};
 ghost use Rattle.clause_tables.specs.Tables.{Ready, code_in, totals_in, heads_in, bodies_in, starts_in};
 ghost use Rattle.clause_walk.specs.Walk.{BlockAt, At};
 ghost use Rattle.clause_layout.specs.BlockChain.{chain_of_block};
@@ -147,7 +147,7 @@ pub fn size(table: &[u16], g: u16, a: u16, i: u16) -> u16
 // How many slots clause y of block i of item a of group g has.
 pub fn slots(table: &[u16], g: u16, a: u16, i: u16, y: u16) -> u16
     requires { (Ready table.now) × (At (code_in table.now) g a i y) }
-    ensures { result ≡ slotsAt (code_in table.now) g a i y }
+    ensures { result ≡ slots_at (code_in table.now) g a i y }
 {
     let t = totals(table);
     let s = t.sizes;
@@ -177,7 +177,7 @@ pub fn slots(table: &[u16], g: u16, a: u16, i: u16, y: u16) -> u16
 
 // The literal in slot l of that clause; 0 where the slot has none.
 pub fn slot(table: &[u16], g: u16, a: u16, i: u16, y: u16, l: u16) -> i32
-    requires { (Ready table.now) × (At (code_in table.now) g a i y) × (0 < l) × (l ≤ slotsAt (code_in table.now) g a i y) }
+    requires { (Ready table.now) × (At (code_in table.now) g a i y) × (0 < l) × (l ≤ slots_at (code_in table.now) g a i y) }
     ensures { result ≡ slot_number (slot_at (code_in table.now) g a i y l) }
 {
     let t = totals(table);

@@ -1,12 +1,12 @@
 -- The number of pairs, of rules with no positive body atom and of body atoms of a program, and their bounds.
 --   size_of, none_of  how many positive body atoms a rule has; 1 where it has none
---   atoms_held       the body atoms in all are those in the flat list
---   pairs_are        K is the sum of the sizes of the positive lists
---   pairs_few        the positive body atoms are at most all body atoms
---   pairs_held       the pairs of the first rules, with those of the next one, are at most the body atoms
---   count_few        K is at most 500
---   none_sum         of the first r rules at most r have no positive body atom
---   empty_few        at most as many rules with no positive body atom as rules
+--   atoms_held        the body atoms in all are those in the flat list
+--   pairs_are         K is the sum of the sizes of the positive lists
+--   pairs_few         the positive body atoms are at most all body atoms
+--   pairs_held        the pairs of the first rules, with those of the next one, are at most the body atoms
+--   count_few         K is at most 500
+--   none_sum          of the first r rules at most r have no positive body atom
+--   empty_few         at most as many rules with no positive body atom as rules
 -- Assumes nothing.
 use Prim.Native.Nat.{ℕ, zero, suc, ◌+◌, ◌≤◌, ◌<◌}
 use native.Mathlib.Omega.{arith}

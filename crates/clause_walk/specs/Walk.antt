@@ -2,14 +2,14 @@
 -- slots, each from 1; a slot holds a literal or none. Code goes from place to place by these numbers and stores no clause.
 --   body_group, head_group ..  each group: its items and blocks, and by item, block, clause and slot its clauses, slots and literals
 --   group_count, group_of G g  how many groups there are, and group g
---   item_count G g           how many items group g has
---   block_count G g          how many blocks an item of group g has
---   size G g a i             how many clauses block i of item a has
---   slots G g a i y          how many slots clause y of that block has
---   slot G g a i y l         the literal in slot l of that clause, if there is one
---   walked G                 all clauses, in the walk's order
---   BlockAt G g a i          group g has an item a, with a block i
---   At G g a i y             and that block has a clause y
+--   item_count G g             how many items group g has
+--   block_count G g            how many blocks an item of group g has
+--   size G g a i               how many clauses block i of item a has
+--   slots G g a i y            how many slots clause y of that block has
+--   slot G g a i y l           the literal in slot l of that clause, if there is one
+--   walked G                   all clauses, in the walk's order
+--   BlockAt G g a i            group g has an item a, with a block i
+--   At G g a i y               and that block has a clause y
 -- Assumes nothing.
 use Rattle.std.specs.Prelude.{ℕ, suc, pred, ◌+◌, ◌-◌, ◌*◌, ◌/◌, ◌%◌, ◌≤◌, ◌<◌, Bool, cond, List, [], ◌∷◌, ◌++◌, map, eqb, ltb, leb, length, get_or}
 use Rattle.lists.specs.Lists.{tab, each}

@@ -6,7 +6,7 @@
 --   SetOf n s M                 the bytes s, n of them and each 0 or 1, are those of the set M
 -- Assumes nothing.
 use Rattle.std.specs.Prelude.{ℕ, ◌≤◌, ◌<◌, ◌≡◌, Bool, cond, List, ◌++◌, length, get_or, drop}
-use Rattle.lists.specs.Lists.{tab, sum, highest as highestOf}
+use Rattle.lists.specs.Lists.{tab, sum, highest as highest_of}
 use Rattle.meaning.specs.Program.{Program, Atoms}
 use Rattle.meaning.specs.Stage.{level}
 use Rattle.encoding.specs.Fill.{true_atoms}
@@ -37,7 +37,7 @@ pub record Room (P : Program) (b l : List ℕ) : Type 0 where
 -- values and the level numbers; the bytes after them stay
 pub record CheckWrites (t : List ℕ) (P : Program) (bs : List Bool) (X : AcceptedAssignment t P bs) (b l : List ℕ) : Type 0 where
   pub answer_is : check_answer t X.answer (length b) (length l)
-      ≡ Model (sum P.atoms (λ a. cond (true_atoms P bs a) 1 0)) (highestOf P.atoms (level P (true_atoms P bs))) (assumed_number P X.literals)
+      ≡ Model (sum P.atoms (λ a. cond (true_atoms P bs a) 1 0)) (highest_of P.atoms (level P (true_atoms P bs))) (assumed_number P X.literals)
   pub assignment_is : check_assignment t X.answer b (length l) ≡ value_bytes bs ++ drop (var_total P) b
   pub levels_are : check_levels t X.answer (length b) l ≡ tab P.atoms (level P (true_atoms P bs)) ++ drop P.atoms l
 

@@ -1,10 +1,10 @@
 -- The clause list (document 01, "Clauses, in order"), clauses as derived, also where a literal meets its own negation.
---   sizes P w        the sizes of P with counters of w bits
---   pairs P          the pairs (body atom, head) in text order; pair_count P is K
---   pairs_of P r     the numbers of the pairs of rule r
---   rules_of P a     the numbers of the rules with head a
---   group1 P w ..    the groups of all rules, atoms or pairs
---   clauses P w      groups 1 to 7, in order
+--   sizes P w         the sizes of P with counters of w bits
+--   pairs P           the pairs (body atom, head) in text order; pair_count P is K
+--   pairs_of P r      the numbers of the pairs of rule r
+--   rules_of P a      the numbers of the rules with head a
+--   group1 P w ..     the groups of all rules, atoms or pairs
+--   clauses P w       groups 1 to 7, in order
 --   clause_count P w  document 01's formula for their number
 -- Assumes nothing.
 use Rattle.std.specs.Prelude.{ℕ, suc, pred, ◌+◌, ◌-◌, ◌*◌, cond, List, [], ◌∷◌, ◌++◌, map, eqb, length, get_or}

@@ -81,13 +81,21 @@ fn say_file(rt: &HostRuntime, name: &[u8]) {
     say_calls(name, &file[..n]);
 }
 
+// Prints what the file that argument k names gives, and answers whether there is such an argument. A name that is too long reads as the empty one.
+fn say_argument(rt: &HostRuntime, k: usize) -> bool {
+    let mut name = io::buffer();
+    match rt.arg(k, &mut name) {
+        Ok(n) => say_file(rt, &name[..n]),
+        Err(FillError::TooLong) => say_file(rt, b""),
+        Err(FillError::NotPresent) => return false,
+    }
+    true
+}
+
 fn main(rt: HostRuntime) {
     for k in 1..usize::MAX {
-        let mut name = io::buffer();
-        match rt.arg(k, &mut name) {
-            Ok(n) => say_file(&rt, &name[..n]),
-            Err(FillError::TooLong) => say_file(&rt, b""),
-            Err(FillError::NotPresent) => return,
+        if !say_argument(&rt, k) {
+            return;
         }
     }
 }

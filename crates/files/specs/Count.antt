@@ -1,10 +1,10 @@
 -- What is counted of an input, by the sizes of its reads. What a read gives is the C library's word; what is made of it is said here.
---   most_counted    65,536,000,000,000,000: a read that begins past it is taken for the end
---   first_read k    the first read has given k bytes, which are kept
---   read_on f n      one read more has given n bytes; none is the end of the input
---   read_all f ns    reads that have given ns bytes, one after the other
---   Counted f       f is what some reads give, the last of which met the end
---   bytes_in ns     how many bytes reads of ns bytes give in all
+--   most_counted   65,536,000,000,000,000: a read that begins past it is taken for the end
+--   first_read k   the first read has given k bytes, which are kept
+--   read_on f n    one read more has given n bytes; none is the end of the input
+--   read_all f ns  reads that have given ns bytes, one after the other
+--   Counted f      f is what some reads give, the last of which met the end
+--   bytes_in ns    how many bytes reads of ns bytes give in all
 -- Assumes nothing.
 use Rattle.std.specs.Prelude.{ℕ, ◌+◌, ◌*◌, ◌≡◌, Bool, true, false, cond, List, [], ◌∷◌, eqb, ltb}
 use Rattle.files.specs.declared.Front.{Front}

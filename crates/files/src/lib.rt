@@ -72,8 +72,8 @@ fn no_bytes() -> Front
     }
 }
 
-// Puts the front of the file named `path` into buf, and reads the rest to count it. A file that cannot be opened reads as no bytes, as does one whose name is not
-// UTF-8.
+// Puts the front of the file named `path` into buf, and reads the rest to count it. A file that cannot be opened reads as no bytes, as does one whose
+// name is not UTF-8.
 pub fn read_file(rt: &HostRuntime, path: &[u8], buf: &mut [u8]) -> Front
     requires { length buf.old ≤ 65537 }
     ensures { (IsPrefixLen result.kept buf.new) × (Counted result) }

@@ -1,5 +1,5 @@
 -- The first line of the clause file and the line of a refusal (document 01, "Clauses, in order").
---   header_text v c          "p cnf", v variables and c clauses in decimal, each after one space, then byte 10
+--   header_text v c           "p cnf", v variables and c clauses in decimal, each after one space, then byte 10
 --   refused_text number spot  "(refused", the number and the spot in decimal, each after one space, ")" and byte 10
 -- Assumes nothing.
 use Rattle.std.specs.Prelude.{ℕ, List, [], ◌∷◌, ◌++◌}

@@ -1,10 +1,10 @@
 -- Sets of atoms and levels as bytes, one for each atom, and what they say of the lists of a rule (document 01, "Meaning").
---   set_in n s               the atoms of 1 to n whose byte is not 0
---   level_byte ls a          the byte of atom a
---   is_within ls lo hi b     the byte of b is at least lo and below hi
---   list_of R k               the B of rule R where k is 0, its C otherwise
---   is_below ls i b          b has a level, and one below i
---   enters M ls i R          rule R is kept and each of its B has a level below i
+--   set_in n s            the atoms of 1 to n whose byte is not 0
+--   level_byte ls a       the byte of atom a
+--   is_within ls lo hi b  the byte of b is at least lo and below hi
+--   list_of R k           the B of rule R where k is 0, its C otherwise
+--   is_below ls i b       b has a level, and one below i
+--   enters M ls i R       rule R is kept and each of its B has a level below i
 -- Assumes nothing.
 use Rattle.std.specs.Prelude.{ℕ, pred, Bool, ◌&&◌, cond, List, eqb, leb, ltb, get_or}
 use Rattle.lists.specs.Lists.{all}

@@ -1,14 +1,14 @@
 -- Tests, tables and sums over plain lists, counted from 1 as document 01 counts.
---   all p xs, any p xs     each element passes the test; some element does
+--   all p xs, any p xs      each element passes the test; some element does
 --   all_to n g, any_to n g  each of the numbers 1 to n passes; some one does
---   tab n f                f 1, f 2, .., f n
---   each n f               f 1, then f 2, .., then f n, in one list
---   joined xss             the lists of xss, one after the other
---   keep p xs              the elements that pass, in their order
---   select n p             the numbers from 1 to n that pass
---   sum n f                f 1 + f 2 + .. + f n
---   highest n f            the highest of f 1, f 2, .., f n, 0 if n is 0
---   first n p              the first of the numbers 1 to n that passes, 0 if none does
+--   tab n f                 f 1, f 2, .., f n
+--   each n f                f 1, then f 2, .., then f n, in one list
+--   joined xss              the lists of xss, one after the other
+--   keep p xs               the elements that pass, in their order
+--   select n p              the numbers from 1 to n that pass
+--   sum n f                 f 1 + f 2 + .. + f n
+--   highest n f             the highest of f 1, f 2, .., f n, 0 if n is 0
+--   first n p               the first of the numbers 1 to n that passes, 0 if none does
 -- Assumes nothing.
 use Rattle.std.specs.Prelude.{ℕ, zero, suc, ◌+◌, max, Bool, true, false, ◌&&◌, ◌||◌, cond, List, [], ◌∷◌, ◌++◌}
 

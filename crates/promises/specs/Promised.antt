@@ -12,8 +12,8 @@
 --   10 The requests of document 02 (Q-2: literals tested where they arise; Q-3: solvers that leave variables out; Q-6: levels without gaps)
 --   11 The calls for other languages: what the number of a reply says
 -- What a statement names is found in the specs/ folders of the crates that the `use` lines give. Of the code it names only the calls' own definitions, as
--- `read_of`, `line_answer`, `check_answer` and `fill_answer` with the bytes that they leave; that the code meets them is said in proofs/Contracts.antt. Examples
--- are in proofs/Examples.antt.
+-- `read_of`, `line_answer`, `check_answer` and `fill_answer` with the bytes that they leave; that the code meets them is said in proofs/Contracts.antt.
+-- Examples are in proofs/Examples.antt.
 -- Letters: P is a program, n the number of its atoms, w a width, V and C the numbers of variables and clauses, M a set of atoms, a an atom, t a program text,
 -- u an answer, xs literals with the indices of their first bytes, s a spot or a set as bytes, b and l lent buffers, j a line's number, r a row of document
 -- 01's table.
@@ -22,7 +22,8 @@
 -- two programs read files and write to an output, through the C library's functions (open, read, write, close), whose contracts are axioms of the kit. What a
 -- file holds, and what becomes of the bytes that are handed over, is in no statement: those about the programs are about the bytes that they make of what they
 -- have read, `writer_text` and `checker_text`.
-use Rattle.std.specs.Prelude.{ℕ, zero, suc, pred, ◌+◌, ◌-◌, ◌^◌, ◌%◌, ◌≤◌, ◌<◌, ◌≡◌, ◌↔◌, ◌⊎◌, Bool, true, false, not, cond, List, [], ◌∷◌, ◌++◌, eqb, ltb, length, get_or, take, drop, replicate}
+use Rattle.std.specs.Prelude.{ℕ, zero, suc, pred, ◌+◌, ◌-◌, ◌^◌, ◌%◌, ◌≤◌, ◌<◌, ◌≡◌, ◌↔◌, ◌⊎◌, Bool, true, false, not, cond}
+use Rattle.std.specs.Prelude.{List, [], ◌∷◌, ◌++◌, eqb, ltb, length, get_or, take, drop, replicate}
 use Rattle.std.proofs.Math.Bool.{So}
 use Rattle.std.specs.Int.Count.{count_leading_zeros}
 use Rattle.lists.specs.Lists.{all, tab, joined, sum, highest}
@@ -190,7 +191,8 @@ pub record Demand3 (P : Program) (w : ℕ) : Type 0 where
 -- ---- 4 Demand 1, for program texts: the bytes t are any
 
 pub record ProgramText (t : List ℕ) : Type 0 where
-  -- a text has the form, `HasForm`, if it is what `text_of` prints for some number of atoms and some rules over arbitrary numbers; no two programs have one text
+  -- a text has the form, `HasForm`, if it is what `text_of` prints for some number of atoms and some rules over arbitrary numbers; no two programs have
+  -- one text
   pub one_program : (P Q : Program) → t ≡ text_of P → t ≡ text_of Q → P ≡ Q
   -- a text that does not have the form is malformed at one spot, and a text of the form at none
   pub malformed_somewhere : (HasForm t → ⊥) → (s : ℕ) × Malformed t s
@@ -263,7 +265,7 @@ pub record RunCall (t : List ℕ) (j : ℕ) (b : List ℕ) : Type 0 where
 
 -- `writer_text t` is all that the writer program has to hand to its output for the program text t. Of the code three things are proved: what is put into its
 -- buffer is each time the next part (`WriterParts`) or the refusal's line, the loop ends with the last part, and the bytes that it counts as handed over are
--- as many as `writer_text t` has (proofs/Contracts.antt, `say-output`). That it hands over each part that it counts is no statement: it is read off the loop.
+-- as many as `writer_text t` has (proofs/Contracts.antt, `say_output`). That it hands over each part that it counts is no statement: it is read off the loop.
 pub record WriterOutput (t : List ℕ) : Type 0 where
   -- where the reader refuses with row r and spot s, "(refused r s)"
   pub refused : (r s : ℕ) → Answers t r s → writer_text t ≡ refused_text r s

@@ -1,5 +1,5 @@
 -- Bytes that are digits.
---   is_digit    48 and a number below ten is one
+--   is_digit      48 and a number below ten is one
 --   digit_of_lem  and each is such a sum
 -- Assumes nothing.
 use Prim.Native.Nat.{ℕ, ◌+◌, ◌-◌, ◌<◌}

@@ -1,10 +1,10 @@
 -- The breaches of rows 3 to 7 (document 01, "Verdicts"), in the words of the table, over the numbers of a program in text order.
---   Event             a number of the text or a rule's beginning, with its first byte and what the rows ask of it
---   events P          the events of the text of P, in its order
---   Breached N e k    with N atoms event e meets row k
---   Breach P k s      some event of the text of P meets row k at spot s
---   rows_of N e        the rows that e meets, ascending, computed
---   hits P            all breaches in text order, computed
+--   Event           a number of the text or a rule's beginning, with its first byte and what the rows ask of it
+--   events P        the events of the text of P, in its order
+--   Breached N e k  with N atoms event e meets row k
+--   Breach P k s    some event of the text of P meets row k at spot s
+--   rows_of N e     the rows that e meets, ascending, computed
+--   hits P          all breaches in text order, computed
 -- Assumes nothing.
 use Rattle.std.specs.Prelude.{ℕ, ◌+◌, ◌≤◌, ◌<◌, ◌≡◌, ◌⊎◌, Bool, false, ◌||◌, cond, List, [], ◌∷◌, ◌++◌, map, ltb, leb, eqb, length, get_or}
 use Rattle.meaning.specs.Program.{Rule, Program}

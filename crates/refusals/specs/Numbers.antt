@@ -1,8 +1,8 @@
 -- The document's number and spot of each refusal (document 01, "Verdicts").
---   text_number, text_spot   of a program text
---   line_number, line_spot   of the calls that write lines
+--   text_number, text_spot    of a program text
+--   line_number, line_spot    of the calls that write lines
 --   check_number, check_spot  of the check
---   fill_number, fill_spot   of filling out
+--   fill_number, fill_spot    of filling out
 -- Assumes nothing.
 use Rattle.std.specs.Prelude.{ℕ}
 use Rattle.refusals.specs.declared.TextRefusal.{TextRefusal}

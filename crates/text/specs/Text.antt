@@ -1,11 +1,11 @@
 -- Program texts (document 01, "Program text"), as bytes. The form is the set of texts that `text_of` gives for some number of atoms and
 -- some rules over arbitrary numbers; no reader enters its definition.
---   list_text xs      numbers with one space between
---   rule_text r       "(rule H (B ..) (C ..))" and byte 10
---   text_of P          "(atoms N)", byte 10, and the rules
---   HasForm t         t is the text of some program
---   Viable t          some ending of t, a list of bytes, gives the form
---   Malformed t s     s is the first byte after which no ending gives the form, or the length if the text stops short
+--   list_text xs   numbers with one space between
+--   rule_text r    "(rule H (B ..) (C ..))" and byte 10
+--   text_of P      "(atoms N)", byte 10, and the rules
+--   HasForm t      t is the text of some program
+--   Viable t       some ending of t, a list of bytes, gives the form
+--   Malformed t s  s is the first byte after which no ending gives the form, or the length if the text stops short
 -- Assumes nothing.
 use Rattle.std.specs.Prelude.{ℕ, ◌≡◌, List, [], ◌∷◌, ◌++◌}
 use Rattle.meaning.specs.Program.{Rule, Program}

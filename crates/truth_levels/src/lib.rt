@@ -22,12 +22,12 @@ pub fn zero_holds(s: Sizes, a: Atom, assignment: &[u8]) -> bool
     let mut ok = true;
     let mut y: u16 = 0;
     while y < w {
-        ok = ok
-            & two_hold(
-                literal(atom_var(a)),
-                negated(level_var(s, a, y + 1)),
-                assignment,
-            );
+        let is_true = two_hold(
+            literal(atom_var(a)),
+            negated(level_var(s, a, y + 1)),
+            assignment,
+        );
+        ok = ok & is_true;
         y += 1;
     }
     ok
@@ -68,7 +68,8 @@ fn bit_of_next_holds(s: Sizes, a: Atom, i: u16, assignment: &[u8]) -> bool
     while j < i {
         let x = level_var(s, a, j + 1);
         ok = ok & lower_holds(x, u, v, assignment);
-        low = low | holds(negated(x), assignment);
+        let is_zero = holds(negated(x), assignment);
+        low = low | is_zero;
         j += 1;
     }
     ok & long_hold(low, u, v, assignment)

@@ -1,9 +1,9 @@
 -- Truth of blocks and items of the walk, by the literals in their slots.
---   any_slots             slots of one literal each
+--   any_slots                slots of one literal each
 --   clause_at_lem, block_at  the places of a block's clauses, and of an item's blocks
---   block_of_lem          a block whose slots have one literal each
---   item_of_lem           an item by its blocks
---   item_one              an item of one block
+--   block_of_lem             a block whose slots have one literal each
+--   item_of_lem              an item by its blocks
+--   item_one                 an item of one block
 -- Assumes nothing.
 use Prim.Native.Nat.{ℕ, suc, ◌≤◌, ◌<◌}
 use native.Mathlib.Omega.{arith}

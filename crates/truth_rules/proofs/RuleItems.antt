@@ -1,10 +1,10 @@
 -- The items of groups 1 and 6 in the walk. Of any code, rule r:
 --   body_of_lem, rule_of       every clause of the item is true exactly if the definition for its group says so
 -- Of a code whose tables are given, rule a:
---   body_rule, body_lists      group 1: the bounds of a rule and of its lists in the table
---   body_item, body_asks       with the body atoms as the table has them; and what body_holds requires
+--   body_rule, body_lists       group 1: the bounds of a rule and of its lists in the table
+--   body_item, body_asks        with the body atoms as the table has them; and what body_holds requires
 --   rule_fits_lem, rule_starts  group 6: the bounds of a rule and of its first list in the table
---   rule_item, rule_asks       with head and pairs as the table has them; and what rule_holds requires
+--   rule_item, rule_asks        with head and pairs as the table has them; and what rule_holds requires
 -- Assumes nothing.
 use Prim.Native.Nat.{ℕ, zero, suc, ◌+◌, ◌-◌, ◌*◌, ◌≤◌, ◌<◌}
 use native.Mathlib.Nat.{le_refl, le_trans}

@@ -1,12 +1,12 @@
 -- The writer's output (document 01, "Programs").
---   clause_file P         all lines of the clause file of P, joined
---   file_before P j       those before line j
+--   clause_file P          all lines of the clause file of P, joined
+--   file_before P j        those before line j
 --   writer_refusal_line v  the line of a refusal, nothing for an accepted text
---   writer_output_of r    the output for what the reader gave, r
---   writer_output t k     the output for the program text of k bytes, of which t is all or the front
---   writer_text t         the output for the program text t
---   Stands G c n          the output stands at place c, before a line or at the end, and n bytes of the clause file have been handed over
---   PartPut G c n b q l   where the output stands at c with n bytes, the part q put into the buffer b, which leaves l, brings it to the place after q
+--   writer_output_of r     the output for what the reader gave, r
+--   writer_output t k      the output for the program text of k bytes, of which t is all or the front
+--   writer_text t          the output for the program text t
+--   Stands G c n           the output stands at place c, before a line or at the end, and n bytes of the clause file have been handed over
+--   PartPut G c n b q l    where the output stands at c with n bytes, the part q put into the buffer b, which leaves l, brings it to the place after q
 -- Assumes nothing.
 use Rattle.std.specs.Prelude.{ℕ, suc, ◌+◌, ◌*◌, ◌≤◌, ◌<◌, ◌≡◌, List, [], length, take}
 use Rattle.lists.specs.Lists.{joined}
