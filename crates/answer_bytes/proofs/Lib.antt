@@ -1,4 +1,4 @@
--- Turns: one turn of each loop over a buffer, and its end
+-- Turns: one turn of each loop over a buffer
 -- Putting: one literal, by its number
 -- Computed: buffers counted and completed
 pub mod Turns

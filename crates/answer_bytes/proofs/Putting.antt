@@ -1,35 +1,26 @@
 -- One literal, by its number.
---   value_negative, value_positive      the value that a literal gives
 --   put_repeated, put_done              what `put_variable` answers, and the buffer it leaves
 --   put_stray, put_within               what `put_value` answers
 --   put_stops                           a literal that is stray or repeated leaves the buffer
 -- Assumes nothing.
 use Prim.Native.Nat.{ℕ, ◌-◌, ◌≤◌, ◌<◌}
 use native.Mathlib.Omega.{arith}
-use mathlib.Core.Path.{◌≡◌, refl, sym, ◌∙◌, ap, subst}
+use mathlib.Core.Path.{◌≡◌, refl, ◌∙◌, subst}
 use mathlib.Core.Bool.{Bool, true, false, cond}
 use mathlib.Core.List.{List}
 use lib.Dec.{eqb, ltb}
-use lib.IntN.{ℤ}
 use lib.ListN.{get_or, set}
 use borrow.Author.Tests.{eq-eqb, ne_eqb, lt-ltb, le-ltb}
-use Rattle.clause_literals.specs.Signed.{is_negative}
-use Rattle.answer_bytes.specs.declared.Assigned.{Assigned}
-use Rattle.answer_bytes.specs.declared.Assigned.TheVariants.{Done, Stray, Repeated}
-use Rattle.answer_bytes.specs.Bytes.{Outcome, put_outcome, put_bytes, number_value, assigned_for}
+use Rattle.std.specs.Prelude.{Ok, Err}
+use Rattle.answer_bytes.specs.declared.AssignFault.TheVariants.{Stray, Repeated}
+use Rattle.answer_bytes.specs.Bytes.{Outcome, put_outcome, put_bytes, Assigned, assigned_for}
 
 -- ---- by its number
-
-pub value_negative : (x y : ℤ) (d : Bool) → y ≡ x → d ≡ is_negative y → d ≡ true → 0 ≡ number_value x
-value_negative x y d s e f = sym (ap (λ (k : Bool). cond k 0 1) (sym (ap is_negative s) ∙ sym e ∙ f))
-
-pub value_positive : (x y : ℤ) (d : Bool) → y ≡ x → d ≡ is_negative y → d ≡ false → 1 ≡ number_value x
-value_positive x y d s e f = sym (ap (λ (k : Bool). cond k 0 1) (sym (ap is_negative s) ∙ sym e ∙ f))
 
 module _ (n v s x : ℕ) (b : List ℕ) where
   -- k is the variable, as the code has it
   module _ (k : ℕ) (same : k ≡ v) where
-    pub put_stray : n < k → (Stray s ≡ assigned_for (put_outcome n v s b)) × (b ≡ put_bytes n v x b)
+    pub put_stray : n < k → (Err (Stray s) ≡ assigned_for (put_outcome n v s b)) × (b ≡ put_bytes n v x b)
     unfolding put_outcome put_bytes
     put_stray h =
         let above = lt-ltb n v (subst (λ (j : ℕ). n < j) same h) in
@@ -56,14 +47,14 @@ module _ (n v s x : ℕ) (b : List ℕ) where
 -- ---- a variable v that stands in the buffer
 
 module _ (v s x : ℕ) (b : List ℕ) where
-  pub put_repeated : (get_or b (v - 1) 0 ≡ 2 → ⊥) → (Repeated s ≡ assigned_for (put_outcome v v s b)) × (b ≡ put_bytes v v x b)
+  pub put_repeated : (get_or b (v - 1) 0 ≡ 2 → ⊥) → (Err (Repeated s) ≡ assigned_for (put_outcome v v s b)) × (b ≡ put_bytes v v x b)
   unfolding put_outcome put_bytes
   put_repeated e =
       let below = le-ltb v v (omega arith) in
       let other = ne_eqb (get_or b (v - 1) 0) 2 e in
       (rw (below, other), rw (below, other))
 
-  pub put_done : get_or b (v - 1) 0 ≡ 2 → (Done ≡ assigned_for (put_outcome v v s b)) × (set b (v - 1) x ≡ put_bytes v v x b)
+  pub put_done : get_or b (v - 1) 0 ≡ 2 → (Ok tt ≡ assigned_for (put_outcome v v s b)) × (set b (v - 1) x ≡ put_bytes v v x b)
   unfolding put_outcome put_bytes
   put_done e =
       let below = le-ltb v v (omega arith) in

@@ -6,13 +6,14 @@
 --   completed bs          the values bs, a variable that has none read as false
 --   overwritten n x b     b with x in its first n places
 --   number_value x        the value that the literal with number x gives
+--   Assigned              the code's answers: each literal is assigned, or why the first that is not is not
 --   assigned_for o        the code's answer for an outcome
 -- Assumes nothing.
-use Rattle.std.specs.Prelude.{ℕ, ◌-◌, cond, List, ◌++◌, map, eqb, ltb, ℤ, get_or, set, drop, replicate}
+use Rattle.std.specs.Prelude.{ℕ, ◌-◌, cond, List, ◌++◌, map, eqb, ltb, ℤ, get_or, set, drop, replicate, ⊤, Result, Ok, Err}
 use Rattle.lists.specs.Lists.{sum}
 use Rattle.clause_literals.specs.Signed.{is_negative}
-use Rattle.answer_bytes.specs.declared.Assigned.{Assigned}
-use Rattle.answer_bytes.specs.declared.Assigned.TheVariants.{Done, Stray, Repeated}
+use Rattle.answer_bytes.specs.declared.AssignFault.{AssignFault}
+use Rattle.answer_bytes.specs.declared.AssignFault.TheVariants.{Stray, Repeated}
 
 -- ---- one literal
 
@@ -47,7 +48,10 @@ overwritten n x b = replicate n x ++ drop n b
 abbrev pub number_value : ℤ → ℕ
 number_value x = cond (is_negative x) 0 1
 
+abbrev pub Assigned : Type 0
+Assigned = Result ⊤ AssignFault
+
 abbrev pub assigned_for : Outcome → Assigned
-assigned_for Outcome.done = Done
-assigned_for (Outcome.stray s) = Stray s
-assigned_for (Outcome.repeated s) = Repeated s
+assigned_for Outcome.done = Ok tt
+assigned_for (Outcome.stray s) = Err (Stray s)
+assigned_for (Outcome.repeated s) = Err (Repeated s)

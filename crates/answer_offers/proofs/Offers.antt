@@ -26,7 +26,7 @@ use Rattle.digits.proofs.Lengths.{word_length, literal_fits, literals_fit}
 use Rattle.answer_form.specs.Answer.{named, proper, spaced_text, satisfiable_text, answer_text, literals_of, HasAnswerForm}
 use Rattle.answer_form.specs.Pieces.{Spotted, spots_of}
 use Rattle.answer_form.proofs.PieceLaws.{reads_model, literals_at, spots_literals}
-use Rattle.answer_reader.specs.declared.Formed.TheVariants.{Model}
+use Rattle.std.specs.Prelude.{Ok}
 use Rattle.answer_reader.specs.Results.{form_of}
 use Rattle.answer_form.specs.Pieces.{OffersModel}
 use Rattle.answer_reader.proofs.Promised.{model_form}
@@ -123,7 +123,7 @@ module _ (bs : List Bool) where
         its_literals = reads_model [] [] (literals_for bs) [] offered_proper;
       }
 
-  pub offered_model : form_of (offered_text bs) ≡ Model 13
+  pub offered_model : form_of (offered_text bs) ≡ Ok 13
   offered_model = model_form (offered_text bs) 13 offered_is
 
   abbrev spots : List Spotted

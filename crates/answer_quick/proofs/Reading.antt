@@ -1,11 +1,12 @@
 -- A literal in its common form is the next literal.
 --   first_digit           a digit from 1 to 9 is a digit, not 0 and no minus
---   digit_size, first_size  the bytes of digits, and of digits from 1 to 9
+--   digit_size, first_size, first_least  the bytes of digits, and of digits from 1 to 9
 --   quick_none, quick_long                        no digit from 1 to 9 at the front; more than four digits
 --   quick_one, quick_two, quick_three, quick_four     so many digits
 --   five_bytes            the bytes from i on, where five are left
 --   quick_other, quick_here     no space; a space and what follows it
 --   Taken, quick_taken    what it says that a literal is taken
+--   some_is, minus_is_of  the code's answers
 -- Assumes nothing.
 use Prim.Native.Nat.{ℕ, ◌+◌, ◌*◌, ◌-◌, ◌≤◌, ◌<◌}
 use native.Mathlib.Omega.{arith}
@@ -17,6 +18,8 @@ use mathlib.Core.List.{List, [], ◌∷◌}
 use lib.Dec.{eqb, ltb, leb}
 use lib.ListN.{length, get_or, drop}
 use borrow.Author.Tests.{ltb-false, lt-leb, le-ltb, leb-true, eq-eqb, ne_eqb, eqb-true, not-true, not-false}
+use Rattle.std.specs.Prelude.{Option, Some}
+use Rattle.std.specs.Int.{from_bool}
 use Rattle.encoding.specs.Literal.{Literal}
 use Literal.{var, −◌}
 use Rattle.reader_form.specs.Automaton.{digit_test}
@@ -25,7 +28,7 @@ use Rattle.answer_form.specs.Automaton.{seek_step}
 use Rattle.answer_form.specs.Pieces.{Next, next_literal, seek_from, literal_from, minus_from, digits_value, behind_digits}
 use Rattle.answer_form.proofs.Turns.{byte_at}
 use Rattle.answer_quick.specs.declared.Quick.{Quick}
-use Rattle.answer_quick.specs.Quick.{first_test, minus_of, no_quick, quick_of, quick_at}
+use Rattle.answer_quick.specs.Quick.{Spelt, some_quick, first_test, minus_of, no_quick, quick_of, quick_at}
 
 pub first_digit : (b : ℕ) → first_test b ≡ true → (digit_test b ≡ true) × (eqb b 48 ≡ false) × (eqb b 45 ≡ false) × (49 ≤ b)
 unfolding first_test digit_test
@@ -41,6 +44,9 @@ first_digit b e = go (ltb b 49) refl e
 -- the bytes of digits
 pub digit_size : (b : ℕ) (d : Bool) → d ≡ digit_test b → not d ≡ false → (48 ≤ b) × (b ≤ 57)
 digit_size b d e f = let w = digit_of_lem b (sym e ∙ not-false d f) in (omega (arith, w.1), omega (arith, w.1, w.2))
+
+pub first_least : (b : ℕ) (d : Bool) → d ≡ first_test b → not d ≡ false → 49 ≤ b
+first_least b d e f = (first_digit b (sym e ∙ not-false d f)).3
 
 pub first_size : (b : ℕ) (d : Bool) → d ≡ first_test b → not d ≡ false → (48 ≤ b) × (b ≤ 57)
 first_size b d e f = digit_size b true (sym (first_digit b (sym e ∙ not-false d f)).0) refl
@@ -176,12 +182,14 @@ module _ (t : List ℕ) (p : ℕ) where
   unfolding quick_at
   quick_other n = rw (ne_eqb (get_or t p 0) 32 n)
 
-  pub quick_here : get_or t p 0 ≡ 32 → (m : ℕ) → m ≡ minus_of (get_or t (p + 1) 0) → (i : ℕ) → i ≡ p + 1 + m → i + 5 ≤ length t → (x : Quick)
-      → ((u : List ℕ) → x ≡ quick_of m (get_or t i 0 ∷ get_or t (i + 1) 0 ∷ get_or t (i + 2) 0 ∷ get_or t (i + 3) 0 ∷ get_or t (i + 4) 0 ∷ u)) → x ≡ quick_at t p
+  here_is : get_or t p 0 ≡ 32 → (m : ℕ) → m ≡ minus_of (get_or t (p + 1) 0) → (i : ℕ) → i ≡ p + 1 + m → quick_of m (drop i t) ≡ quick_at t p
   unfolding quick_at
-  quick_here s m e i j h x q =
-      q (drop (i + 5) t) ∙ sym (ap (quick_of m) (five_bytes t i h)) ∙ ap (λ (k : ℕ). quick_of m (drop k t)) j
-      ∙ sym (rw (eq-eqb (get_or t p 0) 32 s, ← e))
+  here_is s m e i j = ap (λ (k : ℕ). quick_of m (drop k t)) j ∙ sym (rw (eq-eqb (get_or t p 0) 32 s, ← e))
+
+  pub quick_here : get_or t p 0 ≡ 32 → (m : ℕ) → m ≡ minus_of (get_or t (p + 1) 0) → (i : ℕ) → i ≡ p + 1 + m → i + 5 ≤ length t → (r : Option Quick)
+      → ((u : List ℕ) → r ≡ some_quick (quick_of m (get_or t i 0 ∷ get_or t (i + 1) 0 ∷ get_or t (i + 2) 0 ∷ get_or t (i + 3) 0 ∷ get_or t (i + 4) 0 ∷ u)))
+      → r ≡ some_quick (quick_at t p)
+  quick_here s m e i j h r q = q (drop (i + 5) t) ∙ ap some_quick (sym (ap (quick_of m) (five_bytes t i h)) ∙ here_is s m e i j)
 
 -- ---- the next literal
 
@@ -196,14 +204,14 @@ behind_shift i j (b ∷ u) = go (digit_test b) (behind_shift i (j + 1) u)
     go false h = refl
 
 -- where a literal is taken, its digits
-record Digits (m : ℕ) (u : List ℕ) (x : Quick) : Type 0 where
+record Digits (m : ℕ) (u : List ℕ) (x : Spelt) : Type 0 where
   begins : first_test (get_or u 0 0) ≡ true
   few : behind_digits 0 u ≤ 4
   value_is : x.value ≡ digits_value 0 u
   minus_is : x.minus ≡ m
   size_is : x.size ≡ m + 1 + behind_digits 0 u
 
-digits_taken : (m : ℕ) (u : List ℕ) (x : Quick) → x ≡ quick_of m u → (x.value ≡ 0 → ⊥) → Digits m u x
+digits_taken : (m : ℕ) (u : List ℕ) (x : Spelt) → x ≡ quick_of m u → (x.value ≡ 0 → ⊥) → Digits m u x
 unfolding quick_of
 digits_taken m u x e n = go (first_test (get_or u 0 0)) (leb (behind_digits 0 u) 4) refl refl e
   where
@@ -212,15 +220,15 @@ digits_taken m u x e n = go (first_test (get_or u 0 0)) (leb (behind_digits 0 u)
     go true true p q e = record {
       begins = p;
       few = leb-true (behind_digits 0 u) 4 q;
-      value_is = ap (λ (y : Quick). y.value) e;
-      minus_is = ap (λ (y : Quick). y.minus) e;
-      size_is = ap (λ (y : Quick). y.size) e;
+      value_is = ap (λ (y : Spelt). y.value) e;
+      minus_is = ap (λ (y : Spelt). y.minus) e;
+      size_is = ap (λ (y : Spelt). y.size) e;
     }
-    go true false p q e = absurd (n (ap (λ (y : Quick). y.value) e))
-    go false d p q e = absurd (n (ap (λ (y : Quick). y.value) e))
+    go true false p q e = absurd (n (ap (λ (y : Spelt). y.value) e))
+    go false d p q e = absurd (n (ap (λ (y : Spelt). y.value) e))
 
 -- a literal is taken at p: it is the next one, and it ends within nine bytes
-pub record Taken (t : List ℕ) (p : ℕ) (x : Quick) : Type 0 where
+pub record Taken (t : List ℕ) (p : ℕ) (x : Spelt) : Type 0 where
   pub some : 2 ≤ x.size
   pub most : x.size ≤ 6
   pub next : ((x.minus ≡ 0) × (next_literal t p ≡ Next.literal (var x.value) (p + 1) (p + x.size)))
@@ -272,7 +280,7 @@ module _ (t : List ℕ) where
       from_zero : behind_digits i (drop i t) ≡ i + behind_digits 0 (drop i t)
       from_zero = ap (λ (k : ℕ). behind_digits k (drop i t)) (omega arith) ∙ behind_shift i 0 (drop i t)
 
-  module _ (p : ℕ) (h : p + 9 ≤ length t) (x : Quick) (n : x.value ≡ 0 → ⊥) (s : get_or t p 0 ≡ 32) where
+  module _ (p : ℕ) (h : p + 9 ≤ length t) (x : Spelt) (n : x.value ≡ 0 → ⊥) (s : get_or t p 0 ≡ 32) where
     by_minus : (b : Bool) → eqb (get_or t (p + 1) 0) 45 ≡ b → x ≡ quick_of (cond b 1 0) (drop (p + 1 + cond b 1 0) t) → Taken t p x
     by_minus true m e =
         let d = digits_taken 1 (drop (p + 1 + 1) t) x e n in
@@ -303,11 +311,29 @@ module _ (t : List ℕ) where
           );
         }
 
-  pub quick_taken : (p : ℕ) → p + 9 ≤ length t → (x : Quick) → x ≡ quick_at t p → (x.value ≡ 0 → ⊥) → Taken t p x
+  pub quick_taken : (p : ℕ) → p + 9 ≤ length t → (x : Spelt) → x ≡ quick_at t p → (x.value ≡ 0 → ⊥) → Taken t p x
   unfolding quick_at minus_of
   quick_taken p h x e n = go (eqb (get_or t p 0) 32) refl e
     where
       go : (b : Bool) → eqb (get_or t p 0) 32 ≡ b
           → x ≡ cond b (quick_of (minus_of (get_or t (p + 1) 0)) (drop (p + 1 + minus_of (get_or t (p + 1) 0)) t)) no_quick → Taken t p x
       go true s e = by_minus p h x n (eqb-true (get_or t p 0) 32 s) (eqb (get_or t (p + 1) 0) 45) refl e
-      go false s e = absurd (n (ap (λ (y : Quick). y.value) e))
+      go false s e = absurd (n (ap (λ (y : Spelt). y.value) e))
+
+-- ---- the code's answers
+
+pub some_is : (minus : Bool) (v s : ℕ) (x : Spelt) → record { value = v; minus = from_bool minus; size = s } ≡ x → 0 < v
+    → Some (record { value = v; minus = minus; size = s }) ≡ some_quick x
+some_is minus v s x e h = go minus (ne_eqb v 0 (λ (z : v ≡ 0). omega (arith, h, z))) ∙ ap some_quick e
+  where
+    go : (d : Bool) → eqb v 0 ≡ false → Some (record { value = v; minus = d; size = s }) ≡ some_quick (record { value = v; minus = from_bool d; size = s })
+    go true f = rw f
+    go false f = rw f
+
+pub minus_is_of : (b : ℕ) → from_bool (eqb b 45) ≡ minus_of b
+unfolding minus_of
+minus_is_of b = go (eqb b 45)
+  where
+    go : (d : Bool) → from_bool d ≡ cond d 1 0
+    go true = refl
+    go false = refl

@@ -3,26 +3,25 @@
 #![tactic(auto)]
 
 ghost use Rattle.std.specs.Prelude.{ℕ, ◌+◌, ◌*◌, ◌-◌, ◌≤◌, ◌≡◌, List, ◌∷◌, length};
-ghost use Rattle.answer_quick.specs.Quick.{first_test, minus_of, sign_value, quick_of, quick_at, Passes};
+ghost use Rattle.std.specs.Int.{from_bool};
+ghost use Rattle.answer_quick.specs.Quick.{first_test, some_quick, quick_of, quick_at, Passes};
 
 use reader_form::is_digit;
 
-// A literal with its space: its variable, or 0 where none stands in the common form; 1 for a minus, else 0; and how many bytes it has.
-#[derive(Clone, Copy)]
+// A literal with its space: its variable, whether it has a minus, and how many bytes it has.
+#[derive(Clone, Copy, PartialEq, Eq)]
 pub struct Quick {
     pub value: usize,
-    pub minus: usize,
+    pub minus: bool,
     pub size: usize,
 }
 
 // Whether b is a digit from 1 to 9.
+#[tactic(auto, unfolding(crate::specs::Quick::first_test))]
 fn is_first(b: u8) -> bool
     ensures { result ≡ first_test b }
 {
-    if b < 49 {
-        return false;
-    }
-    b < 58
+    matches!(b, b'1'..=b'9')
 }
 
 // The number with one more digit.
@@ -30,101 +29,69 @@ fn longer(k: usize, b: u8) -> usize
     requires { (k ≤ 999) × (48 ≤ b) }
     ensures { result ≡ k * 10 + (b - 48) }
 {
-    k * 10 + (b - 48) as usize
+    k * 10 + usize::from(b - b'0')
 }
 
-// The literal whose digits begin with the bytes a to e, whatever follows them; m is 1 after a minus, else 0.
-fn quick_digits(a: u8, b: u8, c: u8, d: u8, e: u8, m: usize) -> Quick
-    requires { m ≤ 1 }
-    ensures { (u : List ℕ) → result ≡ quick_of m (a ∷ b ∷ c ∷ d ∷ e ∷ u) }
+// The literal whose digits begin with the bytes a to e, whatever follows them; none where it isn't in the common form.
+fn quick_digits(a: u8, b: u8, c: u8, d: u8, e: u8, minus: bool) -> Option<Quick>
+    ensures { (u : List ℕ) → result ≡ some_quick (quick_of (from_bool minus) (a ∷ b ∷ c ∷ d ∷ e ∷ u)) }
 {
     if !is_first(a) {
-        return Quick {
-            value: 0,
-            minus: 0,
-            size: 0,
-        };
+        return None;
     }
+    let sign = usize::from(minus);
     let w = longer(0, a);
     if !is_digit(b) {
-        return Quick {
+        return Some(Quick {
             value: w,
-            minus: m,
-            size: m + 2,
-        };
+            minus,
+            size: sign + 2,
+        });
     }
     let x = longer(w, b);
     if !is_digit(c) {
-        return Quick {
+        return Some(Quick {
             value: x,
-            minus: m,
-            size: m + 3,
-        };
+            minus,
+            size: sign + 3,
+        });
     }
     let y = longer(x, c);
     if !is_digit(d) {
-        return Quick {
+        return Some(Quick {
             value: y,
-            minus: m,
-            size: m + 4,
-        };
+            minus,
+            size: sign + 4,
+        });
     }
     if is_digit(e) {
-        return Quick {
-            value: 0,
-            minus: 0,
-            size: 0,
-        };
+        return None;
     }
-    Quick {
+    Some(Quick {
         value: longer(y, d),
-        minus: m,
-        size: m + 5,
-    }
-}
-
-// 1 for the byte of a minus, else 0.
-fn minus_of(b: u8) -> usize
-    ensures { result ≡ minus_of b }
-{
-    if b == 45 {
-        return 1;
-    }
-    0
+        minus,
+        size: sign + 5,
+    })
 }
 
 // The literal that stands at `at` in the common form.
-fn quick_at(answer: &[u8], at: usize) -> Quick
+fn quick_at(answer: &[u8], at: usize) -> Option<Quick>
     requires { at + 9 ≤ length answer.now }
-    ensures { result ≡ quick_at answer.now at }
+    ensures { result ≡ some_quick (quick_at answer.now at) }
 {
-    if answer[at] != 32 {
-        return Quick {
-            value: 0,
-            minus: 0,
-            size: 0,
-        };
+    if answer[at] != b' ' {
+        return None;
     }
-    let m = minus_of(answer[at + 1]);
-    let p = at + 1 + m;
+    let minus = answer[at + 1] == b'-';
+    let p = at + 1 + usize::from(minus);
     quick_digits(
         answer[p],
         answer[p + 1],
         answer[p + 2],
         answer[p + 3],
         answer[p + 4],
-        m,
+        minus,
     )
-}
-
-// The value that a literal gives its variable; m is 1 if it has a minus, else 0.
-fn value_of(m: usize) -> u8
-    ensures { result ≡ sign_value m }
-{
-    if m == 0 {
-        return 1;
-    }
-    0
 }
 
 // Assigns the literals from position `from` on, up to the first that does not stand in the common form, or is of a variable above v or of one that has a value:
@@ -135,10 +102,9 @@ pub fn literals_from(answer: &[u8], from: usize, v: usize, assignment: &mut [u8]
 {
     let mut p = from;
     while 9 <= answer.len() - p {
-        let q = quick_at(answer, p);
-        if q.value == 0 {
+        let Some(q) = quick_at(answer, p) else {
             return p;
-        }
+        };
         if v < q.value {
             return p;
         }
@@ -146,7 +112,7 @@ pub fn literals_from(answer: &[u8], from: usize, v: usize, assignment: &mut [u8]
         if assignment[i] != 2 {
             return p;
         }
-        assignment[i] = value_of(q.minus);
+        assignment[i] = u8::from(!q.minus);
         p += q.size;
     }
     p

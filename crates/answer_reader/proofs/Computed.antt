@@ -13,32 +13,31 @@ use Rattle.answer_form.specs.Machine.{accepted_by, read_by}
 use Rattle.answer_form.specs.Answer.{satisfiable_text, status_text}
 use Rattle.answer_form.specs.Automaton.{status_bytes, status_at, status_next, status_turn, status_step, seek_step, literal_step, end_step, answer_step, may_end}
 use Rattle.answer_form.specs.Pieces.{common, first_line, status_from, status_of, digits_value, behind_digits, minus_from, literal_from, seek_from, next_literal, close_from, close_of}
-use Rattle.answer_reader.specs.declared.Found.TheVariants.{Satisfiable, Other, Left as FoundLeft}
-use Rattle.answer_reader.specs.declared.Next.TheVariants.{Literal as NextLiteral, Last, Left as NextLeft}
-use Rattle.answer_reader.specs.declared.Closed.TheVariants.{Fine, Left as CloseLeft}
-use Rattle.answer_reader.specs.declared.Formed.TheVariants.{Model, NoModel, Malformed}
-use Rattle.answer_reader.specs.Results.{found_for, next_for, close_for, form_of}
+use Rattle.std.specs.Prelude.{Ok, Err}
+use Rattle.answer_reader.specs.declared.AnswerFault.TheVariants.{NoModel}
+use Rattle.answer_reader.specs.declared.Token.TheVariants as token
+use Rattle.answer_reader.specs.Results.{malformed, found_for, next_for, close_for, form_of}
 
 pub statuses_given : map (λ s. found_for (status_of (ascii s)))
     ("s SATISFIABLE\nv 1 0\n" ∷ "c\ncc\ns UNSATISFIABLE\n" ∷ "s UNKNOWN\nany" ∷ "" ∷ "c" ∷ "s UNSATISFIABLE" ∷ "s UNK\n" ∷ "x" ∷ [])
-    ≡ Satisfiable 13 ∷ Other ∷ Other ∷ FoundLeft 0 ∷ FoundLeft 1 ∷ FoundLeft 15 ∷ FoundLeft 5 ∷ FoundLeft 0 ∷ []
+    ≡ Ok 13 ∷ Err NoModel ∷ Err NoModel ∷ malformed 0 ∷ malformed 1 ∷ malformed 15 ∷ malformed 5 ∷ malformed 0 ∷ []
 unfolding ascii satisfiable_text status_text common first_line status_from status_of
 statuses_given = refl
 
 pub literals_given : map (λ s. next_for (next_literal (ascii s) 0))
     (" 12 0\n" ∷ "\nv\nc 1\nv -7 0\n" ∷ " 2147483647\n" ∷ " 2147483648\n" ∷ " -99999999999\n" ∷ " 0\n" ∷ " 07\n" ∷ " -0\n" ∷ "  1\n" ∷ "\n1" ∷ "" ∷ [])
-    ≡ NextLiteral (pos 12) 1 3 ∷ NextLiteral (negsuc 6) 9 11 ∷ NextLiteral (pos 2147483647) 1 11 ∷ NextLiteral (pos 2147483647) 1 11
-    ∷ NextLiteral (negsuc 2147483646) 1 13 ∷ Last 2 ∷ Last 2 ∷ NextLeft 2 ∷ NextLeft 1 ∷ NextLeft 1 ∷ NextLeft 0 ∷ []
+    ≡ Ok (token.Literal (pos 12) 1 3) ∷ Ok (token.Literal (negsuc 6) 9 11) ∷ Ok (token.Literal (pos 2147483647) 1 11) ∷ Ok (token.Literal (pos 2147483647) 1 11)
+    ∷ Ok (token.Literal (negsuc 2147483646) 1 13) ∷ Ok (token.Last 2) ∷ Ok (token.Last 2) ∷ Err 2 ∷ Err 1 ∷ Err 1 ∷ Err 0 ∷ []
 unfolding ascii digit_test seek_step digits_value behind_digits minus_from literal_from seek_from next_literal
 literals_given = refl
 
 pub ends_given : map (λ s. close_for (close_of (ascii s) 0)) ("\n" ∷ "\nc x\nc\n" ∷ "" ∷ "7\n" ∷ "\nc" ∷ "\nv\n" ∷ [])
-    ≡ Fine ∷ Fine ∷ CloseLeft 0 ∷ CloseLeft 0 ∷ CloseLeft 2 ∷ CloseLeft 1 ∷ []
+    ≡ Ok tt ∷ Ok tt ∷ Err 0 ∷ Err 0 ∷ Err 2 ∷ Err 1 ∷ []
 unfolding ascii end_step close_from close_of
 ends_given = refl
 
 pub forms_given : map (λ s. form_of (ascii s))
     ("s SATISFIABLE\nv 1 -2\nv 0\n" ∷ "c\ns SATISFIABLE\nv 0\nc\n" ∷ "s UNSATISFIABLE\nv" ∷ "s SATISFIABLE\nv 1\n" ∷ "s SATISFIABLE\nv 1 x" ∷ "s SAT\n" ∷ [])
-    ≡ Model 13 ∷ Model 15 ∷ NoModel ∷ Malformed 18 ∷ Malformed 18 ∷ Malformed 5 ∷ []
+    ≡ Ok 13 ∷ Ok 15 ∷ Err NoModel ∷ malformed 18 ∷ malformed 18 ∷ malformed 5 ∷ []
 unfolding ascii digit_test accepted_by read_by satisfiable_text status_text status_bytes status_at status_next status_turn status_step seek_step literal_step end_step answer_step may_end common first_line status_from status_of form_of
 forms_given = refl

@@ -14,8 +14,9 @@ use Literal.{var, −◌}
 use Rattle.reader_form.specs.Automaton.{digit_test}
 use Rattle.answer_form.specs.Pieces.{Next, digits_value, capped_value, behind_digits, minus_from, literal_from}
 use Rattle.answer_form.proofs.Turns.{byte_at}
-use Rattle.answer_reader.specs.declared.Next.{Next as NextAnswer}
-use Rattle.answer_reader.specs.declared.Next.TheVariants.{Literal as NextLiteral, Last, Left as NextLeft}
+use Rattle.std.specs.Prelude.{Result, Ok, Err}
+use Rattle.answer_reader.specs.declared.Token.{Token}
+use Rattle.answer_reader.specs.declared.Token.TheVariants as token
 use Rattle.answer_words.specs.Words.{most_number}
 use Rattle.answer_words.proofs.Digits.{kept}
 use Rattle.answer_reader.specs.Results.{next_for}
@@ -34,14 +35,14 @@ module _ (t : List ℕ) (i : ℕ) where
   unfolding minus_from
   minus_none h = ap (minus_from i) (drop_of_length-le t h)
 
-  pub minus_short : length t ≤ i → NextLeft i ≡ next_for (minus_from i (drop i t))
+  pub minus_short : length t ≤ i → Err i ≡ next_for (minus_from i (drop i t))
   minus_short h = sym (ap next_for (minus_none h))
 
   module _ (h : i < length t) where
     minus_is_zero : get_or t i 0 ≡ 48 → minus_from i (drop i t) ≡ Next.left i
     minus_is_zero e = minus_turn (drop i t) _ (get_or t i 0) (byte_at t i h) ∙ rw (eq-eqb (get_or t i 0) 48 e)
 
-    pub minus_zero : get_or t i 0 ≡ 48 → NextLeft i ≡ next_for (minus_from i (drop i t))
+    pub minus_zero : get_or t i 0 ≡ 48 → Err i ≡ next_for (minus_from i (drop i t))
     minus_zero e = sym (ap next_for (minus_is_zero e))
 
     module _ (n : get_or t i 0 ≡ 48 → ⊥) (d : Bool) (g : d ≡ digit_test (get_or t i 0)) where
@@ -49,14 +50,14 @@ module _ (t : List ℕ) (i : ℕ) where
       minus_is_here f = minus_turn (drop i t) _ (get_or t i 0) (byte_at t i h) ∙ rw (ne_eqb (get_or t i 0) 48 n, ← g, f)
 
       pub minus_here : d ≡ true → (v : ℕ) → v ≡ capped_value most_number 0 (drop i t) → (z : ℤ) → z ≡ literal_number (− v) → (j : ℕ) → j ≡ behind_digits i (drop i t)
-          → NextLiteral z (i - 1) j ≡ next_for (minus_from i (drop i t))
+          → Ok (token.Literal z (i - 1) j) ≡ next_for (minus_from i (drop i t))
       minus_here f v e z l j k =
-          ap₂ (λ (x : ℤ) (y : ℕ). NextLiteral x (i - 1) y) (l ∙ ap (λ (k : ℕ). literal_number (− k)) (e ∙ kept (drop i t))) k ∙ sym (ap next_for (minus_is_here f))
+          ap₂ (λ (x : ℤ) (y : ℕ). Ok (token.Literal x (i - 1) y)) (l ∙ ap (λ (k : ℕ). literal_number (− k)) (e ∙ kept (drop i t))) k ∙ sym (ap next_for (minus_is_here f))
 
       minus_is_other : d ≡ false → minus_from i (drop i t) ≡ Next.left i
       minus_is_other f = minus_turn (drop i t) _ (get_or t i 0) (byte_at t i h) ∙ rw (ne_eqb (get_or t i 0) 48 n, ← g, f)
 
-      pub minus_other : d ≡ false → NextLeft i ≡ next_for (minus_from i (drop i t))
+      pub minus_other : d ≡ false → Err i ≡ next_for (minus_from i (drop i t))
       minus_other f = sym (ap next_for (minus_is_other f))
 
 -- ---- after a space
@@ -75,21 +76,21 @@ module _ (t : List ℕ) (i : ℕ) where
   unfolding literal_from
   literal_none h = ap (literal_from i) (drop_of_length-le t h)
 
-  pub literal_short : length t ≤ i → NextLeft i ≡ next_for (literal_from i (drop i t))
+  pub literal_short : length t ≤ i → Err i ≡ next_for (literal_from i (drop i t))
   literal_short h = sym (ap next_for (literal_none h))
 
   module _ (h : i < length t) where
     literal_is_minus : get_or t i 0 ≡ 45 → literal_from i (drop i t) ≡ minus_from (i + 1) (drop (i + 1) t)
     literal_is_minus e = literal_turn (drop i t) (drop (i + 1) t) (get_or t i 0) (byte_at t i h) ∙ rw (eq-eqb (get_or t i 0) 45 e)
 
-    pub literal_minus : get_or t i 0 ≡ 45 → (r : NextAnswer) → r ≡ next_for (minus_from (i + 1) (drop (i + 1) t)) → r ≡ next_for (literal_from i (drop i t))
+    pub literal_minus : get_or t i 0 ≡ 45 → (r : Result Token ℕ) → r ≡ next_for (minus_from (i + 1) (drop (i + 1) t)) → r ≡ next_for (literal_from i (drop i t))
     literal_minus e r f = f ∙ sym (ap next_for (literal_is_minus e))
 
     module _ (m : get_or t i 0 ≡ 45 → ⊥) where
       literal_is_zero : get_or t i 0 ≡ 48 → literal_from i (drop i t) ≡ Next.last (i + 1)
       literal_is_zero e = literal_turn (drop i t) (drop (i + 1) t) (get_or t i 0) (byte_at t i h) ∙ rw (ne_eqb (get_or t i 0) 45 m, eq-eqb (get_or t i 0) 48 e)
 
-      pub literal_zero : get_or t i 0 ≡ 48 → Last (i + 1) ≡ next_for (literal_from i (drop i t))
+      pub literal_zero : get_or t i 0 ≡ 48 → Ok (token.Last (i + 1)) ≡ next_for (literal_from i (drop i t))
       literal_zero e = sym (ap next_for (literal_is_zero e))
 
       module _ (n : get_or t i 0 ≡ 48 → ⊥) (d : Bool) (g : d ≡ digit_test (get_or t i 0)) where
@@ -98,13 +99,13 @@ module _ (t : List ℕ) (i : ℕ) where
             literal_turn (drop i t) (drop (i + 1) t) (get_or t i 0) (byte_at t i h) ∙ rw (ne_eqb (get_or t i 0) 45 m, ne_eqb (get_or t i 0) 48 n, ← g, f)
 
         pub literal_here : d ≡ true → (v : ℕ) → v ≡ capped_value most_number 0 (drop i t) → (z : ℤ) → z ≡ literal_number (var v) → (j : ℕ)
-            → j ≡ behind_digits i (drop i t) → NextLiteral z i j ≡ next_for (literal_from i (drop i t))
+            → j ≡ behind_digits i (drop i t) → Ok (token.Literal z i j) ≡ next_for (literal_from i (drop i t))
         literal_here f v e z l j k =
-            ap₂ (λ (x : ℤ) (y : ℕ). NextLiteral x i y) (l ∙ ap (λ (k : ℕ). literal_number (var k)) (e ∙ kept (drop i t))) k ∙ sym (ap next_for (literal_is_here f))
+            ap₂ (λ (x : ℤ) (y : ℕ). Ok (token.Literal x i y)) (l ∙ ap (λ (k : ℕ). literal_number (var k)) (e ∙ kept (drop i t))) k ∙ sym (ap next_for (literal_is_here f))
 
         literal_is_other : d ≡ false → literal_from i (drop i t) ≡ Next.left i
         literal_is_other f =
             literal_turn (drop i t) (drop (i + 1) t) (get_or t i 0) (byte_at t i h) ∙ rw (ne_eqb (get_or t i 0) 45 m, ne_eqb (get_or t i 0) 48 n, ← g, f)
 
-        pub literal_other : d ≡ false → NextLeft i ≡ next_for (literal_from i (drop i t))
+        pub literal_other : d ≡ false → Err i ≡ next_for (literal_from i (drop i t))
         literal_other f = sym (ap next_for (literal_is_other f))

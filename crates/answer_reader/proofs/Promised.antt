@@ -20,9 +20,9 @@ use Rattle.answer_form.proofs.Sound.{sound}
 use Rattle.answer_form.proofs.Spot.{rejected_malformed, spot_unique, form_not_malformed}
 use Rattle.answer_form.proofs.StatusLaws.{status_model, status_none}
 use Rattle.answer_form.proofs.Whole.{OfModel, Outcome, whole}
-use Rattle.answer_reader.specs.declared.Formed.{Formed}
-use Rattle.answer_reader.specs.declared.Formed.TheVariants.{Model, NoModel, Malformed as MalformedAt}
-use Rattle.answer_reader.specs.Results.{form_for, form_of}
+use Rattle.std.specs.Prelude.{Ok, Err}
+use Rattle.answer_reader.specs.declared.AnswerFault.TheVariants.{NoModel}
+use Rattle.answer_reader.specs.Results.{Formed, malformed, form_for, form_of}
 use Rattle.answer_form.specs.Pieces.{OffersModel}
 
 line_end_of : Found → ℕ
@@ -33,9 +33,9 @@ line_end_of (Found.left s) = 0
 -- ---- what each form means
 
 pub data Judged (t : List ℕ) : Formed → Type 0 where
-  a_model : (e : ℕ) → OffersModel t e → Judged t (Model e)
-  no_model_lem : (s : Status) → OfStatus t s → Judged t NoModel
-  not_formed : (s : ℕ) → AnswerMalformed t s → Judged t (MalformedAt s)
+  a_model : (e : ℕ) → OffersModel t e → Judged t (Ok e)
+  no_model_lem : (s : Status) → OfStatus t s → Judged t (Err NoModel)
+  not_formed : (s : ℕ) → AnswerMalformed t s → Judged t (malformed s)
 
 module _ (t : List ℕ) where
   -- a model with its status line's end
@@ -60,19 +60,19 @@ module _ (t : List ℕ) where
   none_formed s o = record { answer = Answer.no_model o.before s o.rest; is_proper = o.is_proper; its_text = o.its_text }
 
   -- the form by the status and the automaton
-  form_accepts : (e : ℕ) → status_of t ≡ Found.satisfiable e → answer_accepts 0 t ≡ true → form_of t ≡ Model e
+  form_accepts : (e : ℕ) → status_of t ≡ Found.satisfiable e → answer_accepts 0 t ≡ true → form_of t ≡ Ok e
   unfolding form_of
   form_accepts e f a = ap (form_for t) f ∙ rw a
 
-  form_rejects : (e : ℕ) → status_of t ≡ Found.satisfiable e → answer_accepts 0 t ≡ false → form_of t ≡ MalformedAt (answer_leaves 0 t)
+  form_rejects : (e : ℕ) → status_of t ≡ Found.satisfiable e → answer_accepts 0 t ≡ false → form_of t ≡ malformed (answer_leaves 0 t)
   unfolding form_of
   form_rejects e f a = ap (form_for t) f ∙ rw a
 
-  form_of_other : (s : Status) → status_of t ≡ Found.other s → form_of t ≡ NoModel
+  form_of_other : (s : Status) → status_of t ≡ Found.other s → form_of t ≡ Err NoModel
   unfolding form_of
   form_of_other s f = ap (form_for t) f
 
-  form_of_left : (s : ℕ) → status_of t ≡ Found.left s → form_of t ≡ MalformedAt s
+  form_of_left : (s : ℕ) → status_of t ≡ Found.left s → form_of t ≡ malformed s
   unfolding form_of
   form_of_left s f = ap (form_for t) f
 
@@ -84,39 +84,39 @@ module _ (t : List ℕ) where
     where
       behind : (e s : ℕ) → status_of t ≡ Found.satisfiable e → AnswerMalformed t s → (d : Bool) → answer_accepts 0 t ≡ d → Judged t (form_of t)
       behind e s f m true a = absurd (form_not_malformed t s (sound t a) m)
-      behind e s f m false a = as_formed (MalformedAt (answer_leaves 0 t)) (form_rejects e f a) (not_formed (answer_leaves 0 t) (rejected_malformed t a))
+      behind e s f m false a = as_formed (malformed (answer_leaves 0 t)) (form_rejects e f a) (not_formed (answer_leaves 0 t) (rejected_malformed t a))
 
       go : Outcome t → Judged t (form_of t)
       go (Outcome.a_model e xs f r o) =
           let m = of_model e xs f r o in
-          as_formed (Model e) (form_accepts e f (form_accepted t (model_formed e m))) (a_model e m)
-      go (Outcome.no_model_lem s f o) = as_formed NoModel (form_of_other s f) (no_model_lem s o)
-      go (Outcome.left_before s f m) = as_formed (MalformedAt s) (form_of_left s f) (not_formed s m)
+          as_formed (Ok e) (form_accepts e f (form_accepted t (model_formed e m))) (a_model e m)
+      go (Outcome.no_model_lem s f o) = as_formed (Err NoModel) (form_of_other s f) (no_model_lem s o)
+      go (Outcome.left_before s f m) = as_formed (malformed s) (form_of_left s f) (not_formed s m)
       go (Outcome.left_behind e s xs f r m) = behind e s f m (answer_accepts 0 t) refl
 
   -- ---- each form, both ways
 
-  pub form_malformed : (s : ℕ) → form_of t ≡ MalformedAt s → AnswerMalformed t s
+  pub form_malformed : (s : ℕ) → form_of t ≡ malformed s → AnswerMalformed t s
   form_malformed s e = go (subst (Judged t) e judged)
     where
-      go : Judged t (MalformedAt s) → AnswerMalformed t s
+      go : Judged t (malformed s) → AnswerMalformed t s
       go (not_formed k m) = m
 
-  pub malformed_form : (s : ℕ) → AnswerMalformed t s → form_of t ≡ MalformedAt s
+  pub malformed_form : (s : ℕ) → AnswerMalformed t s → form_of t ≡ malformed s
   malformed_form s m = go (form_of t) judged
     where
-      go : (f : Formed) → Judged t f → f ≡ MalformedAt s
+      go : (f : Formed) → Judged t f → f ≡ malformed s
       go f (a_model e w) = absurd (form_not_malformed t s (model_formed e w) m)
       go f (no_model_lem r w) = absurd (form_not_malformed t s (none_formed r w) m)
-      go f (not_formed k w) = ap MalformedAt (spot_unique t k s w m)
+      go f (not_formed k w) = ap malformed (spot_unique t k s w m)
 
-  pub form_model : (e : ℕ) → form_of t ≡ Model e → OffersModel t e
+  pub form_model : (e : ℕ) → form_of t ≡ Ok e → OffersModel t e
   form_model e f = go (subst (Judged t) f judged)
     where
-      go : Judged t (Model e) → OffersModel t e
+      go : Judged t (Ok e) → OffersModel t e
       go (a_model k m) = m
 
-  pub model_form : (e : ℕ) → OffersModel t e → form_of t ≡ Model e
+  pub model_form : (e : ℕ) → OffersModel t e → form_of t ≡ Ok e
   unfolding proper
   model_form e m =
       form_accepts e
@@ -124,12 +124,12 @@ module _ (t : List ℕ) where
       ∙ ap Found.satisfiable (sym m.its_end))
       (form_accepted t (model_formed e m))
 
-  pub form_none : form_of t ≡ NoModel → (s : Status) × OfStatus t s
+  pub form_none : form_of t ≡ Err NoModel → (s : Status) × OfStatus t s
   form_none f = go (subst (Judged t) f judged)
     where
-      go : Judged t NoModel → (s : Status) × OfStatus t s
+      go : Judged t (Err NoModel) → (s : Status) × OfStatus t s
       go (no_model_lem s o) = (s, o)
 
-  pub none_form : (s : Status) → OfStatus t s → form_of t ≡ NoModel
+  pub none_form : (s : Status) → OfStatus t s → form_of t ≡ Err NoModel
   unfolding proper
   none_form s o = form_of_other s (ap status_of o.its_text ∙ status_none o.before s o.rest o.is_proper)

@@ -12,8 +12,9 @@ use lib.ListN.{length, length-drop, drop}
 use borrow.Author.Tests.{eq-eqb, ne_eqb}
 use Rattle.answer_form.specs.Answer.{Status, satisfiable_text, status_text}
 use Rattle.answer_form.specs.Pieces.{Found, common, first_line, status_from, status_of}
-use Rattle.answer_reader.specs.declared.Found.TheVariants.{Satisfiable, Other, Left as FoundLeft}
-use Rattle.answer_reader.specs.Results.{found_for}
+use Rattle.std.specs.Prelude.{Ok, Err}
+use Rattle.answer_reader.specs.declared.AnswerFault.TheVariants.{NoModel}
+use Rattle.answer_reader.specs.Results.{malformed, found_for}
 
 common_within : (u w : List ℕ) → common u w ≤ length u
 unfolding common
@@ -34,7 +35,7 @@ module _ (t : List ℕ) (at : ℕ) (line : at ≡ first_line 0 0 t) (yes : ℕ) 
   unfolding status_from
   is_yes p = rw (← y, eq-eqb yes 14 p)
 
-  pub found_yes : yes ≡ 14 → Satisfiable (at + 13) ≡ found_for (status_of t)
+  pub found_yes : yes ≡ 14 → Ok (at + 13) ≡ found_for (status_of t)
   found_yes p = sym (ap found_for (from_line ∙ is_yes p))
 
   module _ (yes-not : yes ≡ 14 → ⊥) (no : ℕ) (n : no ≡ common (drop at t) (status_text Status.unsatisfiable)) where
@@ -42,7 +43,7 @@ module _ (t : List ℕ) (at : ℕ) (line : at ≡ first_line 0 0 t) (yes : ℕ) 
     unfolding status_from
     is_no p = rw (← y, ne_eqb yes 14 yes-not, ← n, eq-eqb no 16 p)
 
-    pub found_no : no ≡ 16 → Other ≡ found_for (status_of t)
+    pub found_no : no ≡ 16 → Err NoModel ≡ found_for (status_of t)
     found_no p = sym (ap found_for (from_line ∙ is_no p))
 
     module _ (no-not : no ≡ 16 → ⊥) (unknown : ℕ) (k : unknown ≡ common (drop at t) (status_text Status.unknown)) where
@@ -50,7 +51,7 @@ module _ (t : List ℕ) (at : ℕ) (line : at ≡ first_line 0 0 t) (yes : ℕ) 
       unfolding status_from
       is_unknown p = rw (← y, ne_eqb yes 14 yes-not, ← n, ne_eqb no 16 no-not, ← k, eq-eqb unknown 10 p)
 
-      pub found_unknown : unknown ≡ 10 → Other ≡ found_for (status_of t)
+      pub found_unknown : unknown ≡ 10 → Err NoModel ≡ found_for (status_of t)
       found_unknown p = sym (ap found_for (from_line ∙ is_unknown p))
 
       module _ (m : ℕ) (larger : m ≡ max no unknown) (most : ℕ) (largest : most ≡ max yes m) where
@@ -58,7 +59,7 @@ module _ (t : List ℕ) (at : ℕ) (line : at ≡ first_line 0 0 t) (yes : ℕ) 
         unfolding status_from
         is_left p = rw (← y, ne_eqb yes 14 yes-not, ← n, ne_eqb no 16 no-not, ← k, ne_eqb unknown 10 p, ← larger, ← largest)
 
-        pub found_left : (unknown ≡ 10 → ⊥) → FoundLeft (at + most) ≡ found_for (status_of t)
+        pub found_left : (unknown ≡ 10 → ⊥) → malformed (at + most) ≡ found_for (status_of t)
         found_left p = sym (ap found_for (from_line ∙ is_left p))
 
         pub spot_within : at ≤ length t → at + most ≤ length t

@@ -1,7 +1,7 @@
 -- The form of the whole answer: literal by literal, and by its status.
 --   model_goes            after a literal the form is what it was before it, and the position is further on
 --   model_ends, model_breaks    literal 0 and what follows it; the spot where the answer leaves the form
---   form_satisfiable, form_other, form_left   the form by the status
+--   form_satisfiable, form_refused   the form by the status
 --   status_end_within     the status line ends within the answer
 -- Assumes nothing.
 use Prim.Native.Nat.{ℕ, ◌+◌, ◌≤◌, ◌<◌}
@@ -20,24 +20,21 @@ use Rattle.answer_form.proofs.Passing.{Passes, Heard, next_heard, Closed}
 use Rattle.answer_form.proofs.StatusLaws.{Told, status_told}
 use Rattle.answer_form.proofs.PieceLaws.{reads_closed}
 use Rattle.answer_form.proofs.Whole.{status_within}
-use Rattle.answer_reader.specs.declared.Found.{Found as FoundAnswer}
-use Rattle.answer_reader.specs.declared.Found.TheVariants.{Satisfiable, Other, Left as FoundLeft}
-use Rattle.answer_reader.specs.declared.Next.{Next as NextAnswer}
-use Rattle.answer_reader.specs.declared.Next.TheVariants.{Literal as NextLiteral, Last, Left as NextLeft}
-use Rattle.answer_reader.specs.declared.Closed.{Closed as ClosedAnswer}
-use Rattle.answer_reader.specs.declared.Formed.{Formed}
-use Rattle.answer_reader.specs.declared.Formed.TheVariants.{Model, NoModel, Malformed}
-use Rattle.answer_reader.proofs.Given.{found_satisfiable, found_other, found_left, next_named, next_last, next_left, next_further}
-use Rattle.answer_reader.specs.Results.{found_for, next_for, close_for, closed_form, model_from, form_for, form_of}
+use Rattle.std.specs.Prelude.{⊤, Result, Ok, Err}
+use Rattle.answer_reader.specs.declared.AnswerFault.{AnswerFault}
+use Rattle.answer_reader.specs.declared.Token.{Token}
+use Rattle.answer_reader.specs.declared.Token.TheVariants as token
+use Rattle.answer_reader.proofs.Given.{found_satisfiable, next_named, next_last, next_left, next_further}
+use Rattle.answer_reader.specs.Results.{Formed, malformed, found_for, next_for, close_for, closed_form, model_from, form_for, form_of}
 
 -- ---- from literal to literal
 
 module _ (t : List ℕ) where
   passed : (q r i n : ℕ) → Passes q (drop i t) r n → (e : ℕ)
-      → cond (answer_accepts q (drop i t)) (Model e) (Malformed (i + answer_leaves q (drop i t)))
-      ≡ cond (answer_accepts r (drop (i + n) t)) (Model e) (Malformed (i + n + answer_leaves r (drop (i + n) t)))
+      → cond (answer_accepts q (drop i t)) (Ok e) (malformed (i + answer_leaves q (drop i t)))
+      ≡ cond (answer_accepts r (drop (i + n) t)) (Ok e) (malformed (i + n + answer_leaves r (drop (i + n) t)))
   passed q r i n w e =
-      ap₂ (λ (x : Bool) (y : ℕ). cond x (Model e) (Malformed y)) (w.accept ∙ ap (answer_accepts r) (drop-drop n i t))
+      ap₂ (λ (x : Bool) (y : ℕ). cond x (Ok e) (malformed y)) (w.accept ∙ ap (answer_accepts r) (drop-drop n i t))
       (ap (λ (k : ℕ). i + k) (w.leave ∙ ap (λ (u : List ℕ). n + answer_leaves r u) (drop-drop n i t)) ∙ sym (add_assoc i n (answer_leaves r (drop (i + n) t))))
 
   module _ (e p : ℕ) where
@@ -48,7 +45,7 @@ module _ (t : List ℕ) where
         go : Heard 35 p (drop p t) (Next.literal l f j) → model_from e j t ≡ model_from e p t
         go (Heard.a_literal m g k n a b c s w) = ap (λ (i : ℕ). model_from e i t) s ∙ sym (passed 35 35 p n w e)
 
-    pub model_goes : p ≤ length t → (r : NextAnswer) → r ≡ next_for (next_literal t p) → (z : ℤ) (f j : ℕ) → r ≡ NextLiteral z f j
+    pub model_goes : p ≤ length t → (r : Result Token ℕ) → r ≡ next_for (next_literal t p) → (z : ℤ) (f j : ℕ) → r ≡ Ok (token.Literal z f j)
         → (p < j) × (j ≤ length t) × (model_from e j t ≡ model_from e p t)
     model_goes h r a z f j b =
         let n = next_named (next_literal t p) z f j (sym a ∙ b) in
@@ -58,38 +55,39 @@ module _ (t : List ℕ) where
     model_closed : (c : Close) → Closed 35 p (drop p t) c → closed_form e (close_for c) ≡ model_from e p t
     unfolding model_from
     model_closed c (Closed.is_fine a) = rw a
-    model_closed c (Closed.is_left s n f x) = ap Malformed (f ∙ ap (λ (k : ℕ). p + k) (sym x.leave)) ∙ rw x.reject
+    model_closed c (Closed.is_left s n f x) = ap malformed (f ∙ ap (λ (k : ℕ). p + k) (sym x.leave)) ∙ rw x.reject
 
-    pub model_ends : (r : NextAnswer) → r ≡ next_for (next_literal t p) → (j : ℕ) → r ≡ Last j → (c : ClosedAnswer) → c ≡ close_for (close_of t j)
+    pub model_ends : (r : Result Token ℕ) → r ≡ next_for (next_literal t p) → (j : ℕ) → r ≡ Ok (token.Last j) → (c : Result ⊤ ℕ) → c ≡ close_for (close_of t j)
         → (f : Formed) → f ≡ closed_form e c → f ≡ model_from e p t
     model_ends r a j b c d f g =
         g ∙ ap (closed_form e) d ∙ model_closed (close_of t j) (reads_closed t (Reads.ends j (next_last (next_literal t p) j (sym a ∙ b)) refl))
 
-    pub model_breaks : (r : NextAnswer) → r ≡ next_for (next_literal t p) → (s : ℕ) → r ≡ NextLeft s → Malformed s ≡ model_from e p t
+    pub model_breaks : (r : Result Token ℕ) → r ≡ next_for (next_literal t p) → (s : ℕ) → r ≡ Err s → malformed s ≡ model_from e p t
     model_breaks r a s b = model_closed (Close.left s) (reads_closed t (Reads.breaks s (next_left (next_literal t p) s (sym a ∙ b))))
 
   -- ---- by the status
 
-  module _ (r : FoundAnswer) (a : r ≡ found_for (status_of t)) where
-    status_is : (e : ℕ) → r ≡ Satisfiable e → status_of t ≡ Found.satisfiable e
+  module _ (r : Formed) (a : r ≡ found_for (status_of t)) where
+    status_is : (e : ℕ) → r ≡ Ok e → status_of t ≡ Found.satisfiable e
     status_is e b = found_satisfiable (status_of t) e (sym a ∙ b)
 
-    pub status_end_within : (e : ℕ) → r ≡ Satisfiable e → e ≤ length t
+    pub status_end_within : (e : ℕ) → r ≡ Ok e → e ≤ length t
     status_end_within e b = status_within t e (status_is e b)
 
-    pub form_satisfiable : (e : ℕ) → r ≡ Satisfiable e → (f : Formed) → f ≡ model_from e e t → f ≡ form_of t
+    pub form_satisfiable : (e : ℕ) → r ≡ Ok e → (f : Formed) → f ≡ model_from e e t → f ≡ form_of t
     unfolding form_of model_from
     form_satisfiable e b f g = g ∙ go (subst (λ (x : Found). Told 0 t x) (status_is e b) (status_told t)) ∙ sym (ap (form_for t) (status_is e b))
       where
         go : Told 0 t (Found.satisfiable e) → model_from e e t ≡ form_for t (Found.satisfiable e)
         go (Told.a_model k n h w) =
             let v : Passes 0 t 35 e = subst (λ (j : ℕ). Passes 0 t 35 j) (sym (h ∙ zero-add n)) w in
-            sym (ap₂ (λ (x : Bool) (y : ℕ). cond x (Model e) (Malformed y)) v.accept v.leave)
+            sym (ap₂ (λ (x : Bool) (y : ℕ). cond x (Ok e) (malformed y)) v.accept v.leave)
 
-    pub form_other : r ≡ Other → NoModel ≡ form_of t
+    pub form_refused : (f : AnswerFault) → r ≡ Err f → Err f ≡ form_of t
     unfolding form_of
-    form_other b = let s = found_other (status_of t) (sym a ∙ b) in sym (ap (form_for t) s.1)
-
-    pub form_left : (s : ℕ) → r ≡ FoundLeft s → Malformed s ≡ form_of t
-    unfolding form_of
-    form_left s b = sym (ap (form_for t) (found_left (status_of t) s (sym a ∙ b)))
+    form_refused f b = go (status_of t) refl (sym a ∙ b)
+      where
+        go : (x : Found) → status_of t ≡ x → found_for x ≡ Err f → Err f ≡ form_for t (status_of t)
+        go (Found.satisfiable e) is z = cc
+        go (Found.other s) is z = sym z ∙ sym (ap (form_for t) is)
+        go (Found.left s) is z = sym z ∙ sym (ap (form_for t) is)

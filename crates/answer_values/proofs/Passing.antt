@@ -1,12 +1,10 @@
 -- Literals that are passed over at once.
 --   PassKeeps, gives_keep    where they are assigned, the form, the outcome and the buffer from there on are those from before them
 --   NextKeeps, next_keeps    the same after the code's answer so far
---   stays                    nothing is passed over where an earlier literal was not assigned
---   passes_done              what is passed over where each literal was assigned
 -- Assumes nothing.
 use Prim.Native.Nat.{ℕ, ◌-◌, ◌≤◌, ◌<◌}
 use native.Mathlib.Omega.{arith}
-use mathlib.Core.Path.{◌≡◌, refl, sym, ◌∙◌, ap, subst}
+use mathlib.Core.Path.{◌≡◌, refl, sym, ◌∙◌, ap}
 use mathlib.Core.List.{List}
 use lib.ListN.{length, get_or, set}
 use borrow.Author.Tests.{eq-eqb, le-ltb}
@@ -15,10 +13,9 @@ use Literal.{var, −◌}
 use Rattle.answer_form.specs.Pieces.{Next, next_literal, Spotted}
 use Rattle.answer_reader.specs.Results.{capped, next_for, model_from}
 use Rattle.answer_reader.proofs.Whole.{model_goes}
-use Rattle.answer_quick.specs.Quick.{Gives, Passes}
-use Rattle.answer_bytes.specs.declared.Assigned.{Assigned}
-use Rattle.answer_bytes.specs.declared.Assigned.TheVariants.{Done, Stray, Repeated}
-use Rattle.answer_bytes.specs.Bytes.{Outcome, put_outcome, put_bytes, assigned_for}
+use Rattle.answer_quick.specs.Quick.{Gives}
+use Rattle.std.specs.Prelude.{Ok, Err}
+use Rattle.answer_bytes.specs.Bytes.{Outcome, put_outcome, put_bytes, Assigned, assigned_for}
 use Rattle.answer_values.specs.Assign.{literals_from, literal_value, assigned_of, assigned_bytes, next_answer, next_bytes, PassesNext}
 use Rattle.answer_values.proofs.Taking.{literals_more}
 
@@ -72,20 +69,9 @@ module _ (t : List ℕ) (n p : ℕ) (b : List ℕ) where
     pub bytes : next_bytes o (assigned_bytes n (literals_from t q) c) c ≡ next_bytes o (assigned_bytes n (literals_from t p) b) b
 
   pub next_keeps : p ≤ length t → (o : Assigned) (q : ℕ) (c : List ℕ) → PassesNext o t n p b q c → NextKeeps o q c
-  next_keeps h Done q c w =
+  next_keeps h (Ok x) q c w =
       let k = gives_keep h w.each in
       record { further = k.further; within = k.within; form = k.form; outcome = ap assigned_for k.outcome; bytes = k.bytes }
-  next_keeps h (Stray s) q c w =
+  next_keeps h (Err f) q c w =
       let same : (e : ℕ) → model_from e q t ≡ model_from e p t = λ e. ap (λ (i : ℕ). model_from e i t) w.0 in
       record { further = omega (arith, w.0); within = omega (arith, w.0, h); form = same; outcome = refl; bytes = w.1 }
-  next_keeps h (Repeated s) q c w =
-      let same : (e : ℕ) → model_from e q t ≡ model_from e p t = λ e. ap (λ (i : ℕ). model_from e i t) w.0 in
-      record { further = omega (arith, w.0); within = omega (arith, w.0, h); form = same; outcome = refl; bytes = w.1 }
-
-  pub stays : (o : Assigned) → (o ≡ Done → ⊥) → PassesNext o t n p b p b
-  stays Done d = absurd (d refl)
-  stays (Stray s) d = (refl, refl)
-  stays (Repeated s) d = (refl, refl)
-
-  pub passes_done : (o : Assigned) → o ≡ Done → (q : ℕ) (c : List ℕ) → Passes t n p b q c → PassesNext o t n p b q c
-  passes_done o e q c w = subst (λ (a : Assigned). PassesNext a t n p b q c) (sym e) w

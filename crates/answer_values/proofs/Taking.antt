@@ -1,77 +1,45 @@
 -- The literals of an answer, one after the other.
 --   Ahead, ahead                           a literal is of a variable from 1 on and ends after its position, within the text
 --   literals_read                          `literals_from` gives the literals that are read
+--   ok_is                                  a pattern within `Ok`
 --   Took, next_took, given_took            what it says that the code was given a literal
 --   last_none, left_none                   and that it was given none
---   not_done                               an answer that is not `Done`
 --   literals_more, literals_ended, literals_broken   the literals from a position on, by the next one
 --   took_positive, took_small                        a literal given is fit to be put
 --   assign_goes, assign_stops                        the outcome and the buffer: literal done, literal stray or repeated
 -- Assumes nothing.
 use Prim.Native.Nat.{ℕ, zero, suc, ◌+◌, ◌^◌, ◌≤◌, ◌<◌}
 use native.Mathlib.Omega.{arith}
-use mathlib.Core.Path.{◌≡◌, refl, sym, ◌∙◌, ap, ap₂, subst}
+use mathlib.Core.Path.{◌≡◌, refl, sym, ◌∙◌, ap, subst}
 use mathlib.Core.List.{List, [], ◌∷◌}
 use lib.IntN.{ℤ, nat_abs}
 use lib.ListN.{length, length-drop, drop}
 use mir.Syntax.{w32}
 use mir.Val.{to_z, of_z}
 use mir.Facts.{to_z-of_z}
-use types.Run.{OneOf, miss}
-use denote.Enum.Declared.{tag_of}
 use borrow.Author.Tests.{ltb-true}
 use Rattle.encoding.specs.Literal.{Literal, variable}
 use Rattle.clause_literals.proofs.Signed.{abs_fits}
 use Rattle.answer_form.specs.Pieces.{Next, next_literal, Close, Spotted, Reads}
 use Rattle.answer_form.proofs.Passing.{Heard, next_heard}
 use Rattle.answer_form.proofs.PieceLaws.{reads_total}
-use Rattle.answer_reader.specs.declared.Next.{Next as NextAnswer}
-use Rattle.answer_reader.specs.declared.Next.TheVariants.{Literal as NextLiteral, Last, Left as NextLeft}
+use Rattle.std.specs.Prelude.{Result, Ok, Err}
+use Rattle.answer_reader.specs.declared.Token.{Token}
+use Rattle.answer_reader.specs.declared.Token.TheVariants as token
 use Rattle.answer_reader.specs.Results.{capped, next_for}
-use Rattle.answer_bytes.specs.declared.Assigned.{Assigned}
-use Rattle.answer_bytes.specs.declared.Assigned.TheVariants.{Done, Stray, Repeated}
-use Rattle.answer_bytes.specs.Bytes.{Outcome, put_outcome, put_bytes, number_value, assigned_for}
+use Rattle.answer_bytes.specs.Bytes.{Outcome, put_outcome, put_bytes, number_value, Assigned, assigned_for}
 use Rattle.answer_values.specs.Assign.{literal_then, literals_within, literals_from, literal_value, then_outcome, then_bytes, assigned_of, assigned_bytes}
-use Rattle.answer_bytes.specs.contracts.Assigned.{the_type}
 use Rattle.answer_bytes.proofs.Putting.{put_stops}
 use Rattle.answer_values.proofs.Capped.{capped_positive, capped_small, capped_outcome, capped_bytes}
 
--- ---- the variants told apart
+-- a pattern within `Ok`
+pub ok_is : {A E : Type 0} {r : Result A E} {x y : A} → r ≡ Ok y → y ≡ x → r ≡ Ok x
+ok_is p q = p ∙ ap Ok q
 
-next_kind : NextAnswer → ℕ
-next_kind (NextLiteral x f j) = 0
-next_kind (Last j) = 1
-next_kind (NextLeft s) = 2
-
-number_in : NextAnswer → ℤ → ℤ
-number_in (NextLiteral x f j) d = x
-number_in (Last j) d = d
-number_in (NextLeft s) d = d
-
-first_in : NextAnswer → ℕ
-first_in (NextLiteral x f j) = f
-first_in (Last j) = 0
-first_in (NextLeft s) = 0
-
-behind_in : NextAnswer → ℕ
-behind_in (NextLiteral x f j) = j
-behind_in (Last j) = j
-behind_in (NextLeft s) = s
-
-outcome_kind : Assigned → ℕ
-outcome_kind Done = 0
-outcome_kind (Stray s) = 1
-outcome_kind (Repeated s) = 2
-
-done_of : (o : Outcome) → assigned_for o ≡ Done → o ≡ Outcome.done
-unfolding outcome_kind
+done_of : (o : Outcome) → assigned_for o ≡ Ok tt → o ≡ Outcome.done
 done_of Outcome.done e = refl
-done_of (Outcome.stray s) e = absurd (omega (arith, ap outcome_kind e))
-done_of (Outcome.repeated s) e = absurd (omega (arith, ap outcome_kind e))
-
--- an answer that is told to be the second or third variant is not the first
-pub not_done : (o : Assigned) → OneOf (1 ∷ 2 ∷ []) (tag_of the_type o) → o ≡ Done → ⊥
-not_done o k e = miss (1 ∷ 2 ∷ []) 0 tt (subst (λ (u : Assigned). OneOf (1 ∷ 2 ∷ []) (tag_of the_type u)) e k)
+done_of (Outcome.stray s) e = cc
+done_of (Outcome.repeated s) e = cc
 
 then_stays : (o u : Outcome) → (o ≡ Outcome.done → ⊥) → then_outcome o u ≡ o
 then_stays Outcome.done u h = absurd (h refl)
@@ -134,40 +102,38 @@ module _ (t : List ℕ) where
     pub next : next_literal t p ≡ Next.literal literal f j
     pub place : Ahead p literal j
 
-  pub next_took : (p : ℕ) (r : NextAnswer) → r ≡ next_for (next_literal t p) → (x : ℤ) (f j : ℕ) → r ≡ NextLiteral x f j → Took p x f j
-  unfolding next_kind number_in first_in behind_in
+  pub next_took : (p : ℕ) (r : Result Token ℕ) → r ≡ next_for (next_literal t p) → (x : ℤ) (f j : ℕ) → r ≡ Ok (token.Literal x f j) → Took p x f j
   next_took p r a x f j b = go (next_literal t p) refl (sym b ∙ a)
     where
-      go : (y : Next) → next_literal t p ≡ y → NextLiteral x f j ≡ next_for y → Took p x f j
+      go : (y : Next) → next_literal t p ≡ y → Ok (token.Literal x f j) ≡ next_for y → Took p x f j
       go (Next.literal l g k) e q =
-          let same = e ∙ ap₂ (λ (i o : ℕ). Next.literal l i o) (sym (ap first_in q)) (sym (ap behind_in q)) in
-          record { literal = l; number = ap (λ (z : NextAnswer). number_in z x) q; next = same; place = ahead p l f j same }
-      go (Next.last k) e q = absurd (omega (arith, ap next_kind q))
-      go (Next.left s) e q = absurd (omega (arith, ap next_kind q))
+          let same : next_literal t p ≡ Next.literal l f j = cc in
+          let number : x ≡ capped l = cc in
+          record { literal = l; number = number; next = same; place = ahead p l f j same }
+      go (Next.last k) e q = absurd (cc)
+      go (Next.left s) e q = absurd (cc)
 
   -- the same of what the machine reads back of x
-  pub given_took : (p : ℕ) (r : NextAnswer) → r ≡ next_for (next_literal t p) → (x : ℤ) (f j : ℕ) → r ≡ NextLiteral x f j → Took p (to_z w32 (of_z w32 x)) f j
+  pub given_took : (p : ℕ) (r : Result Token ℕ) → r ≡ next_for (next_literal t p) → (x : ℤ) (f j : ℕ) → r ≡ Ok (token.Literal x f j) → Took p (to_z w32 (of_z w32 x)) f j
   given_took p r a x f j b =
       let w = next_took p r a x f j b in
       let fits = abs_fits x (subst (λ (z : ℤ). nat_abs z < 2 ^ 31) (sym w.number) (capped_small w.literal)) in
       subst (λ (z : ℤ). Took p z f j) (sym (to_z-of_z fits)) w
 
-  pub last_none : (p : ℕ) (r : NextAnswer) → r ≡ next_for (next_literal t p) → (j : ℕ) → r ≡ Last j → literals_from t p ≡ []
-  unfolding next_kind
+  pub last_none : (p : ℕ) (r : Result Token ℕ) → r ≡ next_for (next_literal t p) → (j : ℕ) → r ≡ Ok (token.Last j) → literals_from t p ≡ []
   last_none p r a j b = go (next_literal t p) refl (sym b ∙ a)
     where
-      go : (y : Next) → next_literal t p ≡ y → Last j ≡ next_for y → literals_from t p ≡ []
-      go (Next.literal l g k) e q = absurd (omega (arith, ap next_kind q))
+      go : (y : Next) → next_literal t p ≡ y → Ok (token.Last j) ≡ next_for y → literals_from t p ≡ []
+      go (Next.literal l g k) e q = absurd (cc)
       go (Next.last k) e q = literals_ended p k e
-      go (Next.left s) e q = absurd (omega (arith, ap next_kind q))
+      go (Next.left s) e q = absurd (cc)
 
-  pub left_none : (p : ℕ) (r : NextAnswer) → r ≡ next_for (next_literal t p) → (s : ℕ) → r ≡ NextLeft s → literals_from t p ≡ []
-  unfolding next_kind
+  pub left_none : (p : ℕ) (r : Result Token ℕ) → r ≡ next_for (next_literal t p) → (s : ℕ) → r ≡ Err s → literals_from t p ≡ []
   left_none p r a j b = go (next_literal t p) refl (sym b ∙ a)
     where
-      go : (y : Next) → next_literal t p ≡ y → NextLeft j ≡ next_for y → literals_from t p ≡ []
-      go (Next.literal l g k) e q = absurd (omega (arith, ap next_kind q))
-      go (Next.last k) e q = absurd (omega (arith, ap next_kind q))
+      go : (y : Next) → next_literal t p ≡ y → Err j ≡ next_for y → literals_from t p ≡ []
+      go (Next.literal l g k) e q = absurd (cc)
+      go (Next.last k) e q = absurd (cc)
       go (Next.left s) e q = literals_broken p s e
 
   module _ (p : ℕ) (x : ℤ) (f j : ℕ) (w : Took p x f j) where
@@ -186,7 +152,7 @@ module _ (t : List ℕ) where
       bytes_are : c ≡ put_bytes n (variable w.literal) (literal_value w.literal) b
       bytes_are = g ∙ ap (λ (z : ℤ). put_bytes n (nat_abs z) (number_value z) b) w.number ∙ capped_bytes n f b w.literal small w.place.named
 
-      pub assign_goes : o ≡ Done
+      pub assign_goes : o ≡ Ok tt
           → (assigned_of n (literals_from t j) c ≡ assigned_of n (literals_from t p) b) × (assigned_bytes n (literals_from t j) c ≡ assigned_bytes n (literals_from t p) b)
       assign_goes d =
           let m = literals_more p w.literal f j w.next in
@@ -195,7 +161,7 @@ module _ (t : List ℕ) where
             ap (assigned_bytes n (literals_from t j)) bytes_are ∙ sym (ap (λ (u : List Spotted). assigned_bytes n u b) m ∙ rw is),
           )
 
-      pub assign_stops : (o ≡ Done → ⊥) → (o ≡ assigned_for (assigned_of n (literals_from t p) b)) × (c ≡ assigned_bytes n (literals_from t p) b)
+      pub assign_stops : (o ≡ Ok tt → ⊥) → (o ≡ assigned_for (assigned_of n (literals_from t p) b)) × (c ≡ assigned_bytes n (literals_from t p) b)
       assign_stops d =
           let m = literals_more p w.literal f j w.next in
           let stays : put_outcome n (variable w.literal) f b ≡ Outcome.done → ⊥ = λ q. d (outcome_is ∙ ap assigned_for q) in (

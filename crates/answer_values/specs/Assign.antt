@@ -8,24 +8,21 @@
 --   assigned_bytes n xs b  the buffer at that moment
 --   is_named xs v         some literal of xs is of variable v
 --   unnamed_count n xs    how many of the variables 1 to n no literal of xs names
---   next_answer, next_bytes the code's answer a, then an outcome; the buffer later on if a is Done, else the buffer now
+--   next_answer, next_bytes the code's answer a, then an outcome; the buffer later on if a is Ok, else the buffer now
 --   PassesNext a t n p b q c   after the code's answer a, literals of t from position p up to q are passed over and the buffer b becomes c
 --   read_outcome n t b    the outcome of the literals of the whole answer t, done if its status is not SATISFIABLE
 --   read_bytes n t b      the buffer at that moment
 --   assumed_by f o k      how many variables are read as false, where k have no value: k if the form f is that of a model and o says that each literal is
 --                         assigned, and 0 of an answer that is refused
 -- Assumes nothing.
-use Rattle.std.specs.Prelude.{ℕ, zero, suc, ◌<◌, ◌≡◌, Bool, cond, List, [], ◌∷◌, eqb, length, get_or}
+use Rattle.std.specs.Prelude.{ℕ, zero, suc, ◌<◌, ◌≡◌, Bool, cond, List, [], ◌∷◌, eqb, length, get_or, Ok, Err}
 use Rattle.lists.specs.Lists.{any, sum}
 use Rattle.encoding.specs.Literal.{Literal, variable}
 use Literal.{var, −◌}
 use Rattle.answer_form.specs.Pieces.{Found, status_of, Next, next_literal, Spotted}
-use Rattle.answer_reader.specs.declared.Formed.{Formed}
-use Rattle.answer_reader.specs.declared.Formed.TheVariants.{Model, NoModel, Malformed}
+use Rattle.answer_reader.specs.Results.{Formed}
 use Rattle.answer_quick.specs.Quick.{Passes}
-use Rattle.answer_bytes.specs.Bytes.{Outcome, put_outcome, put_bytes, assigned_for}
-use Rattle.answer_bytes.specs.declared.Assigned.{Assigned}
-use Rattle.answer_bytes.specs.declared.Assigned.TheVariants.{Done, Stray, Repeated}
+use Rattle.answer_bytes.specs.Bytes.{Outcome, put_outcome, put_bytes, Assigned, assigned_for}
 
 -- ---- literals
 
@@ -102,20 +99,17 @@ assigned_bytes n (x ∷ xs) b =
 -- ---- for the code
 
 abbrev pub next_answer : Assigned → Outcome → Assigned
-next_answer Done o = assigned_for o
-next_answer (Stray s) o = Stray s
-next_answer (Repeated s) o = Repeated s
+next_answer (Ok x) o = assigned_for o
+next_answer (Err f) o = Err f
 
 abbrev pub next_bytes : Assigned → List ℕ → List ℕ → List ℕ
-next_bytes Done later b = later
-next_bytes (Stray s) later b = b
-next_bytes (Repeated s) later b = b
+next_bytes (Ok x) later b = later
+next_bytes (Err f) later b = b
 
 -- literals are passed over if each literal before them was assigned
 abbrev pub PassesNext : Assigned → List ℕ → ℕ → ℕ → List ℕ → ℕ → List ℕ → Type 0
-PassesNext Done t n p b q c = Passes t n p b q c
-PassesNext (Stray s) t n p b q c = (q ≡ p) × (c ≡ b)
-PassesNext (Repeated s) t n p b q c = (q ≡ p) × (c ≡ b)
+PassesNext (Ok x) t n p b q c = Passes t n p b q c
+PassesNext (Err f) t n p b q c = (q ≡ p) × (c ≡ b)
 
 -- ---- the whole answer, by its status
 
@@ -136,8 +130,6 @@ unfoldable pub read_bytes : ℕ → List ℕ → List ℕ → List ℕ
 read_bytes n t b = bytes_by n t b (status_of t)
 
 abbrev pub assumed_by : Formed → Assigned → ℕ → ℕ
-assumed_by (Model e) Done k = k
-assumed_by (Model e) (Stray s) k = 0
-assumed_by (Model e) (Repeated s) k = 0
-assumed_by NoModel o k = 0
-assumed_by (Malformed s) o k = 0
+assumed_by (Ok e) (Ok x) k = k
+assumed_by (Ok e) (Err f) k = 0
+assumed_by (Err g) o k = 0

@@ -8,55 +8,68 @@ ghost use Rattle.answer_bytes.specs.Bytes.{put_outcome, put_bytes, unset_count, 
 ghost use Rattle.answer_values.specs.Assign.{literals_from, assigned_of, assigned_bytes, next_answer, next_bytes};
 ghost use Rattle.answer_values.specs.Assign.{read_outcome, read_bytes, assumed_by, PassesNext};
 
-use answer_bytes::{Assigned, put_value, unset_count};
+use answer_bytes::{AssignFault, put_value, unset_count};
 use answer_quick::literals_from;
-use answer_reader::{Formed, Found, Next, close, closed_form, next_from, status};
+use answer_reader::{AnswerFault, Token, close, closed_form, next_from, status};
 
 // The form of an answer, how its literals were assigned, and how many variables no literal names, 0 if the answer is refused.
 #[derive(Clone, Copy)]
 pub struct AnswerRead {
-    pub form: Formed,
-    pub outcome: Assigned,
+    pub form: Result<usize, AnswerFault>,
+    pub outcome: Result<(), AssignFault>,
     pub assumed: usize,
 }
 
 // How many variables are read as false: those that have no value, if the answer offers a model and each literal is assigned.
-fn assumed_of(f: Formed, o: Assigned, assignment: &[u8], v: usize) -> usize
+fn assumed_of(
+    form: Result<usize, AnswerFault>,
+    outcome: Result<(), AssignFault>,
+    assignment: &[u8],
+    v: usize,
+) -> usize
     requires { (v ≤ length assignment.now) × (v ≤ 9890) }
-    ensures { result ≡ assumed_by f o (unset_count v assignment.now) }
+    ensures { result ≡ assumed_by form outcome (unset_count v assignment.now) }
 {
-    match f {
-        Formed::Model(e) => match o {
-            Assigned::Done => unset_count(assignment, v),
-            Assigned::Stray(s) => 0,
-            Assigned::Repeated(s) => 0,
-        },
-        Formed::NoModel => 0,
-        Formed::Malformed(s) => 0,
+    match (form, outcome) {
+        (Ok(_), Ok(())) => unset_count(assignment, v),
+        _ => 0,
     }
 }
 
-// Assigns one literal if each literal before it was assigned, as `o` says; else the assignment stays.
-fn put_next_value(o: Assigned, x: i32, first: usize, v: usize, assignment: &mut [u8]) -> Assigned
+// Assigns one literal if each literal before it was assigned, as `outcome` says; else the assignment stays.
+fn put_next_value(
+    outcome: Result<(), AssignFault>,
+    x: i32,
+    first: usize,
+    v: usize,
+    assignment: &mut [u8],
+) -> Result<(), AssignFault>
     requires { (0 < nat_abs x) × (nat_abs x < 2 ^ 31) × (v ≤ length assignment.old) × (v ≤ 9890) }
-    ensures { (result ≡ next_answer o (put_outcome v (nat_abs x) first assignment.old))
-        × (assignment.new ≡ next_bytes o (put_bytes v (nat_abs x) (number_value x) assignment.old) assignment.old) }
+    ensures { (result ≡ next_answer outcome (put_outcome v (nat_abs x) first assignment.old))
+        × (assignment.new ≡ next_bytes outcome (put_bytes v (nat_abs x) (number_value x) assignment.old) assignment.old) }
 {
-    let Assigned::Done = o else {
-        return o;
-    };
-    put_value(x, first, v, &mut *assignment)
+    match outcome {
+        Ok(()) => put_value(x, first, v, assignment),
+        Err(fault) => Err(fault),
+    }
 }
 
-// Passes over the literals that stand in their common form from position `from` on and assigns them, if each literal before them was assigned, as `o` says.
-fn pass_literals(o: Assigned, answer: &[u8], from: usize, v: usize, assignment: &mut [u8]) -> usize
+// Passes over the literals that stand in their common form from position `from` on and assigns them, if each literal before them was assigned, as `outcome`
+// says.
+fn pass_literals(
+    outcome: Result<(), AssignFault>,
+    answer: &[u8],
+    from: usize,
+    v: usize,
+    assignment: &mut [u8],
+) -> usize
     requires { (from ≤ length answer.now) × (v ≤ length assignment.old) }
-    ensures { PassesNext o answer.now v from assignment.old result assignment.new }
+    ensures { PassesNext outcome answer.now v from assignment.old result assignment.new }
 {
-    let Assigned::Done = o else {
-        return from;
-    };
-    literals_from(answer, from, v, &mut *assignment)
+    match outcome {
+        Ok(()) => literals_from(answer, from, v, assignment),
+        Err(_) => from,
+    }
 }
 
 // Reads the answer from position `from` on to its end: its form, and its literals, assigned up to literal 0 or the first that is stray or repeated.
@@ -68,29 +81,28 @@ fn read_from(answer: &[u8], from: usize, v: usize, assignment: &mut [u8]) -> Ans
         × (result.assumed ≡ assumed_by result.form result.outcome (unset_count v assignment.new)) }
 {
     let mut p = from;
-    let mut o = Assigned::Done;
+    let mut outcome = Ok(());
     loop {
-        p = pass_literals(o, answer, p, v, &mut *assignment);
+        p = pass_literals(outcome, answer, p, v, assignment);
         let n = next_from(answer, p);
         match n {
-            Next::Literal(x, first, behind) => {
-                o = put_next_value(o, x, first, v, &mut *assignment);
+            Ok(Token::Literal(x, first, behind)) => {
+                outcome = put_next_value(outcome, x, first, v, assignment);
                 p = behind;
             }
-            Next::Last(behind) => {
-                let c = close(answer, behind);
-                let f = closed_form(from, c);
-                let k = assumed_of(f, o, &*assignment, v);
+            Ok(Token::Last(behind)) => {
+                let form = closed_form(from, close(answer, behind));
+                let assumed = assumed_of(form, outcome, assignment, v);
                 return AnswerRead {
-                    form: f,
-                    outcome: o,
-                    assumed: k,
+                    form,
+                    outcome,
+                    assumed,
                 };
             }
-            Next::Left(s) => {
+            Err(spot) => {
                 return AnswerRead {
-                    form: Formed::Malformed(s),
-                    outcome: o,
+                    form: Err(AnswerFault::Malformed(spot)),
+                    outcome,
                     assumed: 0,
                 };
             }
@@ -107,17 +119,11 @@ pub fn read_form(answer: &[u8], v: usize, assignment: &mut [u8]) -> AnswerRead
         × (assignment.new ≡ read_bytes v answer.now assignment.old)
         × (result.assumed ≡ assumed_by result.form result.outcome (unset_count v assignment.new)) }
 {
-    let s = status(answer);
-    match s {
-        Found::Satisfiable(e) => read_from(answer, e, v, &mut *assignment),
-        Found::Other => AnswerRead {
-            form: Formed::NoModel,
-            outcome: Assigned::Done,
-            assumed: 0,
-        },
-        Found::Left(spot) => AnswerRead {
-            form: Formed::Malformed(spot),
-            outcome: Assigned::Done,
+    match status(answer) {
+        Ok(end) => read_from(answer, end, v, assignment),
+        Err(fault) => AnswerRead {
+            form: Err(fault),
+            outcome: Ok(()),
             assumed: 0,
         },
     }

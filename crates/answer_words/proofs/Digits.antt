@@ -1,17 +1,18 @@
 -- Numbers, from their digits on.
 --   digit_from                              a digit is 48 or more
---   number_goes, number_ends, number_stops  one turn of the loop over digits, a byte that is no digit, the end of the answer
---   number_begins                           the number from its first digit on, by what follows that
+--   number_goes, number_ends, number_short  one turn of the loop over digits, a byte that is no digit, the end of the answer
 --   kept, number_small                      a capped number is the number or the largest, and below 2^31
 -- Assumes nothing.
-use Prim.Native.Nat.{ℕ, ◌+◌, ◌*◌, ◌-◌, ◌^◌, ◌≤◌, ◌<◌, min}
+use Prim.Native.Nat.{ℕ, ◌+◌, ◌*◌, ◌-◌, ◌^◌, ◌≤◌, ◌<◌, min, max}
 use native.Mathlib.Omega.{arith}
 use mathlib.Core.Path.{◌≡◌, refl, sym, ◌∙◌}
 use mathlib.Core.Bool.{Bool, true, false, not, cond, true≢false}
+use mathlib.Core.Logic.{⊎_elim}
 use mathlib.Core.List.{List}
 use lib.Dec.{ltb}
 use lib.ListN.{length, get_or, drop}
 use borrow.Author.Tests.{ltb-false, not-true, not-false}
+use Rattle.lists.proofs.Tests.{le_or_lt}
 use Rattle.reader_form.specs.Automaton.{digit_test}
 use Rattle.answer_form.specs.Pieces.{digits_value, capped_value, behind_digits}
 use Rattle.answer_form.proofs.Digits.{capped_value_lem}
@@ -38,14 +39,19 @@ module _ (t : List ℕ) (v i x y : ℕ) (inv : (capped_value most_number v (drop
   number_ends d h e f =
       (sym (capped_turn t i most_number v h ∙ rw (← e, not-true d f)) ∙ inv.0, sym (behind_turn t i h ∙ rw (← e, not-true d f)) ∙ inv.1)
 
-  pub number_stops : length t ≤ i → (v ≡ x) × (i ≡ y)
+  number_stops : length t ≤ i → (v ≡ x) × (i ≡ y)
   number_stops h = (sym (capped_stop t i most_number v h) ∙ inv.0, sym (behind_stop t i h) ∙ inv.1)
 
-pub number_begins : (t : List ℕ) (i : ℕ) → i < length t → (d : Bool) → d ≡ digit_test (get_or t i 0) → d ≡ true → (n : ℕ)
-    → n ≡ min most_number (0 * 10 + (get_or t i 0 - 48)) → (x y : ℕ) → (x ≡ capped_value most_number n (drop (i + 1) t)) × (y ≡ behind_digits (i + 1) (drop (i + 1) t))
-    → (x ≡ capped_value most_number 0 (drop i t)) × (y ≡ behind_digits i (drop i t))
-number_begins t i h d e f n g x y w =
-    (w.0 ∙ sym (capped_turn t i most_number 0 h ∙ rw (← e, f, ← g)), w.1 ∙ sym (behind_turn t i h ∙ rw (← e, f)))
+-- the loop from `at` on has ended at i
+pub number_short : (t : List ℕ) (v i x at m : ℕ) → m ≡ max (length t) at
+    → (capped_value most_number v (drop i t) ≡ x) × (behind_digits i (drop i t) ≡ behind_digits at (drop at t)) → length t ≤ i → (at ≤ length t → i ≤ length t)
+    → (v ≡ x) × (m ≡ behind_digits at (drop at t))
+number_short t v i x at m e inv h g = ((number_stops t v i _ _ inv h).0, ends)
+  where
+    ends : m ≡ behind_digits at (drop at t)
+    ends =
+        ⊎_elim (λ (k : at ≤ length t). omega (arith, e, h, g k) ∙ (number_stops t v i _ _ inv h).1)
+        (λ (k : length t < at). omega (arith, e, k) ∙ sym (behind_stop t at (omega (arith, k)))) (le_or_lt at (length t))
 
 pub kept : (u : List ℕ) → capped_value most_number 0 u ≡ min most_number (digits_value 0 u)
 kept u = capped_value_lem most_number 0 u

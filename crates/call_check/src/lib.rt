@@ -6,14 +6,14 @@ ghost use Rattle.clause_tables.specs.Tables.{Ready, code_in};
 ghost use Rattle.call_results.specs.Results.{called};
 ghost use Rattle.call_check_rows.specs.Check.{CheckGives, check_result, check_call};
 
-use answer_reader::Formed;
+use answer_reader::AnswerFault;
 use answer_values::read_form;
 use call_check_judge::assigned;
 use call_check_rows::CheckVerdict;
 use call_table::load;
 use clause_cells::totals;
 use clause_tables::CELLS;
-use reader::{MAX_TEXT, ReadVerdict};
+use reader::MAX_TEXT;
 use refusals::CheckRefusal;
 
 // The check against the program of a table: rows 8 and 10 to 16. The answer has `total` bytes; of one that is not overlong, `answer` is all. Its
@@ -32,22 +32,21 @@ pub fn check_in<'a>(
 {
     let t = totals(table);
     if assignment.len() < t.vars {
-        return CheckVerdict::Refused(CheckRefusal::ShortBuffer(t.vars));
+        return Err(CheckRefusal::ShortBuffer(t.vars));
     }
     let n = t.sizes.n as usize;
     if levels.len() < n {
-        return CheckVerdict::Refused(CheckRefusal::ShortBuffer(n));
+        return Err(CheckRefusal::ShortBuffer(n));
     }
     if MAX_TEXT < total {
-        return CheckVerdict::Refused(CheckRefusal::OverlongAnswer(total));
+        return Err(CheckRefusal::OverlongAnswer(total));
     }
     let mut values = [2u8; 9890];
     let x = read_form(answer, t.vars, &mut values);
-    let f = x.form;
-    match f {
-        Formed::Malformed(s) => CheckVerdict::Refused(CheckRefusal::MalformedAnswer(s)),
-        Formed::NoModel => CheckVerdict::Refused(CheckRefusal::NoModelOffered),
-        Formed::Model(e) => assigned(table, x, &values, &mut *assignment, &mut *levels),
+    match x.form {
+        Err(AnswerFault::Malformed(s)) => Err(CheckRefusal::MalformedAnswer(s)),
+        Err(AnswerFault::NoModel) => Err(CheckRefusal::NoModelOffered),
+        Ok(_) => assigned(table, x, &values, assignment, levels),
     }
 }
 
@@ -58,15 +57,6 @@ pub fn check(text: &[u8], answer: &[u8], assignment: &mut [u8], levels: &mut [u8
         ≡ check_call text.now answer.now assignment.old levels.old }
 {
     let mut table = [0u16; CELLS];
-    let v = load(text, &mut table);
-    match v {
-        ReadVerdict::Accepted => check_in(
-            &table,
-            answer,
-            answer.len(),
-            &mut *assignment,
-            &mut *levels,
-        ),
-        ReadVerdict::Refused(r) => CheckVerdict::Refused(CheckRefusal::Text(r)),
-    }
+    load(text, &mut table)?;
+    check_in(&table, answer, answer.len(), assignment, levels)
 }

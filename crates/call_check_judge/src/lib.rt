@@ -1,16 +1,15 @@
 // The check of values that an answer gave: rows 13, 14 and 16, and what an accepted one writes (document 01, "Check and filling out").
 #![tactic(auto)]
 
-ghost use Rattle.std.specs.Prelude.{◌≤◌, ◌≡◌, length, take};
+ghost use Rattle.std.specs.Prelude.{◌≤◌, ◌≡◌, length, take, Err};
 ghost use Rattle.encoding.specs.Code.{variables_of};
 ghost use Rattle.clause_tables.specs.Tables.{Ready, code_in, atoms_in, vars_in};
 ghost use Rattle.answer_bytes.specs.Bytes.{completed, overwritten};
-ghost use Rattle.call_check_rows.specs.declared.CheckVerdict.TheVariants.{Refused};
 ghost use Rattle.call_check_rows.specs.Check.{CheckGives, values_judged, outcome_of, after_assigning};
 
-use answer_bytes::{Assigned, copy_completed, fill};
+use answer_bytes::{AssignFault, copy_completed, fill};
 use answer_values::AnswerRead;
-use call_check_rows::CheckVerdict;
+use call_check_rows::{CheckVerdict, Shown};
 use call_results::{highest_of, put_counters, true_count};
 use clause_cells::totals;
 use refusals::CheckRefusal;
@@ -19,10 +18,10 @@ use truth_clauses::first_false;
 // Refuses with r and zeros the values of v variables.
 fn refuse_zeroed(r: CheckRefusal, v: usize, assignment: &mut [u8]) -> CheckVerdict
     requires { v ≤ length assignment.old }
-    ensures { (result ≡ Refused r) × (assignment.new ≡ overwritten v 0 assignment.old) }
+    ensures { (result ≡ Err r) × (assignment.new ≡ overwritten v 0 assignment.old) }
 {
-    fill(&mut *assignment, v, 0);
-    CheckVerdict::Refused(r)
+    fill(assignment, v, 0);
+    Err(r)
 }
 
 // Row 16, for the values that stand in the assignment, `assumed` of which are assumed.
@@ -33,17 +32,16 @@ fn judge(table: &[u16], assumed: usize, assignment: &mut [u8], levels: &mut [u8]
         assignment.old assignment.new levels.old levels.new }
 {
     let t = totals(table);
-    let j = first_false(table, &*assignment);
-    if 0 < j {
-        return refuse_zeroed(CheckRefusal::FalseClause(j), t.vars, &mut *assignment);
+    if let Some(j) = first_false(table, assignment) {
+        return refuse_zeroed(CheckRefusal::FalseClause(j), t.vars, assignment);
     }
-    put_counters(t.sizes, &*assignment, &mut *levels);
+    put_counters(t.sizes, assignment, levels);
     let n = t.sizes.n;
-    CheckVerdict::Model(
-        true_count(n, &*assignment),
-        highest_of(n, &*levels),
+    Ok(Shown {
+        atoms: true_count(n, assignment),
+        highest: highest_of(n, levels),
         assumed,
-    )
+    })
 }
 
 // Rows 13 and 14, by how the literals of the answer were assigned, then row 16, for the values that they gave, completed.
@@ -63,17 +61,16 @@ pub fn assigned<'a>(
         levels.old levels.new }
 {
     let t = totals(table);
-    let o = x.outcome;
-    match o {
-        Assigned::Done => {
-            copy_completed(values, t.vars, &mut *assignment);
-            judge(table, x.assumed, &mut *assignment, &mut *levels)
+    match x.outcome {
+        Ok(()) => {
+            copy_completed(values, t.vars, assignment);
+            judge(table, x.assumed, assignment, levels)
         }
-        Assigned::Stray(s) => {
-            refuse_zeroed(CheckRefusal::StrayVariable(s), t.vars, &mut *assignment)
+        Err(AssignFault::Stray(s)) => {
+            refuse_zeroed(CheckRefusal::StrayVariable(s), t.vars, assignment)
         }
-        Assigned::Repeated(s) => {
-            refuse_zeroed(CheckRefusal::RepeatedVariable(s), t.vars, &mut *assignment)
+        Err(AssignFault::Repeated(s)) => {
+            refuse_zeroed(CheckRefusal::RepeatedVariable(s), t.vars, assignment)
         }
     }
 }

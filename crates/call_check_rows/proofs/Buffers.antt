@@ -28,13 +28,13 @@ use Rattle.answer_offers.specs.Offered.{value_bytes, values_of}
 use Rattle.call_results.specs.Results.{Result, assignment_after, levels_after, var_total, program_read}
 use Rattle.refusals.specs.declared.CheckRefusal.{CheckRefusal}
 use Rattle.refusals.specs.declared.CheckRefusal.TheVariants.{Text, ShortBuffer, OverlongAnswer, MalformedAnswer, NoModelOffered, StrayVariable, RepeatedVariable, FalseClause}
-use Rattle.call_check_rows.specs.declared.CheckVerdict.{CheckVerdict}
-use Rattle.call_check_rows.specs.declared.CheckVerdict.TheVariants.{Model, Refused}
 use Rattle.refusals.specs.Numbers.{check_number}
 use Rattle.call_check_rows.specs.Check.{zeroes, check_refused, check_of, check_answer, check_assignment, check_levels}
 use Rattle.call_check_rows.specs.Rows.{Offers, assumed_number, true_number, levels_of, CheckRow, of_text, short_assignment, short_levels, overlong_answer, malformed_answer, no_model_offered, stray_variable, repeated_variable, false_clause, CheckAnswers, Shows, ModelWritten}
 use Rattle.call_check_rows.proofs.Spots.{offers_named}
 use Rattle.call_check_rows.proofs.Verdicts.{shown_result, program_is, shown_answer, shows_result, model_offers, answers_refusal, answers_check_first}
+use Rattle.call_check_rows.specs.Verdict.{CheckVerdict, model_shown}
+use Rattle.std.specs.Prelude.{Err, Ok}
 
 -- ---- which refusals leave zeros
 
@@ -83,16 +83,16 @@ never_15 t u a l s w = not_15 w.refusal w.row_is
 
 -- the three numbers of an accepting verdict
 abbrev pub count_in : CheckVerdict → ℕ
-count_in (Model k h c) = k
-count_in (Refused r) = 0
+count_in (Ok x) = x.atoms
+count_in (Err r) = 0
 
 abbrev pub highest_in : CheckVerdict → ℕ
-highest_in (Model k h c) = h
-highest_in (Refused r) = 0
+highest_in (Ok x) = x.highest
+highest_in (Err r) = 0
 
 abbrev pub assumed_in : CheckVerdict → ℕ
-assumed_in (Model k h c) = c
-assumed_in (Refused r) = 0
+assumed_in (Ok x) = x.assumed
+assumed_in (Err r) = 0
 
 module _ (t u b l : List ℕ) where
   -- ---- accepted
@@ -104,7 +104,7 @@ module _ (t u b l : List ℕ) where
     its_program : program_read (read_of t) ≡ P
     its_program = program_is t u (length b) (length l) P S.admitted
 
-    answer : check_answer t u (length b) (length l) ≡ Model (true_number P xs) (highest P.atoms (levels_of P xs)) (assumed_number P xs)
+    answer : check_answer t u (length b) (length l) ≡ model_shown (true_number P xs) (highest P.atoms (levels_of P xs)) (assumed_number P xs)
     answer = shown_answer t u (length b) (length l) P xs S.admitted result
 
     assignment : check_assignment t u b (length l) ≡ value_bytes (values_of (var_total P) xs) ++ drop (var_total P) b
@@ -115,7 +115,7 @@ module _ (t u b l : List ℕ) where
     unfolding check_levels
     levels = ap₂ (λ (X : Program) (x : Result CheckRefusal). levels_after X.atoms x l) its_program result
 
-    written : (k h c : ℕ) → check_answer t u (length b) (length l) ≡ Model k h c → ModelWritten t u b l P xs k h c
+    written : (k h c : ℕ) → check_answer t u (length b) (length l) ≡ model_shown k h c → ModelWritten t u b l P xs k h c
     written k h c w =
         record {
           count_is = ap count_in (sym w ∙ answer);
@@ -125,10 +125,10 @@ module _ (t u b l : List ℕ) where
           levels_are = levels;
         }
 
-    pub shows_writes : (k : ℕ) × (h : ℕ) × (c : ℕ) × (check_answer t u (length b) (length l) ≡ Model k h c) × ModelWritten t u b l P xs k h c
+    pub shows_writes : (k : ℕ) × (h : ℕ) × (c : ℕ) × (check_answer t u (length b) (length l) ≡ model_shown k h c) × ModelWritten t u b l P xs k h c
     shows_writes = (_, _, _, answer, written _ _ _ answer)
 
-  pub model_writes : (k h c : ℕ) → check_answer t u (length b) (length l) ≡ Model k h c
+  pub model_writes : (k h c : ℕ) → check_answer t u (length b) (length l) ≡ model_shown k h c
       → (P : Program) × (xs : List Spotted) × Shows t u (length b) (length l) P xs × ModelWritten t u b l P xs k h c
   model_writes k h c w = go (model_offers t u (length b) (length l) k h c w)
     where
@@ -136,7 +136,7 @@ module _ (t u b l : List ℕ) where
           → (P : Program) × (xs : List Spotted) × Shows t u (length b) (length l) P xs × ModelWritten t u b l P xs k h c
       go (P, xs, S) = (P, xs, S, written P xs S k h c w)
 
-  pub assumed_rest : (k h c : ℕ) → check_answer t u (length b) (length l) ≡ Model k h c
+  pub assumed_rest : (k h c : ℕ) → check_answer t u (length b) (length l) ≡ model_shown k h c
       → (P : Program) × (xs : List Spotted) × Admitted t P × Offers u xs × (c + length xs ≡ var_total P)
   assumed_rest k h c w = go (model_writes k h c w)
     where

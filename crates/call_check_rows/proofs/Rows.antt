@@ -20,12 +20,10 @@ use Rattle.encoding.specs.Code.{Code, code_sizes, variables_of}
 use Rattle.encoding.specs.Fill.{counter}
 use Rattle.clause_literals.specs.declared.Sizes.{Sizes}
 use Rattle.clause_literals.specs.Sizes.{sizes_of, Bounded}
-use Rattle.answer_reader.specs.declared.Formed.{Formed}
-use Rattle.answer_reader.specs.declared.Formed.TheVariants.{Model as FormModel, NoModel, Malformed}
-use Rattle.answer_reader.specs.Results.{form_of}
-use Rattle.answer_bytes.specs.declared.Assigned.{Assigned}
-use Rattle.answer_bytes.specs.declared.Assigned.TheVariants.{Done, Stray, Repeated}
-use Rattle.answer_bytes.specs.Bytes.{Outcome, unset_count, completed_byte, completed, overwritten, assigned_for}
+use Rattle.answer_reader.specs.declared.AnswerFault.TheVariants.{NoModel, Malformed}
+use Rattle.answer_reader.specs.Results.{Formed, form_of}
+use Rattle.answer_bytes.specs.declared.AssignFault.TheVariants.{Stray, Repeated}
+use Rattle.answer_bytes.specs.Bytes.{Assigned, Outcome, unset_count, completed_byte, completed, overwritten, assigned_for}
 use Rattle.answer_values.specs.Assign.{literals_from, assigned_of, assigned_bytes, read_outcome, read_bytes, assumed_by}
 use Rattle.answer_form.specs.Pieces.{Spotted}
 use Rattle.answer_values.proofs.Steps.{rest_kept}
@@ -40,21 +38,21 @@ use Rattle.truth_clauses.specs.Truth.{value_in, code_first_false}
 use Rattle.call_results.specs.Results.{Result, true_count, level_byte, counters, assignment_after}
 use Rattle.refusals.specs.declared.CheckRefusal.{CheckRefusal}
 use Rattle.refusals.specs.declared.CheckRefusal.TheVariants.{ShortBuffer, OverlongAnswer, MalformedAnswer, NoModelOffered, StrayVariable, RepeatedVariable, FalseClause}
-use Rattle.call_check_rows.specs.declared.CheckVerdict.{CheckVerdict}
-use Rattle.call_check_rows.specs.declared.CheckVerdict.TheVariants.{Model, Refused}
 use Rattle.call_check_rows.specs.Check.{zeroes, check_refused, values_judged, no_values, outcome_of, after_assigning, assigned_result, form_result, answer_result, check_result, CheckGives}
 use Rattle.call_check_rows.proofs.Agree.{unset_front, false_front, true_front, counters_front}
+use Rattle.call_check_rows.specs.Verdict.{CheckVerdict, model_shown}
+use Rattle.std.specs.Prelude.{Err, Ok}
 
 -- ---- refusals
 
 module _ (G : Code) {x : Result CheckRefusal} {q : CheckRefusal} (e : x ≡ check_refused q) (b l : List ℕ) where
   -- one that writes nothing
-  pub gives_refused : zeroes q ≡ false → CheckGives G x (Refused q) b b l l
+  pub gives_refused : zeroes q ≡ false → CheckGives G x (Err q) b b l l
   gives_refused z =
-      subst (λ (y : Result CheckRefusal). CheckGives G y (Refused q) b b l l) (sym e) (refl, sym (ap (λ d. cond d (overwritten (variables_of G) 0 b) b) z), refl)
+      subst (λ (y : Result CheckRefusal). CheckGives G y (Err q) b b l l) (sym e) (refl, sym (ap (λ d. cond d (overwritten (variables_of G) 0 b) b) z), refl)
 
   -- one that leaves zeros
-  pub gives_zeroed : zeroes q ≡ true → {r : CheckVerdict} {c : List ℕ} → (r ≡ Refused q) × (c ≡ overwritten (variables_of G) 0 b) → CheckGives G x r b c l l
+  pub gives_zeroed : zeroes q ≡ true → {r : CheckVerdict} {c : List ℕ} → (r ≡ Err q) × (c ≡ overwritten (variables_of G) 0 b) → CheckGives G x r b c l l
   gives_zeroed z {r} {c} u =
       subst (λ (y : Result CheckRefusal). CheckGives G y r b c l l) (sym e) (u.0, u.1 ∙ sym (ap (λ d. cond d (overwritten (variables_of G) 0 b) b) z), refl)
 
@@ -131,18 +129,18 @@ module _ {G : Code} {t : Totals} {hs ss bs ks xs ys : List ℕ} (T : Tabled G t 
     false_is : code_first_false G (take (variables_of G) b) ≡ j
     false_is = false_front G T.limits b ∙ sym f
 
-    pub judged_false : 0 < j → {r : CheckVerdict} {c : List ℕ} → (r ≡ Refused (FalseClause j)) × (c ≡ overwritten t.vars 0 b)
+    pub judged_false : 0 < j → {r : CheckVerdict} {c : List ℕ} → (r ≡ Err (FalseClause j)) × (c ≡ overwritten t.vars 0 b)
         → CheckGives G (values_judged G u (take (variables_of G) b)) r b c l l
     judged_false h {r} {c} w =
         gives_zeroed G (judged_16 G u (take (variables_of G) b) (subst (λ (k : ℕ). 0 < k) (sym false_is) h) ∙ ap (λ (k : ℕ). check_refused (FalseClause k)) false_is) b l refl
         (w.0, w.1 ∙ ap (λ (k : ℕ). overwritten k 0 b) vars_is)
 
     pub judged_accepted : j ≤ 0 → {m : List ℕ} {k h : ℕ} → m ≡ tab t.sizes.n (counter (sizes_of t.sizes) (value_in b)) ++ drop t.sizes.n l
-        → k ≡ true_count t.sizes.n b → h ≡ highest t.sizes.n (level_byte m) → CheckGives G (values_judged G u (take (variables_of G) b)) (Model k h u) b b l m
+        → k ≡ true_count t.sizes.n b → h ≡ highest t.sizes.n (level_byte m) → CheckGives G (values_judged G u (take (variables_of G) b)) (model_shown k h u) b b l m
     judged_accepted g {m} {k} {h} x y w =
-        subst (λ (q : Result CheckRefusal). CheckGives G q (Model k h u) b b l m)
+        subst (λ (q : Result CheckRefusal). CheckGives G q (model_shown k h u) b b l m)
         (sym (judged_none G u (take (variables_of G) b) (subst (λ (k : ℕ). k ≤ 0) (sym false_is) g))) (
-          ap₂ (λ (x y : ℕ). Model x y u) (y ∙ ap (λ (i : ℕ). true_count i b) atoms_is ∙ sym (true_front G T.limits b))
+          ap₂ (λ (x y : ℕ). model_shown x y u) (y ∙ ap (λ (i : ℕ). true_count i b) atoms_is ∙ sym (true_front G T.limits b))
               (w ∙ ap (λ (i : ℕ). highest i (level_byte m)) atoms_is ∙ highest_same G.n (level_byte m) (level_byte cs) same_level),
           sym (take-append-drop (variables_of G) b),
           levels_are,
@@ -171,7 +169,7 @@ module _ {G : Code} {t : Totals} {hs ss bs ks xs ys : List ℕ} (T : Tabled G t 
     next o = after_assigning (outcome_of o) (values_judged G u values)
 
     -- o says that each literal is assigned; b₂ is the buffer with the values vs, completed
-    pub assigned_judged : {o : Assigned} → o ≡ Done → t.vars ≤ length vs → {b₂ : List ℕ} → b₂ ≡ completed (take t.vars vs) ++ drop t.vars b
+    pub assigned_judged : {o : Assigned} → o ≡ Ok tt → t.vars ≤ length vs → {b₂ : List ℕ} → b₂ ≡ completed (take t.vars vs) ++ drop t.vars b
         → {r : CheckVerdict} {c m : List ℕ} → CheckGives G (values_judged G u (take (variables_of G) b₂)) r b₂ c l m → CheckGives G (next o) r b c l m
     assigned_judged d h {b₂} e {r} {c} {m} w =
         subst (λ (a : Assigned). CheckGives G (next a) r b c l m) (sym d) (then (subst (λ (y : List ℕ). CheckGives G (values_judged G u y) r b₂ c l m) front_is w))
@@ -193,16 +191,16 @@ module _ {G : Code} {t : Totals} {hs ss bs ks xs ys : List ℕ} (T : Tabled G t 
         then w = (w.0, w.1 ∙ judged_rest G u values b₂ b rest_is, w.2)
 
     module _ {o : Assigned} {r : CheckVerdict} {c : List ℕ} {s : ℕ} where
-      pub assigned_stray : o ≡ Stray s → (r ≡ Refused (StrayVariable s)) × (c ≡ overwritten t.vars 0 b) → CheckGives G (next o) r b c l l
+      pub assigned_stray : o ≡ Err (Stray s) → (r ≡ Err (StrayVariable s)) × (c ≡ overwritten t.vars 0 b) → CheckGives G (next o) r b c l l
       assigned_stray d w = gives_zeroed G (ap next d) b l refl (w.0, w.1 ∙ ap (λ (k : ℕ). overwritten k 0 b) vars_is)
 
-      pub assigned_repeated : o ≡ Repeated s → (r ≡ Refused (RepeatedVariable s)) × (c ≡ overwritten t.vars 0 b) → CheckGives G (next o) r b c l l
+      pub assigned_repeated : o ≡ Err (Repeated s) → (r ≡ Err (RepeatedVariable s)) × (c ≡ overwritten t.vars 0 b) → CheckGives G (next o) r b c l l
       assigned_repeated d w = gives_zeroed G (ap next d) b l refl (w.0, w.1 ∙ ap (λ (k : ℕ). overwritten k 0 b) vars_is)
 
   -- the values that the literals of an answer of the form give, read into k bytes without values; u variables are said to have none
-  module _ (answer : List ℕ) {i : ℕ} (q : form_of answer ≡ FormModel i) (k : ℕ) (room : t.vars ≤ k) {o : Assigned} {vs : List ℕ} {u : ℕ}
+  module _ (answer : List ℕ) {i : ℕ} (q : form_of answer ≡ Ok i) (k : ℕ) (room : t.vars ≤ k) {o : Assigned} {vs : List ℕ} {u : ℕ}
       (e : o ≡ assigned_for (read_outcome t.vars answer (replicate k 2))) (g : vs ≡ read_bytes t.vars answer (replicate k 2))
-      (z : u ≡ assumed_by (FormModel i) o (unset_count t.vars vs)) where
+      (z : u ≡ assumed_by (Ok i) o (unset_count t.vars vs)) where
     abbrev ls : List Spotted
     ls = literals_from answer i
 
@@ -226,10 +224,10 @@ module _ {G : Code} {t : Totals} {hs ss bs ks xs ys : List ℕ} (T : Tabled G t 
 
     -- the number of variables without a value plays no part where a literal is not assigned
     any_assumed : (o : Assigned) (k : ℕ) (bs : List ℕ)
-        → after_assigning (outcome_of o) (values_judged G (assumed_by (FormModel i) o k) bs) ≡ after_assigning (outcome_of o) (values_judged G k bs)
-    any_assumed Done k bs = refl
-    any_assumed (Stray s) k bs = refl
-    any_assumed (Repeated s) k bs = refl
+        → after_assigning (outcome_of o) (values_judged G (assumed_by (Ok i) o k) bs) ≡ after_assigning (outcome_of o) (values_judged G k bs)
+    any_assumed (Ok u) k bs = refl
+    any_assumed (Err (Stray s)) k bs = refl
+    any_assumed (Err (Repeated s)) k bs = refl
 
     assigned_is : after_assigning (outcome_of o) (values_judged G u (completed (take (variables_of G) vs))) ≡ assigned_result G answer i
     assigned_is =
@@ -246,9 +244,9 @@ module _ {G : Code} {t : Totals} {hs ss bs ks xs ys : List ℕ} (T : Tabled G t 
     abbrev x : Result CheckRefusal
     x = check_result G answer k (length b) (length l)
 
-    pub short_assignment : length b < t.vars → CheckGives G x (Refused (ShortBuffer t.vars)) b b l l
+    pub short_assignment : length b < t.vars → CheckGives G x (Err (ShortBuffer t.vars)) b b l l
     short_assignment h =
-        subst (λ (v : ℕ). CheckGives G x (Refused (ShortBuffer v)) b b l l) (sym vars_is)
+        subst (λ (v : ℕ). CheckGives G x (Err (ShortBuffer v)) b b l l) (sym vars_is)
         (gives_refused G (ap (λ d. cond d (check_refused (ShortBuffer (variables_of G))) (cond (ltb (length l) G.n) (check_refused (ShortBuffer G.n)) (answer_result G answer k))) (lt-ltb (length b) (variables_of G) (subst (λ (v : ℕ). length b < v) vars_is h))) b l refl)
 
     module _ (enough : t.vars ≤ length b) where
@@ -257,9 +255,9 @@ module _ {G : Code} {t : Totals} {hs ss bs ks xs ys : List ℕ} (T : Tabled G t 
           ap (λ d. cond d (check_refused (ShortBuffer (variables_of G))) (cond (ltb (length l) G.n) (check_refused (ShortBuffer G.n)) (answer_result G answer k)))
           (le-ltb (length b) (variables_of G) (subst (λ (v : ℕ). v ≤ length b) vars_is enough))
 
-      pub short_levels : length l < t.sizes.n → CheckGives G x (Refused (ShortBuffer t.sizes.n)) b b l l
+      pub short_levels : length l < t.sizes.n → CheckGives G x (Err (ShortBuffer t.sizes.n)) b b l l
       short_levels h =
-          subst (λ (v : ℕ). CheckGives G x (Refused (ShortBuffer v)) b b l l) (sym atoms_is)
+          subst (λ (v : ℕ). CheckGives G x (Err (ShortBuffer v)) b b l l) (sym atoms_is)
           (gives_refused G (past_assignment ∙ ap (λ d. cond d (check_refused (ShortBuffer G.n)) (answer_result G answer k)) (lt-ltb (length l) G.n (subst (λ (v : ℕ). length l < v) atoms_is h))) b l refl)
 
       module _ (room : t.sizes.n ≤ length l) where
@@ -267,7 +265,7 @@ module _ {G : Code} {t : Totals} {hs ss bs ks xs ys : List ℕ} (T : Tabled G t 
         past_levels =
             past_assignment ∙ ap (λ d. cond d (check_refused (ShortBuffer G.n)) (answer_result G answer k)) (le-ltb (length l) G.n (subst (λ (v : ℕ). v ≤ length l) atoms_is room))
 
-        pub overlong : 65536 < k → CheckGives G x (Refused (OverlongAnswer k)) b b l l
+        pub overlong : 65536 < k → CheckGives G x (Err (OverlongAnswer k)) b b l l
         overlong h = gives_refused G (past_levels ∙ ap (λ d. cond d (check_refused (OverlongAnswer k)) (form_result G answer (form_of answer))) (lt-ltb 65536 k h)) b l refl
 
         module _ (short : k ≤ 65536) {f : Formed} (e : f ≡ form_of answer) where
@@ -275,13 +273,13 @@ module _ {G : Code} {t : Totals} {hs ss bs ks xs ys : List ℕ} (T : Tabled G t 
           by_form q =
               past_levels ∙ ap (λ d. cond d (check_refused (OverlongAnswer k)) (form_result G answer (form_of answer))) (le-ltb 65536 k short) ∙ ap (form_result G answer) (sym e ∙ q)
 
-          pub form_malformed : {s : ℕ} → f ≡ Malformed s → CheckGives G x (Refused (MalformedAnswer s)) b b l l
+          pub form_malformed : {s : ℕ} → f ≡ Err (Malformed s) → CheckGives G x (Err (MalformedAnswer s)) b b l l
           form_malformed q = gives_refused G (by_form q) b l refl
 
-          pub form_none : f ≡ NoModel → CheckGives G x (Refused NoModelOffered) b b l l
+          pub form_none : f ≡ Err NoModel → CheckGives G x (Err NoModelOffered) b b l l
           form_none q = gives_refused G (by_form q) b l refl
 
-          pub form_model : {i : ℕ} → f ≡ FormModel i → (z : ℕ) → t.vars ≤ z → {o : Assigned} {vs : List ℕ} {u : ℕ}
+          pub form_model : {i : ℕ} → f ≡ Ok i → (z : ℕ) → t.vars ≤ z → {o : Assigned} {vs : List ℕ} {u : ℕ}
               → o ≡ assigned_for (read_outcome t.vars answer (replicate z 2)) → vs ≡ read_bytes t.vars answer (replicate z 2)
               → u ≡ assumed_by f o (unset_count t.vars vs) → {r : CheckVerdict} {c m : List ℕ}
               → CheckGives G (after_assigning (outcome_of o) (values_judged G u (completed (take (variables_of G) vs)))) r b c l m → CheckGives G x r b c l m

@@ -16,8 +16,8 @@ use Rattle.answer_form.specs.Pieces.{Next, next_literal, Close, Spotted, Reads, 
 use Rattle.answer_form.proofs.Passing.{Heard, next_heard}
 use Rattle.answer_form.proofs.PieceLaws.{reads_model}
 use Rattle.answer_form.proofs.Unique.{answer_unique}
-use Rattle.answer_reader.specs.declared.Formed.TheVariants.{Model as FormModel}
 use Rattle.answer_reader.specs.Results.{form_of}
+use Rattle.std.specs.Prelude.{Ok}
 use Rattle.answer_form.specs.Pieces.{OffersModel}
 use Rattle.answer_reader.proofs.Promised.{form_model, model_form}
 use Rattle.answer_values.specs.Assign.{literals_from, spot_at}
@@ -77,7 +77,7 @@ module _ {u : List ℕ} where
     pub offers_named : AllNamed xs
     offers_named = subst AllNamed (literals_read u reads) (literals_named u line_end)
 
-    pub offers_form : form_of u ≡ FormModel (status_end o.before)
+    pub offers_form : form_of u ≡ Ok (status_end o.before)
     offers_form =
         model_form u line_end
         (record {
@@ -91,7 +91,7 @@ module _ {u : List ℕ} where
           its_literals = subst (λ (ys : List Spotted). Reads u line_end ys Close.fine) o.literals_are reads;
         })
 
-  pub form_offers : (e : ℕ) → form_of u ≡ FormModel e → Offers u (literals_from u e)
+  pub form_offers : (e : ℕ) → form_of u ≡ Ok e → Offers u (literals_from u e)
   form_offers e f = go (form_model u e f)
     where
       go : OffersModel u e → Offers u (literals_from u e)

@@ -25,9 +25,6 @@ use Rattle.encoding.specs.Width.{width}
 use Rattle.encoding.specs.Literal.{clause_true}
 use Rattle.encoding.specs.Clauses.{sizes}
 use Rattle.refusals.specs.declared.TextRefusal.{TextRefusal}
-use Rattle.reader.specs.declared.ReadResult.{ReadResult}
-use Rattle.reader.specs.declared.ReadVerdict.{ReadVerdict}
-use Rattle.reader.specs.declared.ReadVerdict.TheVariants.{Accepted, Refused as TextRefused}
 use Rattle.reader.specs.Verdict.{read_of}
 use Rattle.refusals.specs.Numbers.{text_number, text_spot}
 use Rattle.reader_laws.specs.Row.{rank, NoLaterBy, FirstRow}
@@ -38,11 +35,10 @@ use Rattle.reader_laws.proofs.Contents.{accepted_admitted, admitted_answer}
 use Rattle.program.proofs.Decode.{decoded_kept}
 use Rattle.answer_form.specs.Answer.{Status, OfStatus, AnswerMalformed}
 use Rattle.answer_form.specs.Pieces.{Spotted, status_end}
-use Rattle.answer_reader.specs.declared.Formed.{Formed}
-use Rattle.answer_reader.specs.declared.Formed.TheVariants.{Model as FormModel, NoModel, Malformed as FormMalformed}
-use Rattle.answer_reader.specs.Results.{form_of}
+use Rattle.answer_reader.specs.declared.AnswerFault.TheVariants.{NoModel, Malformed as FormMalformed}
+use Rattle.answer_reader.specs.Results.{Formed, form_of}
 use Rattle.answer_reader.proofs.Promised.{form_malformed, malformed_form, form_none, none_form}
-use Rattle.answer_bytes.specs.Bytes.{Outcome, unset_count, completed}
+use Rattle.answer_bytes.specs.Bytes.{Assigned, Outcome, unset_count, completed}
 use Rattle.answer_values.specs.Assign.{literals_from, variable_at, spot_at, assigned_of, assigned_bytes}
 use Rattle.answer_values.specs.Rows.{Fit, AllFit, StrayAt, RepeatedAt}
 use Rattle.answer_values.proofs.Rows.{Meant, meant, unset_unnamed}
@@ -52,8 +48,6 @@ use Rattle.truth_clauses.specs.Truth.{code_first_false}
 use Rattle.call_results.specs.Results.{Result, var_total, program_read}
 use Rattle.refusals.specs.declared.CheckRefusal.{CheckRefusal}
 use Rattle.refusals.specs.declared.CheckRefusal.TheVariants.{Text, ShortBuffer, OverlongAnswer, MalformedAnswer, NoModelOffered, StrayVariable, RepeatedVariable, FalseClause}
-use Rattle.call_check_rows.specs.declared.CheckVerdict.{CheckVerdict}
-use Rattle.call_check_rows.specs.declared.CheckVerdict.TheVariants.{Model, Refused}
 use Rattle.refusals.specs.Numbers.{check_number, check_spot}
 use Rattle.call_check_rows.specs.Check.{check_refused, values_judged, completed_result, no_values, after_assigning, assigned_result, form_result, check_result, check_after_reading, check_verdict_of, check_of, check_answer}
 use Rattle.call_results.specs.Order.{NotAfter, earlier, nearer, smaller}
@@ -63,6 +57,10 @@ use Rattle.call_check_rows.proofs.Rows.{judged_16, judged_none}
 use Rattle.call_check_rows.proofs.Spots.{offers_unique, spots_ascend, offers_named, offers_form, form_offers}
 use Rattle.call_results.proofs.ValueBytes.{count_same, counters_same, levels_same}
 use Rattle.call_check_rows.proofs.Valued.{FirstFalse, first_false, filled_none}
+use Rattle.reader.specs.Verdict.{ReadVerdict}
+use Rattle.reader.specs.declared.ReadResult.{ReadResult}
+use Rattle.std.specs.Prelude.{Err, Ok}
+use Rattle.call_check_rows.specs.Verdict.{CheckVerdict, model_shown}
 
 -- what is written of an accepted answer
 abbrev pub shown_result : Program → List Spotted → Result CheckRefusal
@@ -93,14 +91,14 @@ module _ (P : Program) (u : List ℕ) (k a l : ℕ) where
 -- ---- forms, told apart
 
 form_kind : Formed → ℕ
-form_kind (FormMalformed s) = 0
-form_kind NoModel = 1
-form_kind (FormModel e) = 2
+form_kind (Err (FormMalformed s)) = 0
+form_kind (Err NoModel) = 1
+form_kind (Ok e) = 2
 
 form_spot : Formed → ℕ
-form_spot (FormMalformed s) = s
-form_spot NoModel = 0
-form_spot (FormModel e) = e
+form_spot (Err (FormMalformed s)) = s
+form_spot (Err NoModel) = 0
+form_spot (Ok e) = e
 
 -- ---- the reader's ranks
 
@@ -140,7 +138,7 @@ module _ (t u : List ℕ) (a l : ℕ) where
       }
 
   module _ (P : Program) (A : Admitted t P) where
-    verdict : (read_of t).verdict ≡ Accepted
+    verdict : (read_of t).verdict ≡ Ok tt
     verdict = ap (λ (r : ReadResult). r.verdict) (admitted_answer t P A)
 
     same : (Q : Program) → Admitted t Q → Q ≡ P
@@ -227,7 +225,7 @@ module _ (t u : List ℕ) (a l : ℕ) where
 
           -- ---- rows 11 and 12
 
-          told_6 : (s : ℕ) → form_of u ≡ FormMalformed s → CheckTold t u a l
+          told_6 : (s : ℕ) → form_of u ≡ Err (FormMalformed s) → CheckTold t u a l
           unfolding form_kind form_spot
           told_6 s f =
               refused_at (MalformedAnswer s) 6 (malformed_answer (form_malformed u s f))
@@ -241,7 +239,7 @@ module _ (t u : List ℕ) (a l : ℕ) where
               })
               (result_form P u (length u) a l room levels_room fits f)
 
-          told_7 : form_of u ≡ NoModel → CheckTold t u a l
+          told_7 : form_of u ≡ Err NoModel → CheckTold t u a l
           unfolding form_kind
           told_7 f =
               refused_at NoModelOffered 7 (no_model_offered (form_none u f).1)
@@ -257,7 +255,7 @@ module _ (t u : List ℕ) (a l : ℕ) where
 
           -- ---- a model
 
-          module _ (e : ℕ) (f : form_of u ≡ FormModel e) where
+          module _ (e : ℕ) (f : form_of u ≡ Ok e) where
             abbrev vars : ℕ
             vars = var_total P
 
@@ -413,9 +411,9 @@ module _ (t u : List ℕ) (a l : ℕ) where
           told_form = go (form_of u) refl
             where
               go : (x : Formed) → form_of u ≡ x → CheckTold t u a l
-              go (FormMalformed s) f = told_6 s f
-              go NoModel f = told_7 f
-              go (FormModel e) f = told_model e f
+              go (Err (FormMalformed s)) f = told_6 s f
+              go (Err NoModel) f = told_7 f
+              go (Ok e) f = told_model e f
 
     told_admitted : CheckTold t u a l
     told_admitted = assignment_told (le_or_lt (var_total P) a)
@@ -436,7 +434,7 @@ module _ (t u : List ℕ) (a l : ℕ) where
     pub shows_none : (xs : List Spotted) → Shows t u a l P xs → (p r s : ℕ) → CheckRow t u a l p r s → ⊥
     shows_none xs S = each_row (λ p r s. ⊥) (every (offers_form S.offers))
       where
-        every : form_of u ≡ FormModel (status_end S.offers.before) → Each P (λ p r s. ⊥)
+        every : form_of u ≡ Ok (status_end S.offers.before) → Each P (λ p r s. ⊥)
         every f =
             each_literal S.room S.levels_room S.not_overlong (status_end S.offers.before) f (λ p r s. ⊥)
             (subst (λ (zs : List Spotted). OfLiterals P zs (λ p r s. ⊥)) (offers_unique S.offers (form_offers (status_end S.offers.before) f))
@@ -448,7 +446,7 @@ module _ (t u : List ℕ) (a l : ℕ) where
 
   -- ---- a refused text
 
-  module _ (x : TextRefusal) (v : (read_of t).verdict ≡ TextRefused x) where
+  module _ (x : TextRefusal) (v : (read_of t).verdict ≡ Err x) where
     text_row : FirstRow t (text_number x) (text_spot x)
     text_row = refused_row t x v
 
@@ -484,41 +482,41 @@ module _ (t u : List ℕ) (a l : ℕ) where
   check_told = go (read_of t).verdict refl
     where
       go : (x : ReadVerdict) → (read_of t).verdict ≡ x → CheckTold t u a l
-      go Accepted e = let w = accepted_admitted t e in told_admitted w.0 w.1
-      go (TextRefused x) e = told_text x e
+      go (Ok u) e = let w = accepted_admitted t e in told_admitted w.0 w.1
+      go (Err x) e = told_text x e
 
   -- ---- exactly
 
   pub first_check_unique : (r s k v : ℕ) → FirstCheckRow t u a l r s → FirstCheckRow t u a l k v → (r ≡ k) × (s ≡ v)
   first_check_unique = first_one (CheckRow t u a l)
 
-  refused_answer : (q : CheckRefusal) → check_of t u a l ≡ check_refused q → check_answer t u a l ≡ Refused q
+  refused_answer : (q : CheckRefusal) → check_of t u a l ≡ check_refused q → check_answer t u a l ≡ Err q
   unfolding check_answer
   refused_answer q e = ap (check_verdict_of (program_read (read_of t)).atoms) e
 
   -- what a model is answered with
   pub shown_answer : (P : Program) (xs : List Spotted) → Admitted t P → check_of t u a l ≡ shown_result P xs
-      → check_answer t u a l ≡ Model (true_number P xs) (highest P.atoms (levels_of P xs)) (assumed_number P xs)
+      → check_answer t u a l ≡ model_shown (true_number P xs) (highest P.atoms (levels_of P xs)) (assumed_number P xs)
   unfolding check_answer
   shown_answer P xs A e =
       ap₂ (λ (n : ℕ) (x : Result CheckRefusal). check_verdict_of n x) (ap (λ (X : Program). X.atoms) (program_is P A)) e
-      ∙ ap₂ (λ (k h : ℕ). Model k h (assumed_number P xs)) (count_same P.atoms (values_of (var_total P) xs)) (levels_same P.atoms (levels_of P xs))
+      ∙ ap₂ (λ (k h : ℕ). model_shown k h (assumed_number P xs)) (count_same P.atoms (values_of (var_total P) xs)) (levels_same P.atoms (levels_of P xs))
 
   -- an answer is a refusal or it is not
-  verdicts : (q : CheckRefusal) (k h c : ℕ) → check_answer t u a l ≡ Refused q → check_answer t u a l ≡ Model k h c → ⊥
+  verdicts : (q : CheckRefusal) (k h c : ℕ) → check_answer t u a l ≡ Err q → check_answer t u a l ≡ model_shown k h c → ⊥
   verdicts q k h c e f = true≢false (ap is_refused (sym e ∙ f))
     where
       is_refused : CheckVerdict → Bool
-      is_refused (Refused r) = true
-      is_refused (Model k h c) = false
+      is_refused (Err r) = true
+      is_refused (Ok x) = false
 
   -- it has one refusal
-  same_refusal : (q x : CheckRefusal) → check_of t u a l ≡ check_refused q → check_answer t u a l ≡ Refused x → q ≡ x
+  same_refusal : (q x : CheckRefusal) → check_of t u a l ≡ check_refused q → check_answer t u a l ≡ Err x → q ≡ x
   same_refusal q x e f = ap refusal_in (sym (refused_answer q e) ∙ f)
     where
       refusal_in : CheckVerdict → CheckRefusal
-      refusal_in (Refused r) = r
-      refusal_in (Model k h c) = NoModelOffered
+      refusal_in (Err r) = r
+      refusal_in (Ok x) = NoModelOffered
 
   told_answers : (q : CheckRefusal) → check_of t u a l ≡ check_refused q → CheckAnswers t u a l (check_number q) (check_spot q)
   told_answers q e = record { refusal = q; answer_is = refused_answer q e; row_is = refl; spot_is = refl }
@@ -548,14 +546,14 @@ module _ (t u : List ℕ) (a l : ℕ) where
           subst (CheckAnswers t u a l r) w.1 (subst (λ (z : ℕ). CheckAnswers t u a l z (check_spot q)) w.0 (told_answers q e))
       go (shown P xs S e) = absurd (shows_none P S.admitted xs S f.place r s f.met)
 
-  pub model_offers : (k h c : ℕ) → check_answer t u a l ≡ Model k h c → (P : Program) × (xs : List Spotted) × Shows t u a l P xs
+  pub model_offers : (k h c : ℕ) → check_answer t u a l ≡ model_shown k h c → (P : Program) × (xs : List Spotted) × Shows t u a l P xs
   model_offers k h c w = go check_told
     where
       go : CheckTold t u a l → (P : Program) × (xs : List Spotted) × Shows t u a l P xs
       go (at_row q f e) = absurd (verdicts q k h c (refused_answer q e) w)
       go (shown P xs S e) = (P, xs, S)
 
-  pub model_none : (k h c : ℕ) → check_answer t u a l ≡ Model k h c → (p r s : ℕ) → CheckRow t u a l p r s → ⊥
+  pub model_none : (k h c : ℕ) → check_answer t u a l ≡ model_shown k h c → (p r s : ℕ) → CheckRow t u a l p r s → ⊥
   model_none k h c w = let m = model_offers k h c w in shows_none m.0 m.2.admitted m.1 m.2
 
   -- an answer that shows a model is accepted, with it
@@ -579,7 +577,7 @@ module _ (t u : List ℕ) (a l : ℕ) where
     true_accepted f =
         none_model (shows_none P A xs (record { admitted = A; offers = o; fit = fit; each_true_lem = f; room = room; levels_room = levels_room; not_overlong = fits }))
 
-    pub accepted_true : (k h c : ℕ) → check_answer t u a l ≡ Model k h c → EachTrue P xs
+    pub accepted_true : (k h c : ℕ) → check_answer t u a l ≡ model_shown k h c → EachTrue P xs
     accepted_true k h c w = go (model_offers k h c w)
       where
         go : ((Q : Program) × (ys : List Spotted) × Shows t u a l Q ys) → EachTrue P xs

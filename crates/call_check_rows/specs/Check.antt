@@ -17,23 +17,20 @@ use Rattle.std.specs.Prelude.{ℕ, ◌≡◌, Bool, true, false, cond, List, ltb
 use Rattle.lists.specs.Lists.{highest}
 use Rattle.encoding.specs.Code.{Code, code_of, code_sizes, variables_of}
 use Rattle.text.specs.Limits.{max_text}
-use Rattle.reader.specs.declared.ReadResult.{ReadResult}
-use Rattle.reader.specs.declared.ReadVerdict.{ReadVerdict}
-use Rattle.reader.specs.declared.ReadVerdict.TheVariants.{Accepted, Refused as TextRefused}
 use Rattle.reader.specs.Verdict.{read_of}
-use Rattle.answer_reader.specs.declared.Formed.{Formed}
-use Rattle.answer_reader.specs.declared.Formed.TheVariants.{Model as FormModel, NoModel, Malformed}
-use Rattle.answer_reader.specs.Results.{form_of}
-use Rattle.answer_bytes.specs.declared.Assigned.{Assigned}
-use Rattle.answer_bytes.specs.declared.Assigned.TheVariants.{Done, Stray, Repeated}
-use Rattle.answer_bytes.specs.Bytes.{Outcome, unset_count, completed}
+use Rattle.answer_reader.specs.declared.AnswerFault.TheVariants.{NoModel, Malformed}
+use Rattle.answer_reader.specs.Results.{Formed, form_of}
+use Rattle.answer_bytes.specs.declared.AssignFault.TheVariants.{Stray, Repeated}
+use Rattle.answer_bytes.specs.Bytes.{Assigned, Outcome, unset_count, completed}
 use Rattle.answer_values.specs.Assign.{literals_from, assigned_of, assigned_bytes}
 use Rattle.truth_clauses.specs.Truth.{code_first_false}
 use Rattle.call_results.specs.Results.{Called, called, Result, true_count, level_byte, counters, assignment_after, levels_after, var_total, program_read}
 use Rattle.refusals.specs.declared.CheckRefusal.{CheckRefusal}
 use Rattle.refusals.specs.declared.CheckRefusal.TheVariants.{Text, ShortBuffer, OverlongAnswer, MalformedAnswer, NoModelOffered, StrayVariable, RepeatedVariable, FalseClause}
-use Rattle.call_check_rows.specs.declared.CheckVerdict.{CheckVerdict}
-use Rattle.call_check_rows.specs.declared.CheckVerdict.TheVariants.{Model, Refused}
+use Rattle.reader.specs.Verdict.{ReadVerdict}
+use Rattle.reader.specs.declared.ReadResult.{ReadResult}
+use Rattle.std.specs.Prelude.{Err, Ok}
+use Rattle.call_check_rows.specs.Verdict.{CheckVerdict, model_shown}
 
 -- ---- refusals
 
@@ -60,9 +57,9 @@ abbrev pub completed_result : Code → List ℕ → Result CheckRefusal
 completed_result G bs = values_judged G (unset_count (variables_of G) bs) (completed bs)
 
 abbrev pub outcome_of : Assigned → Outcome
-outcome_of Done = Outcome.done
-outcome_of (Stray s) = Outcome.stray s
-outcome_of (Repeated s) = Outcome.repeated s
+outcome_of (Ok u) = Outcome.done
+outcome_of (Err (Stray s)) = Outcome.stray s
+outcome_of (Err (Repeated s)) = Outcome.repeated s
 
 abbrev pub after_assigning : Outcome → Result CheckRefusal → Result CheckRefusal
 after_assigning Outcome.done x = x
@@ -79,9 +76,9 @@ assigned_result G t e =
     (completed_result G (assigned_bytes (variables_of G) (literals_from t e) (no_values (variables_of G))))
 
 abbrev pub form_result : Code → List ℕ → Formed → Result CheckRefusal
-form_result G t (Malformed s) = check_refused (MalformedAnswer s)
-form_result G t NoModel = check_refused NoModelOffered
-form_result G t (FormModel e) = assigned_result G t e
+form_result G t (Err (Malformed s)) = check_refused (MalformedAnswer s)
+form_result G t (Err NoModel) = check_refused NoModelOffered
+form_result G t (Ok e) = assigned_result G t e
 
 abbrev pub answer_result : Code → List ℕ → ℕ → Result CheckRefusal
 answer_result G t k = cond (ltb max_text k) (check_refused (OverlongAnswer k)) (form_result G t (form_of t))
@@ -94,12 +91,12 @@ check_result G t k a l =
 -- ---- the call
 
 abbrev pub check_after_reading : ReadVerdict → Result CheckRefusal → Result CheckRefusal
-check_after_reading Accepted x = x
-check_after_reading (TextRefused r) x = check_refused (Text r)
+check_after_reading (Ok u) x = x
+check_after_reading (Err r) x = check_refused (Text r)
 
 abbrev pub check_verdict_of : ℕ → Result CheckRefusal → CheckVerdict
-check_verdict_of n (Result.accepted c bs ls) = Model (true_count n bs) (highest n (level_byte ls)) c
-check_verdict_of n (Result.refused r) = Refused r
+check_verdict_of n (Result.accepted c bs ls) = model_shown (true_count n bs) (highest n (level_byte ls)) c
+check_verdict_of n (Result.refused r) = Err r
 
 -- of code G, the result x is answered by r and leaves the buffers b and l as c and m
 abbrev pub CheckGives : Code → Result CheckRefusal → CheckVerdict → List ℕ → List ℕ → List ℕ → List ℕ → Type 0

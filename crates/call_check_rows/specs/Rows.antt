@@ -34,9 +34,10 @@ use Rattle.answer_offers.specs.Offered.{value_bytes, values_of}
 use Rattle.call_results.specs.Results.{var_total}
 use Rattle.call_results.specs.Order.{First}
 use Rattle.refusals.specs.declared.CheckRefusal.{CheckRefusal}
-use Rattle.call_check_rows.specs.declared.CheckVerdict.TheVariants.{Model, Refused}
 use Rattle.refusals.specs.Numbers.{check_number, check_spot}
 use Rattle.call_check_rows.specs.Check.{check_answer, check_assignment, check_levels}
+use Rattle.call_check_rows.specs.Verdict.{model_shown}
+use Rattle.std.specs.Prelude.{Err}
 
 pub record Offers (u : List ℕ) (xs : List Spotted) : Type 0 where
   pub before : List Comment
@@ -87,14 +88,14 @@ FirstCheckRow t u a l r s = First (CheckRow t u a l) r s
 
 pub record CheckAnswers (t u : List ℕ) (a l r s : ℕ) : Type 0 where
   pub refusal : CheckRefusal
-  pub answer_is : check_answer t u a l ≡ Refused refusal
+  pub answer_is : check_answer t u a l ≡ Err refusal
   pub row_is : check_number refusal ≡ r
   pub spot_is : check_spot refusal ≡ s
 
 -- ---- accepted answers
 
 abbrev pub Accepts : List ℕ → List ℕ → ℕ → ℕ → Type 0
-Accepts t u a l = (k : ℕ) × (h : ℕ) × (c : ℕ) × (check_answer t u a l ≡ Model k h c)
+Accepts t u a l = (k : ℕ) × (h : ℕ) × (c : ℕ) × (check_answer t u a l ≡ model_shown k h c)
 
 -- each clause is true under the values of the literals
 abbrev pub EachTrue : Program → List Spotted → Type 0

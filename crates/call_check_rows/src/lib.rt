@@ -3,9 +3,13 @@
 
 use refusals::CheckRefusal;
 
-// How many atoms are true, the highest level, and how many variables the answer left out, which are read as false; or a refusal.
-#[derive(Clone, Copy)]
-pub enum CheckVerdict {
-    Model(usize, usize, usize),
-    Refused(CheckRefusal),
+// What a model shows: how many atoms are true, the highest level, and how many variables the answer left out, which are read as false.
+#[derive(Clone, Copy, PartialEq, Eq)]
+pub struct Shown {
+    pub atoms: usize,
+    pub highest: usize,
+    pub assumed: usize,
 }
+
+// What the answer's model shows, or a refusal.
+pub type CheckVerdict = Result<Shown, CheckRefusal>;

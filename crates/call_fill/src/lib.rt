@@ -11,7 +11,6 @@ use call_fill_rows::FillVerdict;
 use call_table::load;
 use clause_cells::totals;
 use clause_tables::CELLS;
-use reader::ReadVerdict;
 use refusals::FillRefusal;
 
 // Rows 8, 17 and 18, for the table of a program; if none is met, the assignment and the levels are written.
@@ -28,20 +27,19 @@ fn fill_in<'a>(
 {
     let t = totals(table);
     if assignment.len() < t.vars {
-        return FillVerdict::Refused(FillRefusal::ShortBuffer(t.vars));
+        return Err(FillRefusal::ShortBuffer(t.vars));
     }
     let n = t.sizes.n as usize;
     if levels.len() < n {
-        return FillVerdict::Refused(FillRefusal::ShortBuffer(n));
+        return Err(FillRefusal::ShortBuffer(n));
     }
     if set.len() != n {
-        return FillVerdict::Refused(FillRefusal::BadSet(n));
+        return Err(FillRefusal::BadSet(n));
     }
-    let i = first_bad(set);
-    if 0 < i {
-        return FillVerdict::Refused(FillRefusal::BadSet(i - 1));
+    match first_bad(set) {
+        Some(i) => Err(FillRefusal::BadSet(i)),
+        None => fill_founded(table, set, &mut *assignment, &mut *levels),
     }
-    fill_founded(table, set, &mut *assignment, &mut *levels)
 }
 
 // Whether the set, one byte for each atom, is a stable model: how many atoms are true, and the highest level; its assignment and its levels are written.
@@ -51,9 +49,6 @@ pub fn fill_out(text: &[u8], set: &[u8], assignment: &mut [u8], levels: &mut [u8
         ≡ fill_call text.now set.now assignment.old levels.old }
 {
     let mut table = [0u16; CELLS];
-    let v = load(text, &mut table);
-    match v {
-        ReadVerdict::Accepted => fill_in(&table, set, &mut *assignment, &mut *levels),
-        ReadVerdict::Refused(r) => FillVerdict::Refused(FillRefusal::Text(r)),
-    }
+    load(text, &mut table)?;
+    fill_in(&table, set, &mut *assignment, &mut *levels)
 }

@@ -6,9 +6,9 @@ ghost use Rattle.lists.specs.Lists.{tab};
 ghost use Rattle.encoding.specs.Code.{level_of};
 ghost use Rattle.clause_tables.specs.Tables.{Ready, code_in, atoms_in, vars_in};
 ghost use Rattle.level_lists.specs.Bytes.{set_in};
-ghost use Rattle.call_fill_rows.specs.FillOut.{first_bad, FillGives, founded_result};
+ghost use Rattle.call_fill_rows.specs.FillOut.{bad_place, FillGives, founded_result};
 
-use call_fill_rows::FillVerdict;
+use call_fill_rows::{FillVerdict, Filled};
 use call_results::{highest_of, true_count};
 use clause_cells::totals;
 use fixed_lines::put_word;
@@ -16,18 +16,11 @@ use level_fill::put_filled;
 use level_stages::{first_difference, stage_levels};
 use refusals::FillRefusal;
 
-// The first byte above 1, counted from 1; 0 if there is none.
-pub fn first_bad(set: &[u8]) -> usize
-    ensures { result ≡ first_bad set.now }
+// The place of the first byte above 1.
+pub fn first_bad(set: &[u8]) -> Option<usize>
+    ensures { result ≡ bad_place set.now }
 {
-    let mut i: usize = 0;
-    while i < set.len() {
-        if 1 < set[i] {
-            return i + 1;
-        }
-        i += 1;
-    }
-    0
+    set.iter().position(|x| 1 < *x)
 }
 
 // Row 18, for the atoms whose byte is not 0, by their levels; if it is not met, the assignment and the levels are written.
@@ -47,13 +40,15 @@ fn fill_found<'a>(
 {
     let t = totals(table);
     let n = t.sizes.n;
-    let a = first_difference(n, set, found);
-    if 0 < a {
-        return FillVerdict::Refused(FillRefusal::Unfounded(a));
+    if let Some(a) = first_difference(n, set, found) {
+        return Err(FillRefusal::Unfounded(a));
     }
-    put_filled(table, set, found, &mut *assignment);
-    put_word(&found[..n as usize], &mut *levels);
-    FillVerdict::Filled(true_count(n, &*assignment), highest_of(n, &*levels))
+    put_filled(table, set, found, assignment);
+    put_word(&found[..usize::from(n)], levels);
+    Ok(Filled {
+        atoms: true_count(n, assignment),
+        highest: highest_of(n, levels),
+    })
 }
 
 // Row 18, where the levels are found; if it is not met, the assignment and the levels are written.
@@ -71,5 +66,5 @@ pub fn fill_founded<'a>(
 {
     let mut found = [0u8; 126];
     stage_levels(table, set, &mut found);
-    fill_found(table, set, &found, &mut *assignment, &mut *levels)
+    fill_found(table, set, &found, assignment, levels)
 }

@@ -18,10 +18,10 @@ use Rattle.encoding.specs.Width.{bits_for}
 use Rattle.encoding.specs.Code.{inner, pair_list, reduct_of}
 use Rattle.encoding.specs.Fill.{fill_with}
 use Rattle.call_results.specs.Results.{true_count}
-use Rattle.call_fill_rows.specs.declared.FillVerdict.{FillVerdict}
-use Rattle.call_fill_rows.specs.declared.FillVerdict.TheVariants.{Filled, Refused}
 use Rattle.refusals.specs.Numbers.{fill_number, fill_spot}
 use Rattle.call_fill_rows.specs.FillOut.{first_bad, founded_result, fill_of, fill_answer, fill_assignment, fill_levels}
+use Rattle.call_fill_rows.specs.Verdict.{FillVerdict}
+use Rattle.std.specs.Prelude.{Err, Ok}
 
 -- true atoms and highest level; number and spot of a refusal
 pub data Said : Type 0 where
@@ -29,8 +29,8 @@ pub data Said : Type 0 where
   refused : (number spot : ℕ) → Said
 
 abbrev pub said_of : FillVerdict → Said
-said_of (Filled k h) = Said.filled k h
-said_of (Refused r) = Said.refused (fill_number r) (fill_spot r)
+said_of (Ok x) = Said.filled x.atoms x.highest
+said_of (Err r) = Said.refused (fill_number r) (fill_spot r)
 
 -- a call with the lengths of its buffers, and what it gives
 pub record Case : Type 0 where

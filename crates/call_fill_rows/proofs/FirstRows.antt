@@ -28,8 +28,6 @@ use Rattle.theory.proofs.Whole.{level_whole, fill_whole}
 use Rattle.theory.proofs.Decided.{decided, stable_least, differ_at, differ_before, differ_le}
 use Rattle.clause_literals.proofs.Products.{one_before}
 use Rattle.refusals.specs.declared.TextRefusal.{TextRefusal}
-use Rattle.reader.specs.declared.ReadVerdict.{ReadVerdict}
-use Rattle.reader.specs.declared.ReadVerdict.TheVariants.{Accepted, Refused as TextRefused}
 use Rattle.reader.specs.Verdict.{read_of}
 use Rattle.refusals.specs.Numbers.{text_number, text_spot}
 use Rattle.reader_laws.specs.Row.{rank, NoLater, ranked, nearer, smaller, FirstRow}
@@ -45,11 +43,12 @@ use Rattle.call_results.proofs.Order.{Told, at_row, met_none}
 use Rattle.call_results.proofs.Order as Order
 use Rattle.refusals.specs.declared.FillRefusal.{FillRefusal}
 use Rattle.refusals.specs.declared.FillRefusal.TheVariants.{Text, ShortBuffer, BadSet, Unfounded}
-use Rattle.call_fill_rows.specs.declared.FillVerdict.{FillVerdict}
-use Rattle.call_fill_rows.specs.declared.FillVerdict.TheVariants.{Filled, Refused}
 use Rattle.refusals.specs.Numbers.{fill_number, fill_spot}
 use Rattle.call_fill_rows.specs.FillOut.{fill_refused, first_bad, founded_result, fill_result, fill_after_reading, fill_verdict_of, fill_of, fill_answer}
 use Rattle.call_fill_rows.specs.Rows.{FillRow, of_text, short_assignment, short_levels, wrong_length, bad_byte, unfounded, FirstFillRow, FillAnswers, FillAccepts}
+use Rattle.reader.specs.Verdict.{ReadVerdict}
+use Rattle.std.specs.Prelude.{Err, Ok}
+use Rattle.call_fill_rows.specs.Verdict.{FillVerdict}
 
 -- of one row, the smaller spot is first
 no_larger : (k r s u : ℕ) → s ≤ u → NotAfter k r s k r u
@@ -67,7 +66,7 @@ module _ (t s : List ℕ) (a l : ℕ) where
 
   -- ---- a refused text
 
-  module _ (x : TextRefusal) (v : (read_of t).verdict ≡ TextRefused x) where
+  module _ (x : TextRefusal) (v : (read_of t).verdict ≡ Err x) where
     F : FirstRow t (text_number x) (text_spot x)
     F = refused_row t x v
 
@@ -97,7 +96,7 @@ module _ (t s : List ℕ) (a l : ℕ) where
 
   -- ---- an accepted text
 
-  module _ (v : (read_of t).verdict ≡ Accepted) where
+  module _ (v : (read_of t).verdict ≡ Ok tt) where
     abbrev P : Program
     P = program_read (read_of t)
 
@@ -327,18 +326,18 @@ module _ (t s : List ℕ) (a l : ℕ) where
   fill_told = go (read_of t).verdict refl
     where
       go : (x : ReadVerdict) → (read_of t).verdict ≡ x → Case
-      go Accepted e = accepted_told e
-      go (TextRefused x) e = text_told x e
+      go (Ok u) e = accepted_told e
+      go (Err x) e = text_told x e
 
   -- ---- exactly
 
   is_refused : FillVerdict → Bool
-  is_refused (Refused r) = true
-  is_refused (Filled k h) = false
+  is_refused (Err r) = true
+  is_refused (Ok x) = false
 
   refusal_in : FillVerdict → FillRefusal
-  refusal_in (Refused r) = r
-  refusal_in (Filled k h) = ShortBuffer 0
+  refusal_in (Err r) = r
+  refusal_in (Ok x) = ShortBuffer 0
 
   one_answer : (r u q w : ℕ) → FillAnswers t s a l r u → FillAnswers t s a l q w → (r ≡ q) × (u ≡ w)
   unfolding refusal_in

@@ -1,5 +1,5 @@
 -- Filling out by the tests that the code makes, and on a text.
---   NoneTo, none_more, first_here, first_nowhere   the first byte above 1, one byte after the other
+--   first_here, first_nowhere, bad_place_is        the first byte above 1, by the bytes before it
 --   founded_refused, founded_accepted              row 18, and acceptance
 --   short_assignment, short_levels, wrong_size, bad_at, set_founded   rows 8 and 17, then these
 --   same_code, read_accepted, read_refused      on a program that was read, and on a text
@@ -14,7 +14,7 @@ use mathlib.Core.List.{List, ◌++◌}
 use lib.Dec.{eqb, ltb}
 use lib.ListN.{length, get_or, take, drop, length-map, length-append}
 use lib.Seq.{take_at, length-take-le}
-use borrow.Author.Tests.{lt-ltb, le-ltb, eq-eqb, ne_eqb, ltb-true}
+use borrow.Author.Tests.{lt-ltb, le-ltb, eq-eqb, ne_eqb, ltb-true, ltb-false}
 use Rattle.lists.specs.Lists.{tab, first, highest}
 use Rattle.lists.proofs.Tests.{le_or_lt}
 use Rattle.lists.proofs.First.{first_is, first_le, first_none}
@@ -24,9 +24,6 @@ use Rattle.meaning.specs.Program.{Atoms}
 use Rattle.meaning.specs.Stage.{differ}
 use Rattle.encoding.specs.Code.{Code, code_of, program_of, level_of, variables_of, code_fill}
 use Rattle.theory.proofs.Theorem.{fill_vars}
-use Rattle.reader.specs.declared.ReadResult.{ReadResult}
-use Rattle.reader.specs.declared.ReadVerdict.{ReadVerdict}
-use Rattle.reader.specs.declared.ReadVerdict.TheVariants.{Accepted, Refused as TextRefused}
 use Rattle.refusals.specs.declared.TextRefusal.{TextRefusal}
 use Rattle.reader.specs.Verdict.{read_of}
 use Rattle.answer_offers.specs.Offered.{value_bytes}
@@ -42,20 +39,20 @@ use Rattle.call_results.specs.Results.{called, Result, true_count, level_byte, p
 use Rattle.call_results.proofs.ValueBytes.{atoms_within, value_here}
 use Rattle.refusals.specs.declared.FillRefusal.{FillRefusal}
 use Rattle.refusals.specs.declared.FillRefusal.TheVariants.{Text, ShortBuffer, BadSet, Unfounded}
-use Rattle.call_fill_rows.specs.declared.FillVerdict.{FillVerdict}
-use Rattle.call_fill_rows.specs.declared.FillVerdict.TheVariants.{Filled, Refused}
-use Rattle.call_fill_rows.specs.FillOut.{fill_refused, first_bad, founded_result, fill_result, fill_after_reading, FillGives, fill_of, fill_answer, fill_assignment, fill_levels, fill_call}
+use Rattle.call_fill_rows.specs.FillOut.{fill_refused, first_bad, bad_place, founded_result, fill_result, fill_after_reading, FillGives, fill_of, fill_answer, fill_assignment, fill_levels, fill_call}
+use Rattle.reader.specs.Verdict.{ReadVerdict}
+use Rattle.reader.specs.declared.ReadResult.{ReadResult}
+use Rattle.std.specs.Prelude.{Err, Ok, Option, Some, None}
+use Rattle.std.specs.List.{position_or_len}
+use Rattle.std.proofs.lemmas.List.Sums.{fails_before_first, passes_at_first}
+use Rattle.call_fill_rows.specs.Verdict.{FillVerdict, filled_out}
 
 -- ---- the first byte above 1
 
-abbrev pub NoneTo : List ℕ → ℕ → Type 0
+abbrev NoneTo : List ℕ → ℕ → Type 0
 NoneTo s i = (k : ℕ) → k < i → get_or s k 0 ≤ 1
 
-pub none_more : (s : List ℕ) (i : ℕ) → NoneTo s i → get_or s i 0 ≤ 1 → NoneTo s (i + 1)
-none_more s i f h k g =
-    ⊎_elim (λ (q : i ≤ k). subst (λ (j : ℕ). get_or s j 0 ≤ 1) (le_antisymm q (omega (arith, g))) h) (λ (q : k < i). f k q) (le_or_lt i k)
-
-pub first_here : (s : List ℕ) (i : ℕ) → NoneTo s i → i < length s → 1 < get_or s i 0 → i + 1 ≡ first_bad s
+first_here : (s : List ℕ) (i : ℕ) → NoneTo s i → i < length s → 1 < get_or s i 0 → i + 1 ≡ first_bad s
 unfolding first_bad
 first_here s i f h g = go (first (length s) p) refl
   where
@@ -77,14 +74,51 @@ first_here s i f h g = go (first (length s) p) refl
         lower : i + 1 ≤ first (length s) (λ j. ltb 1 (get_or s (pred j) 0))
         lower = ⊎_elim (λ (q : i ≤ k). omega (arith, q, e)) (λ (q : k < i). absurd (omega (arith, f k q, at))) (le_or_lt i k)
 
-pub first_nowhere : (s : List ℕ) (i : ℕ) → NoneTo s i → length s ≤ i → 0 ≡ first_bad s
+first_nowhere : (s : List ℕ) (i : ℕ) → NoneTo s i → length s ≤ i → 0 ≡ first_bad s
 unfolding first_bad
 first_nowhere s i f h = sym (first_none (length s) (λ j. ltb 1 (get_or s (pred j) 0)) (λ k g. le-ltb 1 (get_or s k 0) (f k (omega (arith, g, h)))))
 
+-- the place, from 0, of the number i, from 1; none for 0
+abbrev place_of : ℕ → Option ℕ
+place_of zero = None
+place_of (suc i) = Some i
+
+bad_place_is : (s : List ℕ) {r : Option ℕ} → r ≡ bad_place s → r ≡ place_of (first_bad s)
+bad_place_is s e = e ∙ ⊎_elim none found (le_or_lt (length s) (position_or_len (λ x. ltb 1 x) s))
+  where
+    none_to : NoneTo s (position_or_len (λ x. ltb 1 x) s)
+    none_to k g = ltb-false 1 (get_or s k 0) (fails_before_first (λ x. ltb 1 x) s k 0 g)
+
+    none : length s ≤ position_or_len (λ x. ltb 1 x) s → bad_place s ≡ place_of (first_bad s)
+    none h =
+        ap (λ (b : Bool). cond b (Some (position_or_len (λ x. ltb 1 x) s)) None) (le-ltb (position_or_len (λ x. ltb 1 x) s) (length s) h)
+        ∙ ap place_of (first_nowhere s (position_or_len (λ x. ltb 1 x) s) none_to h)
+
+    found : position_or_len (λ x. ltb 1 x) s < length s → bad_place s ≡ place_of (first_bad s)
+    found h =
+        let i = position_or_len (λ x. ltb 1 x) s in
+        let n : suc i ≡ first_bad s = omega (arith, first_here s i none_to h (ltb-true 1 (get_or s i 0) (passes_at_first (λ x. ltb 1 x) s 0 h))) in
+        ap (λ (b : Bool). cond b (Some i) None) (lt-ltb i (length s) h) ∙ ap place_of n
+
+-- the number, from 1, of a place
+abbrev number_in : Option ℕ → ℕ
+number_in None = 0
+number_in (Some i) = suc i
+
+number_of_place : (n : ℕ) → number_in (place_of n) ≡ n
+number_of_place zero = refl
+number_of_place (suc i) = refl
+
+place_number : (n i : ℕ) → Some i ≡ place_of n → n ≡ suc i
+place_number n i e = sym (number_of_place n) ∙ ap number_in (sym e)
+
+no_place : (n : ℕ) → None ≡ place_of n → n ≤ 0
+no_place n e = omega (arith, sym (number_of_place n) ∙ ap number_in (sym e))
+
 -- ---- refusals
 
-gives_refused : (G : Code) {x : Result FillRefusal} {q : FillRefusal} → x ≡ fill_refused q → (b l : List ℕ) → FillGives G x (Refused q) b b l l
-gives_refused G {x} {q} e b l = subst (λ (y : Result FillRefusal). FillGives G y (Refused q) b b l l) (sym e) (refl, refl, refl)
+gives_refused : (G : Code) {x : Result FillRefusal} {q : FillRefusal} → x ≡ fill_refused q → (b l : List ℕ) → FillGives G x (Err q) b b l l
+gives_refused G {x} {q} e b l = subst (λ (y : Result FillRefusal). FillGives G y (Err q) b b l l) (sym e) (refl, refl, refl)
 
 -- how many values at the front of a list are true
 true_here : (n : ℕ) (xs ys : List ℕ) → n ≤ length xs → true_count n (xs ++ ys) ≡ true_count n xs
@@ -141,19 +175,19 @@ module _ {G : Code} {t : Totals} {hs ss bs ks xs ys : List ℕ} (T : Tabled G t 
           g ∙ ap (λ (k : ℕ). first_difference k s f) atoms_is
           ∙ unlike_differ (program_of G) s f rest (found_is ∙ ap (λ (ℓ : ℕ → ℕ). tab G.n ℓ ++ rest) (fun_ext (code_level T.limits M)))
 
-      pub founded_refused : 0 < d → FillGives G (founded_result G (set_in t.sizes.n s)) (Refused (Unfounded d)) b b l l
+      pub founded_refused : 0 < d → FillGives G (founded_result G (set_in t.sizes.n s)) (Err (Unfounded d)) b b l l
       founded_refused h =
-          subst (λ (X : Atoms). FillGives G (founded_result G X) (Refused (Unfounded d)) b b l l) (sym set_is)
+          subst (λ (X : Atoms). FillGives G (founded_result G X) (Err (Unfounded d)) b b l l) (sym set_is)
           (gives_refused G (founded_by (lt-ltb 0 (differ (program_of G) M) (subst (λ (k : ℕ). 0 < k) differ_is h)) ∙ ap (λ (k : ℕ). fill_refused (Unfounded k)) (sym differ_is)) b l)
 
       pub founded_accepted : d ≤ 0 → {c m : List ℕ} {j k h : ℕ} → c ≡ value_bytes (code_fill G (set_in t.sizes.n s)) ++ drop t.vars b
           → Wrote (take t.sizes.n f) l m j
           → k ≡ true_count t.sizes.n c → h ≡ highest t.sizes.n (level_byte m)
-          → FillGives G (founded_result G (set_in t.sizes.n s)) (Filled k h) b c l m
+          → FillGives G (founded_result G (set_in t.sizes.n s)) (filled_out k h) b c l m
       founded_accepted z {c} {m} {j} {k} {h} u x y w =
-          subst (λ (X : Atoms). FillGives G (founded_result G X) (Filled k h) b c l m) (sym set_is)
-          (subst (λ (q : Result FillRefusal). FillGives G q (Filled k h) b c l m) (sym (founded_by (le-ltb 0 (differ (program_of G) M) (subst (λ (k : ℕ). k ≤ 0) differ_is z))))
-          (ap₂ Filled count_is highest_is, values_are, levels_are))
+          subst (λ (X : Atoms). FillGives G (founded_result G X) (filled_out k h) b c l m) (sym set_is)
+          (subst (λ (q : Result FillRefusal). FillGives G q (filled_out k h) b c l m) (sym (founded_by (le-ltb 0 (differ (program_of G) M) (subst (λ (k : ℕ). k ≤ 0) differ_is z))))
+          (ap₂ filled_out count_is highest_is, values_are, levels_are))
         where
           vs : List ℕ
           vs = value_bytes (code_fill G M)
@@ -204,40 +238,41 @@ module _ {G : Code} {t : Totals} {hs ss bs ks xs ys : List ℕ} (T : Tabled G t 
     abbrev test4 : Bool
     test4 = ltb 0 (first_bad s)
 
-    pub short_assignment : length b < t.vars → FillGives G x (Refused (ShortBuffer t.vars)) b b l l
+    pub short_assignment : length b < t.vars → FillGives G x (Err (ShortBuffer t.vars)) b b l l
     short_assignment h =
-        subst (λ (v : ℕ). FillGives G x (Refused (ShortBuffer v)) b b l l) (sym vars_is)
+        subst (λ (v : ℕ). FillGives G x (Err (ShortBuffer v)) b b l l) (sym vars_is)
         (gives_refused G (ap (λ c. by c test2 test3 test4) (lt-ltb (length b) (variables_of G) (subst (λ (v : ℕ). length b < v) vars_is h))) b l)
 
     module _ (h1 : t.vars ≤ length b) where
       past1 : x ≡ by false test2 test3 test4
       past1 = ap (λ c. by c test2 test3 test4) (le-ltb (length b) (variables_of G) (subst (λ (v : ℕ). v ≤ length b) vars_is h1))
 
-      pub short_levels : length l < t.sizes.n → FillGives G x (Refused (ShortBuffer t.sizes.n)) b b l l
+      pub short_levels : length l < t.sizes.n → FillGives G x (Err (ShortBuffer t.sizes.n)) b b l l
       short_levels h =
-          subst (λ (v : ℕ). FillGives G x (Refused (ShortBuffer v)) b b l l) (sym atoms_is)
+          subst (λ (v : ℕ). FillGives G x (Err (ShortBuffer v)) b b l l) (sym atoms_is)
           (gives_refused G (past1 ∙ ap (λ d. by false d test3 test4) (lt-ltb (length l) G.n (subst (λ (v : ℕ). length l < v) atoms_is h))) b l)
 
       module _ (h2 : t.sizes.n ≤ length l) where
         past2 : x ≡ by false false test3 test4
         past2 = past1 ∙ ap (λ d. by false d test3 test4) (le-ltb (length l) G.n (subst (λ (v : ℕ). v ≤ length l) atoms_is h2))
 
-        pub wrong_size : (length s ≡ t.sizes.n → ⊥) → FillGives G x (Refused (BadSet t.sizes.n)) b b l l
+        pub wrong_size : (length s ≡ t.sizes.n → ⊥) → FillGives G x (Err (BadSet t.sizes.n)) b b l l
         wrong_size h =
-            subst (λ (v : ℕ). FillGives G x (Refused (BadSet v)) b b l l) (sym atoms_is)
+            subst (λ (v : ℕ). FillGives G x (Err (BadSet v)) b b l l) (sym atoms_is)
             (gives_refused G (past2 ∙ ap (λ e. by false false (not e) test4) (ne_eqb (length s) G.n (λ q. h (q ∙ sym atoms_is)))) b l)
 
-        module _ (h3 : length s ≡ t.sizes.n) {i : ℕ} (e : i ≡ first_bad s) where
+        module _ (h3 : length s ≡ t.sizes.n) where
           past3 : x ≡ by false false false test4
           past3 = past2 ∙ ap (λ e. by false false (not e) test4) (eq-eqb (length s) G.n (h3 ∙ atoms_is))
 
-          pub bad_at : 0 < i → FillGives G x (Refused (BadSet (i - 1))) b b l l
-          bad_at h =
-              gives_refused G (past3 ∙ ap (λ e. by false false false e) (lt-ltb 0 (first_bad s) (subst (λ (k : ℕ). 0 < k) e h)) ∙ ap (λ (k : ℕ). fill_refused (BadSet (k - 1))) (sym e)) b l
+          pub bad_at : {i : ℕ} → Some i ≡ bad_place s → FillGives G x (Err (BadSet i)) b b l l
+          bad_at {i} e =
+              let n = place_number (first_bad s) i (bad_place_is s e) in
+              gives_refused G (past3 ∙ ap (λ e. by false false false e) (lt-ltb 0 (first_bad s) (omega (arith, n))) ∙ ap (λ (k : ℕ). fill_refused (BadSet k)) (omega (arith, n))) b l
 
-          pub set_founded : i ≤ 0 → {r : FillVerdict} {c m : List ℕ} → FillGives G (founded_result G (set_in t.sizes.n s)) r b c l m → FillGives G x r b c l m
-          set_founded h {r} {c} {m} u =
-              subst (λ (y : Result FillRefusal). FillGives G y r b c l m) (sym (past3 ∙ ap (λ e. by false false false e) (le-ltb 0 (first_bad s) (subst (λ (k : ℕ). k ≤ 0) e h))))
+          pub set_founded : None ≡ bad_place s → {r : FillVerdict} {c m : List ℕ} → FillGives G (founded_result G (set_in t.sizes.n s)) r b c l m → FillGives G x r b c l m
+          set_founded e {r} {c} {m} u =
+              subst (λ (y : Result FillRefusal). FillGives G y r b c l m) (sym (past3 ∙ ap (λ e. by false false false e) (le-ltb 0 (first_bad s) (no_place (first_bad s) (bad_place_is s e)))))
               (subst (λ (X : Atoms). FillGives G (founded_result G X) r b c l m) set_is u)
 
 -- ---- on a program that was read, and on a text
@@ -256,8 +291,8 @@ module _ (t s b l : List ℕ) {x : ReadResult} (e : x ≡ read_of t) {r : FillVe
       (subst (λ (q : ReadVerdict). FillGives (code_of (program_read x)) (fill_after_reading q (fill_result (code_of (program_read x)) s (length b) (length l))) r b c l m) (sym v) u) in
       λ i. called (w.0 i) (w.1 i) (w.2 i)
 
-  pub read_accepted : x.verdict ≡ Accepted → FillGives (code_of (program_read x)) (fill_result (code_of (program_read x)) s (length b) (length l)) r b c l m → called r c m ≡ fill_call t s b l
+  pub read_accepted : x.verdict ≡ Ok tt → FillGives (code_of (program_read x)) (fill_result (code_of (program_read x)) s (length b) (length l)) r b c l m → called r c m ≡ fill_call t s b l
   read_accepted v u = as_called v u
 
-pub read_refused : (t s b l : List ℕ) {x : ReadResult} → x ≡ read_of t → {q : TextRefusal} → x.verdict ≡ TextRefused q → called (Refused (Text q)) b l ≡ fill_call t s b l
+pub read_refused : (t s b l : List ℕ) {x : ReadResult} → x ≡ read_of t → {q : TextRefusal} → x.verdict ≡ Err q → called (Err (Text q)) b l ≡ fill_call t s b l
 read_refused t s b l {x} e {q} v = as_called t s b l e v (gives_refused (code_of (program_read x)) refl b l)

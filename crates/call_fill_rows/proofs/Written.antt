@@ -27,10 +27,7 @@ use Rattle.theory.proofs.Atoms.{is_atom_lem}
 use Rattle.theory.proofs.Decided.{decided, differ_at, differ_le}
 use Rattle.theory.proofs.Base.{fill_has}
 use Rattle.theory.proofs.Widths.{width_enough}
-use Rattle.reader.specs.declared.ReadResult.{ReadResult}
 use Rattle.refusals.specs.declared.TextRefusal.{TextRefusal}
-use Rattle.reader.specs.declared.ReadVerdict.{ReadVerdict}
-use Rattle.reader.specs.declared.ReadVerdict.TheVariants.{Accepted, Refused as TextRefused}
 use Rattle.reader.specs.Verdict.{read_of}
 use Rattle.program.specs.Arrays.{decoded}
 use Rattle.text.specs.Limits.{Admitted}
@@ -44,11 +41,13 @@ use Rattle.call_results.specs.Results.{Result, true_count, assignment_after, lev
 use Rattle.call_results.proofs.ValueBytes.{value_same, levels_same}
 use Rattle.refusals.specs.declared.FillRefusal.{FillRefusal}
 use Rattle.refusals.specs.declared.FillRefusal.TheVariants.{Text}
-use Rattle.call_fill_rows.specs.declared.FillVerdict.{FillVerdict}
-use Rattle.call_fill_rows.specs.declared.FillVerdict.TheVariants.{Filled, Refused}
 use Rattle.call_fill_rows.specs.FillOut.{fill_result, fill_after_reading, fill_verdict_of, fill_zeroes, fill_of, fill_answer, fill_assignment, fill_levels}
 use Rattle.call_fill_rows.specs.Rows.{FillRow, FillAccepts, Fills, short_assignment, short_levels, wrong_length, bad_byte, unfounded}
 use Rattle.call_fill_rows.proofs.FirstRows.{fill_accepts_none, stable_result, none_bad}
+use Rattle.reader.specs.Verdict.{ReadVerdict}
+use Rattle.reader.specs.declared.ReadResult.{ReadResult}
+use Rattle.std.specs.Prelude.{Err, Ok}
+use Rattle.call_fill_rows.specs.Verdict.{FillVerdict, filled_out}
 
 -- ---- what is returned for a stable model
 
@@ -79,12 +78,12 @@ pub record Founded (s b l : List ℕ) (Q : Program) : Type 0 where
 is_program : (t : List ℕ) (P : Program) → Admitted t P → program_read (read_of t) ≡ P
 is_program t P A = ap (λ (x : ReadResult). decoded x.program) (admitted_answer t P A) ∙ decoded_kept P
 
-refused_answer : (t s : List ℕ) (a l : ℕ) (r : TextRefusal) → (read_of t).verdict ≡ TextRefused r → fill_answer t s a l ≡ Refused (Text r)
+refused_answer : (t s : List ℕ) (a l : ℕ) (r : TextRefusal) → (read_of t).verdict ≡ Err r → fill_answer t s a l ≡ Err (Text r)
 unfolding fill_answer fill_of
 refused_answer t s a l r v = ap (λ (y : ReadVerdict). fill_verdict_of (program_read (read_of t)).atoms (fill_after_reading y (fill_result (code_of (program_read (read_of t))) s a l))) v
 
 module _ (t s b l : List ℕ) where
-  module _ (v : (read_of t).verdict ≡ Accepted) where
+  module _ (v : (read_of t).verdict ≡ Ok tt) where
     abbrev P : Program
     P = program_read (read_of t)
 
@@ -95,7 +94,7 @@ module _ (t s b l : List ℕ) where
     A = admitted_program t v
 
     abbrev answer : FillVerdict
-    answer = Filled (sum P.atoms (λ a. cond (M a) 1 0)) (highest P.atoms (level P M))
+    answer = filled_out (sum P.atoms (λ a. cond (M a) 1 0)) (highest P.atoms (level P M))
 
     module _ (f : Founded s b l P) where
       result : fill_of t s (length b) (length l) ≡ Result.accepted 0 (value_bytes (fill P (width P.atoms) M)) (tab P.atoms (level P M))
@@ -105,7 +104,7 @@ module _ (t s b l : List ℕ) where
       unfolding fill_answer
       answered =
           ap (fill_verdict_of P.atoms) result
-          ∙ ap₂ Filled (filled_count P A.limits.all_atoms M f.stable) (levels_same P.atoms (level P M))
+          ∙ ap₂ filled_out (filled_count P A.limits.all_atoms M f.stable) (levels_same P.atoms (level P M))
 
       fills : Fills t s b l (sum P.atoms (λ a. cond (M a) 1 0)) (highest P.atoms (level P M)) P
       unfolding fill_assignment fill_levels
@@ -154,41 +153,41 @@ module _ (t s b l : List ℕ) where
   -- ---- the call
 
   numbers_in : FillVerdict → ℕ × ℕ
-  numbers_in (Filled k h) = (k, h)
-  numbers_in (Refused r) = (0, 0)
+  numbers_in (Ok x) = (x.atoms, x.highest)
+  numbers_in (Err r) = (0, 0)
 
   is_filled : FillVerdict → Bool
-  is_filled (Filled k h) = true
-  is_filled (Refused r) = false
+  is_filled (Ok x) = true
+  is_filled (Err r) = false
 
-  pub fill_accepted : (k h : ℕ) → fill_answer t s (length b) (length l) ≡ Filled k h → (P : Program) × Fills t s b l k h P
+  pub fill_accepted : (k h : ℕ) → fill_answer t s (length b) (length l) ≡ filled_out k h → (P : Program) × Fills t s b l k h P
   unfolding numbers_in is_filled
   fill_accepted k h e = go (read_of t).verdict refl
     where
       go : (x : ReadVerdict) → (read_of t).verdict ≡ x → (P : Program) × Fills t s b l k h P
-      go Accepted v =
+      go (Ok u) v =
           let f = founded v (record { count = k; highest = h; answer_is = e }) in
           let q = ap numbers_in (sym (answered v f) ∙ e) in
           (program_read (read_of t), subst (λ (y : ℕ × ℕ). Fills t s b l y.0 y.1 (program_read (read_of t))) q (fills v f))
-      go (TextRefused r) v = absurd (true≢false (ap is_filled (sym e ∙ refused_answer t s (length b) (length l) r v)))
+      go (Err r) v = absurd (true≢false (ap is_filled (sym e ∙ refused_answer t s (length b) (length l) r v)))
 
   pub stable_fills : (P : Program) → Admitted t P → Founded s b l P
-      → (fill_answer t s (length b) (length l) ≡ Filled (sum P.atoms (λ a. cond (set_in P.atoms s a) 1 0)) (highest P.atoms (level P (set_in P.atoms s))))
+      → (fill_answer t s (length b) (length l) ≡ filled_out (sum P.atoms (λ a. cond (set_in P.atoms s a) 1 0)) (highest P.atoms (level P (set_in P.atoms s))))
       × Fills t s b l (sum P.atoms (λ a. cond (set_in P.atoms s a) 1 0)) (highest P.atoms (level P (set_in P.atoms s))) P
   stable_fills P A =
       subst (λ (Q : Program). Founded s b l Q
-      → (fill_answer t s (length b) (length l) ≡ Filled (sum Q.atoms (λ a. cond (set_in Q.atoms s a) 1 0)) (highest Q.atoms (level Q (set_in Q.atoms s))))
+      → (fill_answer t s (length b) (length l) ≡ filled_out (sum Q.atoms (λ a. cond (set_in Q.atoms s a) 1 0)) (highest Q.atoms (level Q (set_in Q.atoms s))))
       × Fills t s b l (sum Q.atoms (λ a. cond (set_in Q.atoms s a) 1 0)) (highest Q.atoms (level Q (set_in Q.atoms s))) Q) (is_program t P A)
       (λ f. (answered v f, fills v f))
     where
-      v : (read_of t).verdict ≡ Accepted
+      v : (read_of t).verdict ≡ Ok tt
       v = ap (λ (x : ReadResult). x.verdict) (admitted_answer t P A)
 
-  pub fill_kept : (r : FillRefusal) → fill_answer t s (length b) (length l) ≡ Refused r → (fill_assignment t s b (length l) ≡ b) × (fill_levels t s (length b) l ≡ l)
+  pub fill_kept : (r : FillRefusal) → fill_answer t s (length b) (length l) ≡ Err r → (fill_assignment t s b (length l) ≡ b) × (fill_levels t s (length b) l ≡ l)
   unfolding fill_answer fill_assignment fill_levels is_filled
   fill_kept r e = go (fill_of t s (length b) (length l)) e
     where
-      go : (x : Result FillRefusal) → fill_verdict_of (program_read (read_of t)).atoms x ≡ Refused r
+      go : (x : Result FillRefusal) → fill_verdict_of (program_read (read_of t)).atoms x ≡ Err r
           → (assignment_after fill_zeroes (var_total (program_read (read_of t))) x b ≡ b) × (levels_after (program_read (read_of t)).atoms x l ≡ l)
       go (Result.accepted c bs ls) q = absurd (true≢false (ap is_filled q))
       go (Result.refused y) q = (refl, refl)

@@ -1,6 +1,7 @@
 -- Filling out a set of atoms (document 01, "Check and filling out" and "Verdicts"): what the call answers, and what each lent buffer holds afterwards.
 -- s is the set, one byte for each atom.
 --   first_bad s             the first byte of s above 1, counted from 1; 0 if there is none
+--   bad_place s             the place of that byte, counted from 0, if there is one
 --   founded_result G M      row 18, for the set M of atoms, and what an accepted set gives; no variable is left out
 --   set_result G s          row 17, then these
 --   fill_result G s a l     row 8, for buffers of a and l bytes, then these
@@ -8,21 +9,21 @@
 --   fill_answer, fill_assignment, fill_levels  the call's answer and the two buffers afterwards
 --   fill_call t s b l       the three together, for the buffers b and l
 -- Assumes nothing.
-use Rattle.std.specs.Prelude.{ℕ, pred, ◌-◌, ◌≡◌, Bool, false, not, cond, List, eqb, ltb, length, get_or}
+use Rattle.std.specs.Prelude.{ℕ, pred, Option, ◌-◌, ◌≡◌, Bool, false, not, cond, List, eqb, ltb, length, get_or}
+use Rattle.std.specs.List.{position}
 use Rattle.lists.specs.Lists.{tab, first, highest}
 use Rattle.meaning.specs.Program.{Atoms}
 use Rattle.meaning.specs.Stage.{differ}
 use Rattle.encoding.specs.Code.{Code, code_of, program_of, level_of, variables_of, code_fill}
-use Rattle.reader.specs.declared.ReadVerdict.{ReadVerdict}
-use Rattle.reader.specs.declared.ReadVerdict.TheVariants.{Accepted, Refused as TextRefused}
 use Rattle.reader.specs.Verdict.{read_of}
 use Rattle.answer_offers.specs.Offered.{value_bytes}
 use Rattle.level_lists.specs.Bytes.{set_in}
 use Rattle.call_results.specs.Results.{Called, called, Result, true_count, level_byte, assignment_after, levels_after, var_total, program_read}
 use Rattle.refusals.specs.declared.FillRefusal.{FillRefusal}
 use Rattle.refusals.specs.declared.FillRefusal.TheVariants.{Text, ShortBuffer, BadSet, Unfounded}
-use Rattle.call_fill_rows.specs.declared.FillVerdict.{FillVerdict}
-use Rattle.call_fill_rows.specs.declared.FillVerdict.TheVariants.{Filled, Refused}
+use Rattle.reader.specs.Verdict.{ReadVerdict}
+use Rattle.std.specs.Prelude.{Err, Ok}
+use Rattle.call_fill_rows.specs.Verdict.{FillVerdict, filled_out}
 
 -- ---- the rows, last to first
 
@@ -31,6 +32,9 @@ fill_refused r = Result.refused r
 
 unfoldable pub first_bad : List ℕ → ℕ
 first_bad s = first (length s) (λ i. ltb 1 (get_or s (pred i) 0))
+
+abbrev pub bad_place : List ℕ → Option ℕ
+bad_place s = position (λ x. ltb 1 x) s
 
 unfoldable pub founded_result : Code → Atoms → Result FillRefusal
 founded_result G M =
@@ -50,12 +54,12 @@ fill_result G s a l =
 -- ---- the call
 
 abbrev pub fill_after_reading : ReadVerdict → Result FillRefusal → Result FillRefusal
-fill_after_reading Accepted x = x
-fill_after_reading (TextRefused r) x = fill_refused (Text r)
+fill_after_reading (Ok u) x = x
+fill_after_reading (Err r) x = fill_refused (Text r)
 
 abbrev pub fill_verdict_of : ℕ → Result FillRefusal → FillVerdict
-fill_verdict_of n (Result.accepted c bs ls) = Filled (true_count n bs) (highest n (level_byte ls))
-fill_verdict_of n (Result.refused r) = Refused r
+fill_verdict_of n (Result.accepted c bs ls) = filled_out (true_count n bs) (highest n (level_byte ls))
+fill_verdict_of n (Result.refused r) = Err r
 
 -- no refusal writes
 abbrev pub fill_zeroes : FillRefusal → Bool

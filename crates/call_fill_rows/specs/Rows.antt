@@ -19,9 +19,10 @@ use Rattle.level_lists.specs.Bytes.{set_in}
 use Rattle.call_results.specs.Results.{var_total}
 use Rattle.call_results.specs.Order.{First}
 use Rattle.refusals.specs.declared.FillRefusal.{FillRefusal}
-use Rattle.call_fill_rows.specs.declared.FillVerdict.TheVariants.{Filled, Refused}
 use Rattle.refusals.specs.Numbers.{fill_number, fill_spot}
 use Rattle.call_fill_rows.specs.FillOut.{fill_answer, fill_assignment, fill_levels}
+use Rattle.call_fill_rows.specs.Verdict.{filled_out}
+use Rattle.std.specs.Prelude.{Err}
 
 pub data FillRow (t s : List ℕ) (a l : ℕ) : ℕ → ℕ → ℕ → Type 0 where
   of_text : {r u : ℕ} → Row t r u → FillRow t s a l (rank r) r u
@@ -40,14 +41,14 @@ FirstFillRow t s a l r u = First (FillRow t s a l) r u
 
 pub record FillAnswers (t s : List ℕ) (a l r u : ℕ) : Type 0 where
   pub refusal : FillRefusal
-  pub answer_is : fill_answer t s a l ≡ Refused refusal
+  pub answer_is : fill_answer t s a l ≡ Err refusal
   pub row_is : fill_number refusal ≡ r
   pub spot_is : fill_spot refusal ≡ u
 
 pub record FillAccepts (t s : List ℕ) (a l : ℕ) : Type 0 where
   pub count : ℕ
   pub highest : ℕ
-  pub answer_is : fill_answer t s a l ≡ Filled count highest
+  pub answer_is : fill_answer t s a l ≡ filled_out count highest
 
 -- what an accepted call says of the program, the set and the buffers b and l: k atoms are true, h is the highest level
 pub record Fills (t s b l : List ℕ) (k h : ℕ) (P : Program) : Type 0 where

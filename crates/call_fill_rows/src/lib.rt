@@ -3,9 +3,12 @@
 
 use refusals::FillRefusal;
 
-// How many atoms are true, and the highest level; or a refusal.
-#[derive(Clone, Copy)]
-pub enum FillVerdict {
-    Filled(usize, usize),
-    Refused(FillRefusal),
+// A set that is filled out: how many atoms are true, and the highest level.
+#[derive(Clone, Copy, PartialEq, Eq)]
+pub struct Filled {
+    pub atoms: usize,
+    pub highest: usize,
 }
+
+// What a set that is filled out has, or a refusal.
+pub type FillVerdict = Result<Filled, FillRefusal>;

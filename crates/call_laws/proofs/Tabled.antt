@@ -8,8 +8,6 @@ use Rattle.lists.proofs.Tests.{le_or_lt}
 use Rattle.encoding.specs.Code.{code_of}
 use Rattle.program.specs.declared.Program.{Program as Arrays}
 use Rattle.program.specs.Arrays.{decoded}
-use Rattle.reader.specs.declared.ReadResult.{ReadResult}
-use Rattle.reader.specs.declared.ReadVerdict.TheVariants.{Accepted}
 use Rattle.reader.specs.Verdict.{refuse_of, read_of}
 use Rattle.reader.specs.Counted.{counted_of}
 use Rattle.reader.proofs.Counted.{counted_short, counted_long}
@@ -18,6 +16,8 @@ use Rattle.reader_laws.proofs.Contents.{accepted_admitted, admitted_answer}
 use Rattle.clause_tables.specs.Tables.{Stored, TableOf, Ready, table_of, code_in}
 use Rattle.clause_table_laws.proofs.Elements.{program_limited, kept_stored}
 use Rattle.clause_table_laws.proofs.Cells.{code_held, ready}
+use Rattle.std.specs.Prelude.{Ok}
+use Rattle.reader.specs.declared.ReadResult.{ReadResult}
 
 -- ---- from the arrays of a program
 
@@ -34,13 +34,13 @@ module _ {A : Arrays} (S : Stored A) {tb : List ℕ} (e : tb ≡ table_of (code_
 -- ---- from the text
 
 -- the arrays of an accepted text are kept
-pub stored : (t : List ℕ) → (read_of t).verdict ≡ Accepted → Stored (read_of t).program
+pub stored : (t : List ℕ) → (read_of t).verdict ≡ Ok tt → Stored (read_of t).program
 stored t a =
     let q = accepted_admitted t a in
     subst (λ (A : Arrays). Stored A) (sym (ap (λ (x : ReadResult). x.program) (admitted_answer t q.0 q.1))) (kept_stored q.0 q.1.limits)
 
 -- and of one whose front and length are known
-pub counted_stored : (f : List ℕ) (n : ℕ) → (counted_of f n).verdict ≡ Accepted → Stored (counted_of f n).program
+pub counted_stored : (f : List ℕ) (n : ℕ) → (counted_of f n).verdict ≡ Ok tt → Stored (counted_of f n).program
 unfolding refuse_of
 counted_stored f n v = ⊎_elim short long (le_or_lt n 65536)
   where

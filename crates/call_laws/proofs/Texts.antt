@@ -9,16 +9,16 @@ use Rattle.program.specs.Arrays.{decoded}
 use Rattle.program.proofs.Decode.{decoded_kept}
 use Rattle.refusals.specs.declared.TextRefusal.{TextRefusal}
 use Rattle.refusals.specs.Numbers.{text_number, text_spot}
-use Rattle.reader.specs.declared.ReadResult.{ReadResult}
-use Rattle.reader.specs.declared.ReadVerdict.TheVariants.{Accepted, Refused}
 use Rattle.reader.specs.Verdict.{read_of}
 use Rattle.reader_laws.specs.Row.{FirstRow}
 use Rattle.reader_laws.proofs.Unique.{text_unique}
 use Rattle.reader_laws.proofs.Contents.{accepted_admitted, admitted_answer}
 use Rattle.reader_laws.proofs.Rows.{answers_first, not_both}
+use Rattle.std.specs.Prelude.{Ok, Err}
+use Rattle.reader.specs.declared.ReadResult.{ReadResult}
 
 -- an accepted text admits the program that its arrays hold
-pub admitted_program : (t : List ℕ) → (read_of t).verdict ≡ Accepted → Admitted t (decoded (read_of t).program)
+pub admitted_program : (t : List ℕ) → (read_of t).verdict ≡ Ok tt → Admitted t (decoded (read_of t).program)
 admitted_program t e = go (accepted_admitted t e)
   where
     go : ((P : Program) × Admitted t P) → Admitted t (decoded (read_of t).program)
@@ -28,7 +28,7 @@ admitted_program t e = go (accepted_admitted t e)
 pub one_admitted : {t : List ℕ} {P Q : Program} → Admitted t P → Admitted t Q → Q ≡ P
 one_admitted {t} {P} {Q} A B = text_unique Q P (sym B.its_text ∙ A.its_text)
 
-module _ (t : List ℕ) (x : TextRefusal) (v : (read_of t).verdict ≡ Refused x) where
+module _ (t : List ℕ) (x : TextRefusal) (v : (read_of t).verdict ≡ Err x) where
   -- the row of a refused text is the first one met
   pub refused_row : FirstRow t (text_number x) (text_spot x)
   refused_row = answers_first t (text_number x) (text_spot x) (record { refusal = x; verdict_is = v; row_is = refl; spot_is = refl })

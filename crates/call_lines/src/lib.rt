@@ -6,13 +6,12 @@ ghost use Rattle.clause_tables.specs.Tables.{Ready, code_in};
 ghost use Rattle.clause_runs.specs.Lines.{code_run_bytes};
 ghost use Rattle.call_lines_rows.specs.Lines.{answer_in, line_bytes_in, run_answer_in, answered, line_call, run_call};
 
-use call_lines_rows::{LineVerdict, RunVerdict};
+use call_lines_rows::{LineVerdict, Run, RunVerdict};
 use call_table::load;
 use clause_cells::totals;
 use clause_finding::place_of;
 use clause_runs::{line_length, put_line, put_lines};
 use clause_tables::CELLS;
-use reader::ReadVerdict;
 use refusals::LineRefusal;
 
 // Line j into the buffer from place `from` on.
@@ -23,17 +22,14 @@ fn line_in(table: &[u16], j: usize, from: usize, buf: &mut [u8]) -> LineVerdict
 {
     let t = totals(table);
     if t.clauses < j {
-        return LineVerdict::Refused(LineRefusal::NoSuchClause(t.clauses));
+        return Err(LineRefusal::NoSuchClause(t.clauses));
     }
     let c = place_of(table, j);
     let need = line_length(table, c);
-    if buf.len() < from {
-        return LineVerdict::Refused(LineRefusal::ShortBuffer(need));
+    if buf.len().saturating_sub(from) < need {
+        return Err(LineRefusal::ShortBuffer(need));
     }
-    if buf.len() - from < need {
-        return LineVerdict::Refused(LineRefusal::ShortBuffer(need));
-    }
-    LineVerdict::Written(put_line(table, c, &mut buf[from..]))
+    Ok(put_line(table, c, &mut buf[from..]))
 }
 
 // The lines from line j on, as many as fit the buffer.
@@ -44,15 +40,18 @@ fn run_in(table: &[u16], j: usize, buf: &mut [u8]) -> RunVerdict
 {
     let t = totals(table);
     if t.clauses < j {
-        return RunVerdict::RefusedRun(LineRefusal::NoSuchClause(t.clauses));
+        return Err(LineRefusal::NoSuchClause(t.clauses));
     }
     let c = place_of(table, j);
     let part = put_lines(table, c, &mut *buf);
     if part.lines == 0 {
         let need = line_length(table, c);
-        return RunVerdict::RefusedRun(LineRefusal::ShortBuffer(need));
+        return Err(LineRefusal::ShortBuffer(need));
     }
-    RunVerdict::WrittenRun(part.lines, part.bytes)
+    Ok(Run {
+        lines: part.lines,
+        bytes: part.bytes,
+    })
 }
 
 // Line j of the text's clause file, written into the buffer from place `from` on: its length, or a refusal, which writes nothing.
@@ -61,11 +60,8 @@ pub fn line(text: &[u8], j: usize, from: usize, buf: &mut [u8]) -> LineVerdict
     ensures { answered result buf.new ≡ line_call text.now j from buf.old }
 {
     let mut table = [0u16; CELLS];
-    let v = load(text, &mut table);
-    match v {
-        ReadVerdict::Accepted => line_in(&table, j, from, &mut *buf),
-        ReadVerdict::Refused(x) => LineVerdict::Refused(LineRefusal::Text(x)),
-    }
+    load(text, &mut table)?;
+    line_in(&table, j, from, &mut *buf)
 }
 
 // As many whole lines as fit the buffer, from line j on: how many and how many bytes, or a refusal, which writes nothing.
@@ -74,9 +70,6 @@ pub fn run(text: &[u8], j: usize, buf: &mut [u8]) -> RunVerdict
     ensures { answered result buf.new ≡ run_call text.now j buf.old }
 {
     let mut table = [0u16; CELLS];
-    let v = load(text, &mut table);
-    match v {
-        ReadVerdict::Accepted => run_in(&table, j, &mut *buf),
-        ReadVerdict::Refused(x) => RunVerdict::RefusedRun(LineRefusal::Text(x)),
-    }
+    load(text, &mut table)?;
+    run_in(&table, j, &mut *buf)
 }

@@ -21,14 +21,14 @@ use Rattle.clause_tables.specs.Tables.{Tabled}
 use Rattle.clause_places.specs.declared.Place.{Place}
 use Rattle.clause_places.specs.Places.{place_at}
 use Rattle.refusals.specs.declared.LineRefusal.TheVariants.{NoSuchClause, ShortBuffer}
-use Rattle.call_lines_rows.specs.declared.LineVerdict.TheVariants.{Written, Refused}
-use Rattle.call_lines_rows.specs.declared.RunVerdict.TheVariants.{WrittenRun, RefusedRun}
 use Rattle.clause_runs.specs.declared.RunPart.{RunPart}
 use Rattle.clause_runs.specs.Lines.{code_lines, code_line, fitting, code_run, code_run_bytes, code_part}
 use Rattle.call_lines_rows.specs.Lines.{answer_in, line_bytes_in, run_answer_in}
 use Rattle.call_lines_rows.proofs.Cases.{answer_none, answer_short, answer_fits, bytes_none, bytes_short, bytes_fits, run_none, run_short, run_fits}
 use Rattle.clause_runs.proofs.Placed.{total_is, lines_count, line_some}
 use Rattle.clause_places.proofs.Numbers.{number_is}
+use Rattle.std.specs.Prelude.{Err, Ok}
+use Rattle.call_lines_rows.specs.Verdicts.{written_run}
 
 module _ {G : Code} {t : Totals} {hs ss bs ks xs ys : List ℕ} (T : Tabled G t hs ss bs ks xs ys) (j : ℕ) where
   abbrev C : ℕ
@@ -65,20 +65,20 @@ module _ {G : Code} {t : Totals} {hs ss bs ks xs ys : List ℕ} (T : Tabled G t 
   -- ---- one line
 
   module _ (k : ℕ) (b : List ℕ) where
-    pub line_none : t.clauses < j → (Refused (NoSuchClause t.clauses) ≡ answer_in G j (length b - k)) × (b ≡ line_bytes_in G j k b)
+    pub line_none : t.clauses < j → (Err (NoSuchClause t.clauses) ≡ answer_in G j (length b - k)) × (b ≡ line_bytes_in G j k b)
     line_none h =
-        (ap (λ (n : ℕ). Refused (NoSuchClause n)) (total_is T) ∙ sym (answer_none G j (length b - k) (past h)), sym (bytes_none G j k b (past h)))
+        (ap (λ (n : ℕ). Err (NoSuchClause n)) (total_is T) ∙ sym (answer_none G j (length b - k) (past h)), sym (bytes_none G j k b (past h)))
 
     module _ (h : j ≤ t.clauses) where
-      pub line_short : {x : ℕ} → x ≡ need → length b - k < x → (Refused (ShortBuffer x) ≡ answer_in G j (length b - k)) × (b ≡ line_bytes_in G j k b)
+      pub line_short : {x : ℕ} → x ≡ need → length b - k < x → (Err (ShortBuffer x) ≡ answer_in G j (length b - k)) × (b ≡ line_bytes_in G j k b)
       line_short {x} e f =
-          (ap (λ (n : ℕ). Refused (ShortBuffer n)) e ∙ sym (answer_short G j (length b - k) (within h) short), sym (bytes_short G j k b (within h) short))
+          (ap (λ (n : ℕ). Err (ShortBuffer n)) e ∙ sym (answer_short G j (length b - k) (within h) short), sym (bytes_short G j k b (within h) short))
         where
           short : length b - k < need
           short = subst (λ (n : ℕ). length b - k < n) e f
 
       -- the place is past the end
-      pub line_past : {x : ℕ} → x ≡ need → length b < k → (Refused (ShortBuffer x) ≡ answer_in G j (length b - k)) × (b ≡ line_bytes_in G j k b)
+      pub line_past : {x : ℕ} → x ≡ need → length b < k → (Err (ShortBuffer x) ≡ answer_in G j (length b - k)) × (b ≡ line_bytes_in G j k b)
       line_past {x} e f = line_short e (omega (arith, e, f, line_some T j h))
 
       module _ {x : ℕ} (e : x ≡ need) (f : x ≤ length b - k) where
@@ -89,9 +89,9 @@ module _ {G : Code} {t : Totals} {hs ss bs ks xs ys : List ℕ} (T : Tabled G t 
         line_asks = subst (λ (n : ℕ). need ≤ n) (sym (tail_length b k)) enough
 
         pub line_written : {r : ℕ} {l : List ℕ} → Wrote (code_line G j) (take (length b - k) (drop k b)) l r
-            → (Written r ≡ answer_in G j (length b - k)) × (put_mid k (length b - k) b l ≡ line_bytes_in G j k b)
+            → (Ok r ≡ answer_in G j (length b - k)) × (put_mid k (length b - k) b l ≡ line_bytes_in G j k b)
         line_written {r} {l} u =
-            (ap Written u.count ∙ sym (answer_fits G j (length b - k) (within h) enough), lent b k r (code_line G j) l u.bytes ∙ ap (λ (n : ℕ). take k b ++ (code_line G j ++ drop (k + n) b)) u.count ∙ sym (bytes_fits G j k b (within h) enough))
+            (ap Ok u.count ∙ sym (answer_fits G j (length b - k) (within h) enough), lent b k r (code_line G j) l u.bytes ∙ ap (λ (n : ℕ). take k b ++ (code_line G j ++ drop (k + n) b)) u.count ∙ sym (bytes_fits G j k b (within h) enough))
 
   -- ---- a run of lines
 
@@ -102,9 +102,9 @@ module _ {G : Code} {t : Totals} {hs ss bs ks xs ys : List ℕ} (T : Tabled G t 
     abbrev ls : List (List ℕ)
     ls = drop j (code_lines G)
 
-    pub run_past : t.clauses < j → (RefusedRun (NoSuchClause t.clauses) ≡ run_answer_in G j n) × (b ≡ code_run_bytes G j b)
+    pub run_past : t.clauses < j → (Err (NoSuchClause t.clauses) ≡ run_answer_in G j n) × (b ≡ code_run_bytes G j b)
     run_past h =
-        (ap (λ (n : ℕ). RefusedRun (NoSuchClause n)) (total_is T) ∙ sym (run_none G j n (past h)), sym (ap (λ (ms : List (List ℕ)). joined (take (fitting n ms) ms) ++ drop (length (joined (take (fitting n ms) ms))) b) (drop_of_length-le (code_lines G) (subst (λ (k : ℕ). k ≤ j) (sym (lines_count T)) h))))
+        (ap (λ (n : ℕ). Err (NoSuchClause n)) (total_is T) ∙ sym (run_none G j n (past h)), sym (ap (λ (ms : List (List ℕ)). joined (take (fitting n ms) ms) ++ drop (length (joined (take (fitting n ms) ms))) b) (drop_of_length-le (code_lines G) (subst (λ (k : ℕ). k ≤ j) (sym (lines_count T)) h))))
 
     module _ (h : j ≤ t.clauses) where
       fits_first : fitting n ls ≡ cond (leb need n) (suc (fitting (n - need) (drop (suc j) (code_lines G)))) 0
@@ -116,16 +116,16 @@ module _ {G : Code} {t : Totals} {hs ss bs ks xs ys : List ℕ} (T : Tabled G t 
       no_line : n < need → fitting n ls ≡ 0
       no_line q = fits_first ∙ ap (λ (d : Bool). cond d (suc (fitting (n - need) (drop (suc j) (code_lines G)))) 0) (lt-leb need n q)
 
-      pub run_refused : {x y : ℕ} → x ≡ fitting n ls → x ≡ 0 → y ≡ need → RefusedRun (ShortBuffer y) ≡ run_answer_in G j n
+      pub run_refused : {x y : ℕ} → x ≡ fitting n ls → x ≡ 0 → y ≡ need → Err (ShortBuffer y) ≡ run_answer_in G j n
       run_refused {x} {y} e z f = go (le_or_lt need n)
         where
-          go : (need ≤ n) ⊎ (n < need) → RefusedRun (ShortBuffer y) ≡ run_answer_in G j n
+          go : (need ≤ n) ⊎ (n < need) → Err (ShortBuffer y) ≡ run_answer_in G j n
           go (inl q) = absurd (some_lines q (sym e ∙ z))
-          go (inr q) = ap (λ (k : ℕ). RefusedRun (ShortBuffer k)) f ∙ sym (run_short G j n (within h) q)
+          go (inr q) = ap (λ (k : ℕ). Err (ShortBuffer k)) f ∙ sym (run_short G j n (within h) q)
 
-      pub run_written : {x y : ℕ} → x ≡ fitting n ls → y ≡ length (joined (code_run G j n)) → (x ≡ 0 → ⊥) → WrittenRun x y ≡ run_answer_in G j n
+      pub run_written : {x y : ℕ} → x ≡ fitting n ls → y ≡ length (joined (code_run G j n)) → (x ≡ 0 → ⊥) → written_run x y ≡ run_answer_in G j n
       run_written {x} {y} e f z = go (le_or_lt need n)
         where
-          go : (need ≤ n) ⊎ (n < need) → WrittenRun x y ≡ run_answer_in G j n
-          go (inl q) = ap₂ WrittenRun e f ∙ sym (run_fits G j n (within h) q)
+          go : (need ≤ n) ⊎ (n < need) → written_run x y ≡ run_answer_in G j n
+          go (inl q) = ap₂ written_run e f ∙ sym (run_fits G j n (within h) q)
           go (inr q) = absurd (z (e ∙ no_line q))

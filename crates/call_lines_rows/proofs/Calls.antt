@@ -20,9 +20,6 @@ use Rattle.lists.specs.Lists.{tab, joined}
 use Rattle.lists.proofs.Tests.{le_or_lt}
 use Rattle.meaning.specs.Program.{Program}
 use Rattle.encoding.specs.Code.{code_of}
-use Rattle.reader.specs.declared.ReadResult.{ReadResult}
-use Rattle.reader.specs.declared.ReadVerdict.{ReadVerdict}
-use Rattle.reader.specs.declared.ReadVerdict.TheVariants.{Accepted, Refused as TextRefused}
 use Rattle.reader.specs.Verdict.{read_of}
 use Rattle.program.specs.Arrays.{decoded}
 use Rattle.text.specs.Limits.{Admitted}
@@ -32,75 +29,75 @@ use Rattle.clause_table_laws.proofs.Elements.{program_limited}
 use Rattle.clause_table_laws.proofs.Cells.{Own, own}
 use Rattle.call_laws.proofs.Tabled.{stored}
 use Rattle.refusals.specs.declared.LineRefusal.{LineRefusal}
-use Rattle.call_lines_rows.specs.declared.LineVerdict.{LineVerdict}
-use Rattle.call_lines_rows.specs.declared.LineVerdict.TheVariants.{Written, Refused}
-use Rattle.call_lines_rows.specs.declared.RunVerdict.{RunVerdict}
-use Rattle.call_lines_rows.specs.declared.RunVerdict.TheVariants.{WrittenRun, RefusedRun}
 use Rattle.clause_runs.specs.Lines.{clause_total, lines_of, line_of, fitting, run_in, code_run_bytes}
 use Rattle.call_lines_rows.specs.Lines.{after_text, kept_bytes, answer_in, line_bytes_in, line_answer, line_bytes, after_text_run, run_answer_in, run_answer, run_bytes}
 use Rattle.call_lines_rows.specs.Rows.{RunWritten}
 use Rattle.clause_runs.proofs.Placed.{total_is, lines_count}
 use Rattle.clause_runs.proofs.Runs.{fitting_few, fitting_room}
+use Rattle.reader.specs.Verdict.{ReadVerdict}
+use Rattle.reader.specs.declared.ReadResult.{ReadResult}
+use Rattle.std.specs.Prelude.{Err, Ok}
+use Rattle.call_lines_rows.specs.Verdicts.{LineVerdict, RunVerdict, written_run}
 
 -- ---- the verdicts
 
 abbrev refusal_in : LineVerdict → Bool
-refusal_in (Refused r) = true
-refusal_in (Written x) = false
+refusal_in (Err r) = true
+refusal_in (Ok x) = false
 
 abbrev run_refusal_in : RunVerdict → Bool
-run_refusal_in (RefusedRun r) = true
-run_refusal_in (WrittenRun m x) = false
+run_refusal_in (Err r) = true
+run_refusal_in (Ok x) = false
 
 abbrev length_in : LineVerdict → ℕ
-length_in (Refused r) = 0
-length_in (Written x) = x
+length_in (Err r) = 0
+length_in (Ok x) = x
 
 abbrev lines_in : RunVerdict → ℕ
-lines_in (RefusedRun r) = 0
-lines_in (WrittenRun m x) = m
+lines_in (Err r) = 0
+lines_in (Ok x) = x.lines
 
 abbrev bytes_count : RunVerdict → ℕ
-bytes_count (RefusedRun r) = 0
-bytes_count (WrittenRun m x) = x
+bytes_count (Err r) = 0
+bytes_count (Ok x) = x.bytes
 
 abbrev as_line : ℕ → RunVerdict → LineVerdict
-as_line c (RefusedRun r) = Refused r
-as_line c (WrittenRun m x) = Written c
+as_line c (Err r) = Err r
+as_line c (Ok x) = Ok c
 
 abbrev as_run : ℕ → ℕ → LineVerdict → RunVerdict
-as_run m x (Refused r) = RefusedRun r
-as_run m x (Written c) = WrittenRun m x
+as_run m x (Err r) = Err r
+as_run m x (Ok c) = written_run m x
 
 -- ---- one line, by the two tests
 
 module _ (p q : LineRefusal) (c : ℕ) (x y : List ℕ) where
-  stays : (d e : Bool) {r : LineRefusal} → cond d (Refused p) (cond e (Refused q) (Written c)) ≡ Refused r → cond d x (cond e x y) ≡ x
+  stays : (d e : Bool) {r : LineRefusal} → cond d (Err p) (cond e (Err q) (Ok c)) ≡ Err r → cond d x (cond e x y) ≡ x
   stays true e v = refl
   stays false true v = refl
   stays false false v = absurd (true≢false (sym (ap refusal_in v)))
 
-  writes : (d e : Bool) {z : ℕ} → cond d (Refused p) (cond e (Refused q) (Written c)) ≡ Written z → (z ≡ c) × (cond d x (cond e x y) ≡ y)
+  writes : (d e : Bool) {z : ℕ} → cond d (Err p) (cond e (Err q) (Ok c)) ≡ Ok z → (z ≡ c) × (cond d x (cond e x y) ≡ y)
   writes true e v = absurd (true≢false (ap refusal_in v))
   writes false true v = absurd (true≢false (ap refusal_in v))
   writes false false v = (sym (ap length_in v), refl)
 
-pub line_stays : (t : List ℕ) (j k : ℕ) (b : List ℕ) (r : LineRefusal) → line_answer t j k (length b) ≡ Refused r → line_bytes t j k b ≡ b
+pub line_stays : (t : List ℕ) (j k : ℕ) (b : List ℕ) (r : LineRefusal) → line_answer t j k (length b) ≡ Err r → line_bytes t j k b ≡ b
 unfolding line_answer line_bytes
 line_stays t j k b r = go (read_of t).verdict
   where
-    go : (v : ReadVerdict) → after_text v (answer_in (code_of (decoded (read_of t).program)) j (length b - k)) ≡ Refused r → kept_bytes v (line_bytes_in (code_of (decoded (read_of t).program)) j k b) b ≡ b
-    go Accepted e = stays _ _ _ b _ (ltb (clause_total (decoded (read_of t).program)) j) (ltb (length b - k) (length (line_of (decoded (read_of t).program) j))) e
-    go (TextRefused q) e = refl
+    go : (v : ReadVerdict) → after_text v (answer_in (code_of (decoded (read_of t).program)) j (length b - k)) ≡ Err r → kept_bytes v (line_bytes_in (code_of (decoded (read_of t).program)) j k b) b ≡ b
+    go (Ok u) e = stays _ _ _ b _ (ltb (clause_total (decoded (read_of t).program)) j) (ltb (length b - k) (length (line_of (decoded (read_of t).program) j))) e
+    go (Err q) e = refl
 
 -- the program of an admitted text
 program_read_lem : (t : List ℕ) (P : Program) → Admitted t P → decoded (read_of t).program ≡ P
 program_read_lem t P a = ap (λ (r : ReadResult). decoded r.program) (admitted_answer t P a) ∙ decoded_kept P
 
-verdict_read : (t : List ℕ) (P : Program) → Admitted t P → (read_of t).verdict ≡ Accepted
+verdict_read : (t : List ℕ) (P : Program) → Admitted t P → (read_of t).verdict ≡ Ok tt
 verdict_read t P a = ap (λ (r : ReadResult). r.verdict) (admitted_answer t P a)
 
-pub line_writes : (t : List ℕ) (j k : ℕ) (b : List ℕ) (x : ℕ) → line_answer t j k (length b) ≡ Written x → (P : Program) → Admitted t P
+pub line_writes : (t : List ℕ) (j k : ℕ) (b : List ℕ) (x : ℕ) → line_answer t j k (length b) ≡ Ok x → (P : Program) → Admitted t P
     → (x ≡ length (line_of P j)) × (line_bytes t j k b ≡ take k b ++ (line_of P j ++ drop (k + x) b))
 unfolding line_answer line_bytes
 line_writes t j k b x e P a =
@@ -116,12 +113,12 @@ line_writes t j k b x e P a =
 -- ---- a run is refused as its first line
 
 module _ (p q : LineRefusal) (c m x : ℕ) where
-  as_line_lem : (d e : Bool) → as_line c (cond d (RefusedRun p) (cond e (RefusedRun q) (WrittenRun m x))) ≡ cond d (Refused p) (cond e (Refused q) (Written c))
+  as_line_lem : (d e : Bool) → as_line c (cond d (Err p) (cond e (Err q) (written_run m x))) ≡ cond d (Err p) (cond e (Err q) (Ok c))
   as_line_lem true e = refl
   as_line_lem false true = refl
   as_line_lem false false = refl
 
-  as_run_lem : (d e : Bool) → as_run m x (cond d (Refused p) (cond e (Refused q) (Written c))) ≡ cond d (RefusedRun p) (cond e (RefusedRun q) (WrittenRun m x))
+  as_run_lem : (d e : Bool) → as_run m x (cond d (Err p) (cond e (Err q) (Ok c))) ≡ cond d (Err p) (cond e (Err q) (written_run m x))
   as_run_lem true e = refl
   as_run_lem false true = refl
   as_run_lem false false = refl
@@ -129,22 +126,22 @@ module _ (p q : LineRefusal) (c m x : ℕ) where
 no_place : (n : ℕ) → n - 0 ≡ n
 no_place n = omega arith
 
-pub run_refused_as : (t : List ℕ) (j n : ℕ) (r : LineRefusal) → (run_answer t j n ≡ RefusedRun r) ↔ (line_answer t j 0 n ≡ Refused r)
+pub run_refused_as : (t : List ℕ) (j n : ℕ) (r : LineRefusal) → (run_answer t j n ≡ Err r) ↔ (line_answer t j 0 n ≡ Err r)
 unfolding line_answer run_answer
 run_refused_as t j n r = (to (read_of t).verdict, from (read_of t).verdict)
   where
-    to : (v : ReadVerdict) → after_text_run v (run_answer_in (code_of (decoded (read_of t).program)) j n) ≡ RefusedRun r → after_text v (answer_in (code_of (decoded (read_of t).program)) j (n - 0)) ≡ Refused r
-    to Accepted e =
+    to : (v : ReadVerdict) → after_text_run v (run_answer_in (code_of (decoded (read_of t).program)) j n) ≡ Err r → after_text v (answer_in (code_of (decoded (read_of t).program)) j (n - 0)) ≡ Err r
+    to (Ok u) e =
         ap (answer_in (code_of (decoded (read_of t).program)) j) (no_place n)
         ∙ sym (as_line_lem _ _ (length (line_of (decoded (read_of t).program) j)) _ _ (ltb (clause_total (decoded (read_of t).program)) j) (ltb n (length (line_of (decoded (read_of t).program) j))))
         ∙ ap (as_line (length (line_of (decoded (read_of t).program) j))) e
-    to (TextRefused q) e = ap (as_line 0) e
+    to (Err q) e = ap (as_line 0) e
 
-    from : (v : ReadVerdict) → after_text v (answer_in (code_of (decoded (read_of t).program)) j (n - 0)) ≡ Refused r → after_text_run v (run_answer_in (code_of (decoded (read_of t).program)) j n) ≡ RefusedRun r
-    from Accepted e =
+    from : (v : ReadVerdict) → after_text v (answer_in (code_of (decoded (read_of t).program)) j (n - 0)) ≡ Err r → after_text_run v (run_answer_in (code_of (decoded (read_of t).program)) j n) ≡ Err r
+    from (Ok u) e =
         sym (as_run_lem _ _ (length (line_of (decoded (read_of t).program) j)) (fitting n (drop j (lines_of (decoded (read_of t).program)))) (length (joined (run_in (decoded (read_of t).program) j n))) (ltb (clause_total (decoded (read_of t).program)) j) (ltb n (length (line_of (decoded (read_of t).program) j))))
         ∙ ap (as_run (fitting n (drop j (lines_of (decoded (read_of t).program)))) (length (joined (run_in (decoded (read_of t).program) j n)))) (ap (answer_in (code_of (decoded (read_of t).program)) j) (sym (no_place n)) ∙ e)
-    from (TextRefused q) e = ap (as_run 0 0) e
+    from (Err q) e = ap (as_run 0 0) e
 
 -- ---- the lines of a run
 
@@ -178,18 +175,18 @@ fitting_most (l ∷ ls) n h = go (fitting_most ls (n - length l)) h (le_or_lt (l
 -- ---- what a run writes
 
 module _ (p q : LineRefusal) (m x : ℕ) where
-  run_gives : (d e : Bool) {m' x' : ℕ} → cond d (RefusedRun p) (cond e (RefusedRun q) (WrittenRun m x)) ≡ WrittenRun m' x'
+  run_gives : (d e : Bool) {m' x' : ℕ} → cond d (Err p) (cond e (Err q) (written_run m x)) ≡ written_run m' x'
       → (d ≡ false) × (e ≡ false) × (m' ≡ m) × (x' ≡ x)
   run_gives true e v = absurd (true≢false (ap run_refusal_in v))
   run_gives false true v = absurd (true≢false (ap run_refusal_in v))
   run_gives false false v = (refl, refl, sym (ap lines_in v), sym (ap bytes_count v))
 
-  run_refuses : (d e : Bool) {r : LineRefusal} → cond d (RefusedRun p) (cond e (RefusedRun q) (WrittenRun m x)) ≡ RefusedRun r → (d ≡ true) ⊎ (e ≡ true)
+  run_refuses : (d e : Bool) {r : LineRefusal} → cond d (Err p) (cond e (Err q) (written_run m x)) ≡ Err r → (d ≡ true) ⊎ (e ≡ true)
   run_refuses true e v = inl refl
   run_refuses false true v = inr refl
   run_refuses false false v = absurd (true≢false (sym (ap run_refusal_in v)))
 
-module _ (t : List ℕ) (v : (read_of t).verdict ≡ Accepted) where
+module _ (t : List ℕ) (v : (read_of t).verdict ≡ Ok tt) where
   abbrev P : Program
   P = decoded (read_of t).program
 
@@ -216,7 +213,7 @@ module _ (t : List ℕ) (v : (read_of t).verdict ≡ Accepted) where
           ap (fitting n) (drop-cons (lines_of P) j [] h)
           ∙ ap (λ (d : Bool). cond d (suc (fitting (n - length (line_of P j)) (drop (suc j) (lines_of P)))) 0) (lt-leb (length (line_of P j)) n q)
 
-  run_none_bytes : (j : ℕ) (b : List ℕ) {r : LineRefusal} → run_answer_in (code_of P) j (length b) ≡ RefusedRun r → code_run_bytes (code_of P) j b ≡ b
+  run_none_bytes : (j : ℕ) (b : List ℕ) {r : LineRefusal} → run_answer_in (code_of P) j (length b) ≡ Err r → code_run_bytes (code_of P) j b ≡ b
   run_none_bytes j b e = go (run_refuses _ _ _ _ (ltb (clause_total P) j) (ltb (length b) (length (line_of P j))) e)
     where
       empty : fitting (length b) (drop j (lines_of P)) ≡ 0 → code_run_bytes (code_of P) j b ≡ b
@@ -227,7 +224,7 @@ module _ (t : List ℕ) (v : (read_of t).verdict ≡ Accepted) where
           empty (ap (fitting (length b)) (drop_of_length-le (lines_of P) (subst (λ (k : ℕ). k ≤ j) (sym lines_many) (ltb-true (clause_total P) j h))))
       go (inr h) = empty (none_fits j (length b) (ltb-true (length b) (length (line_of P j)) h))
 
-  run_written : (j : ℕ) (b : List ℕ) {m x : ℕ} → run_answer_in (code_of P) j (length b) ≡ WrittenRun m x → RunWritten P j b m x (code_run_bytes (code_of P) j b)
+  run_written : (j : ℕ) (b : List ℕ) {m x : ℕ} → run_answer_in (code_of P) j (length b) ≡ written_run m x → RunWritten P j b m x (code_run_bytes (code_of P) j b)
   run_written j b {m} {x} e =
       let g = run_gives _ _ _ _ (ltb (clause_total P) j) (ltb (length b) (length (line_of P j))) e in
       subst (λ (k : ℕ). RunWritten P j b k x (code_run_bytes (code_of P) j b)) (sym g.2)
@@ -256,15 +253,15 @@ module _ (t : List ℕ) (v : (read_of t).verdict ≡ Accepted) where
           by_line : run_in P j (length b) ≡ tab M (λ i. line_of P (j + pred i))
           by_line = some_lines (lines_of P) j M (subst (λ (k : ℕ). j + M ≤ k) (sym lines_many) within)
 
-pub run_stays : (t : List ℕ) (j : ℕ) (b : List ℕ) (r : LineRefusal) → run_answer t j (length b) ≡ RefusedRun r → run_bytes t j b ≡ b
+pub run_stays : (t : List ℕ) (j : ℕ) (b : List ℕ) (r : LineRefusal) → run_answer t j (length b) ≡ Err r → run_bytes t j b ≡ b
 unfolding run_answer run_bytes
 run_stays t j b r = go (read_of t).verdict refl
   where
-    go : (v : ReadVerdict) → (read_of t).verdict ≡ v → after_text_run v (run_answer_in (code_of (decoded (read_of t).program)) j (length b)) ≡ RefusedRun r → kept_bytes v (code_run_bytes (code_of (decoded (read_of t).program)) j b) b ≡ b
-    go Accepted v e = run_none_bytes t v j b e
-    go (TextRefused q) v e = refl
+    go : (v : ReadVerdict) → (read_of t).verdict ≡ v → after_text_run v (run_answer_in (code_of (decoded (read_of t).program)) j (length b)) ≡ Err r → kept_bytes v (code_run_bytes (code_of (decoded (read_of t).program)) j b) b ≡ b
+    go (Ok u) v e = run_none_bytes t v j b e
+    go (Err q) v e = refl
 
-pub run_writes : (t : List ℕ) (j : ℕ) (b : List ℕ) (m x : ℕ) → run_answer t j (length b) ≡ WrittenRun m x → (P : Program) → Admitted t P
+pub run_writes : (t : List ℕ) (j : ℕ) (b : List ℕ) (m x : ℕ) → run_answer t j (length b) ≡ written_run m x → (P : Program) → Admitted t P
     → RunWritten P j b m x (run_bytes t j b)
 unfolding run_answer run_bytes
 run_writes t j b m x e P a =

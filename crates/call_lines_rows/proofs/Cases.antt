@@ -10,11 +10,10 @@ use borrow.Author.Tests.{lt-ltb, le-ltb}
 use Rattle.encoding.specs.Code.{Code, clause_total_of}
 use Rattle.lists.specs.Lists.{joined}
 use Rattle.refusals.specs.declared.LineRefusal.TheVariants.{NoSuchClause, ShortBuffer}
-use Rattle.call_lines_rows.specs.declared.LineVerdict.TheVariants.{Written, Refused}
-use Rattle.call_lines_rows.specs.declared.RunVerdict.{RunVerdict}
-use Rattle.call_lines_rows.specs.declared.RunVerdict.TheVariants.{WrittenRun, RefusedRun}
 use Rattle.clause_runs.specs.Lines.{code_lines, code_line, fitting, code_run}
 use Rattle.call_lines_rows.specs.Lines.{answer_in, line_bytes_in, run_answer_in}
+use Rattle.std.specs.Prelude.{Err, Ok}
+use Rattle.call_lines_rows.specs.Verdicts.{RunVerdict, written_run}
 
 -- three values, the first where j is above C, the second where the room is short
 module _ {A : Type 0} (x y z : A) (G : Code) (j room : ℕ) where
@@ -38,26 +37,26 @@ module _ (G : Code) (j : ℕ) where
   need = length (code_line G j)
 
   module _ (room : ℕ) where
-    pub answer_fits : j ≤ clause_total_of G → need ≤ room → answer_in G j room ≡ Written need
-    answer_fits = fits (Refused (NoSuchClause (clause_total_of G))) (Refused (ShortBuffer need)) (Written need) G j room
+    pub answer_fits : j ≤ clause_total_of G → need ≤ room → answer_in G j room ≡ Ok need
+    answer_fits = fits (Err (NoSuchClause (clause_total_of G))) (Err (ShortBuffer need)) (Ok need) G j room
 
-    pub answer_none : clause_total_of G < j → answer_in G j room ≡ Refused (NoSuchClause (clause_total_of G))
-    answer_none = none (Refused (NoSuchClause (clause_total_of G))) (Refused (ShortBuffer need)) (Written need) G j room
+    pub answer_none : clause_total_of G < j → answer_in G j room ≡ Err (NoSuchClause (clause_total_of G))
+    answer_none = none (Err (NoSuchClause (clause_total_of G))) (Err (ShortBuffer need)) (Ok need) G j room
 
-    pub answer_short : j ≤ clause_total_of G → room < need → answer_in G j room ≡ Refused (ShortBuffer need)
-    answer_short = short (Refused (NoSuchClause (clause_total_of G))) (Refused (ShortBuffer need)) (Written need) G j room
+    pub answer_short : j ≤ clause_total_of G → room < need → answer_in G j room ≡ Err (ShortBuffer need)
+    answer_short = short (Err (NoSuchClause (clause_total_of G))) (Err (ShortBuffer need)) (Ok need) G j room
 
     abbrev run : RunVerdict
-    run = WrittenRun (fitting room (drop j (code_lines G))) (length (joined (code_run G j room)))
+    run = written_run (fitting room (drop j (code_lines G))) (length (joined (code_run G j room)))
 
-    pub run_none : clause_total_of G < j → run_answer_in G j room ≡ RefusedRun (NoSuchClause (clause_total_of G))
-    run_none = none (RefusedRun (NoSuchClause (clause_total_of G))) (RefusedRun (ShortBuffer need)) run G j room
+    pub run_none : clause_total_of G < j → run_answer_in G j room ≡ Err (NoSuchClause (clause_total_of G))
+    run_none = none (Err (NoSuchClause (clause_total_of G))) (Err (ShortBuffer need)) run G j room
 
-    pub run_short : j ≤ clause_total_of G → room < need → run_answer_in G j room ≡ RefusedRun (ShortBuffer need)
-    run_short = short (RefusedRun (NoSuchClause (clause_total_of G))) (RefusedRun (ShortBuffer need)) run G j room
+    pub run_short : j ≤ clause_total_of G → room < need → run_answer_in G j room ≡ Err (ShortBuffer need)
+    run_short = short (Err (NoSuchClause (clause_total_of G))) (Err (ShortBuffer need)) run G j room
 
-    pub run_fits : j ≤ clause_total_of G → need ≤ room → run_answer_in G j room ≡ WrittenRun (fitting room (drop j (code_lines G))) (length (joined (code_run G j room)))
-    run_fits = fits (RefusedRun (NoSuchClause (clause_total_of G))) (RefusedRun (ShortBuffer need)) run G j room
+    pub run_fits : j ≤ clause_total_of G → need ≤ room → run_answer_in G j room ≡ written_run (fitting room (drop j (code_lines G))) (length (joined (code_run G j room)))
+    run_fits = fits (Err (NoSuchClause (clause_total_of G))) (Err (ShortBuffer need)) run G j room
 
   module _ (k : ℕ) (b : List ℕ) where
     abbrev put : List ℕ

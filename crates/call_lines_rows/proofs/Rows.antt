@@ -16,8 +16,6 @@ use borrow.Author.Tests.{ne_eqb}
 use Rattle.lists.proofs.Tests.{le_or_lt}
 use Rattle.meaning.specs.Program.{Program}
 use Rattle.refusals.specs.declared.TextRefusal.{TextRefusal}
-use Rattle.reader.specs.declared.ReadVerdict.{ReadVerdict}
-use Rattle.reader.specs.declared.ReadVerdict.TheVariants.{Accepted, Refused as TextRefused}
 use Rattle.reader.specs.Verdict.{read_of}
 use Rattle.refusals.specs.Numbers.{text_number, text_spot}
 use Rattle.program.specs.Arrays.{decoded}
@@ -26,8 +24,6 @@ use Rattle.text.specs.Limits.{Admitted}
 use Rattle.reader_laws.proofs.Rows.{no_later_both, row_few, accepted_none}
 use Rattle.refusals.specs.declared.LineRefusal.{LineRefusal}
 use Rattle.refusals.specs.declared.LineRefusal.TheVariants.{Text, NoSuchClause, ShortBuffer}
-use Rattle.call_lines_rows.specs.declared.LineVerdict.{LineVerdict}
-use Rattle.call_lines_rows.specs.declared.LineVerdict.TheVariants.{Written, Refused}
 use Rattle.call_laws.proofs.Texts.{admitted_program, one_admitted, refused_row, refused_admits_none}
 use Rattle.encoding.specs.Code.{code_of}
 use Rattle.clause_runs.specs.Lines.{clause_total, line_of}
@@ -35,10 +31,13 @@ use Rattle.refusals.specs.Numbers.{line_number, line_spot}
 use Rattle.call_lines_rows.specs.Lines.{answer_in, after_text, line_answer}
 use Rattle.call_lines_rows.proofs.Cases.{answer_none, answer_short, answer_fits}
 use Rattle.call_lines_rows.specs.Rows.{LineRow, of_text, short_buffer, no_such_clause, line_rank, FirstLineRow, LineAnswers, room_from}
+use Rattle.reader.specs.Verdict.{ReadVerdict}
+use Rattle.std.specs.Prelude.{Err, Ok}
+use Rattle.call_lines_rows.specs.Verdicts.{LineVerdict}
 
 pub data LineTold (t : List ℕ) (j k n : ℕ) : Type 0 where
   at_row : (r s : ℕ) → FirstLineRow t j k n r s → LineAnswers t j k n r s → LineTold t j k n
-  written : (x : ℕ) → line_answer t j k n ≡ Written x → ((r s : ℕ) → LineRow t j k n r s → ⊥) → LineTold t j k n
+  written : (x : ℕ) → line_answer t j k n ≡ Ok x → ((r s : ℕ) → LineRow t j k n r s → ⊥) → LineTold t j k n
 
 -- the program of an accepted text
 -- among the reader's rows the order is the reader's
@@ -56,7 +55,7 @@ text_rank t r s ρ =
 module _ (t : List ℕ) (j k n : ℕ) where
   -- ---- a refused text
 
-  module _ (x : TextRefusal) (v : (read_of t).verdict ≡ TextRefused x) where
+  module _ (x : TextRefusal) (v : (read_of t).verdict ≡ Err x) where
     F : FirstRow t (text_number x) (text_spot x)
     F = refused_row t x v
 
@@ -87,7 +86,7 @@ module _ (t : List ℕ) (j k n : ℕ) where
 
   -- ---- an accepted text
 
-  module _ (v : (read_of t).verdict ≡ Accepted) where
+  module _ (v : (read_of t).verdict ≡ Ok tt) where
     abbrev P : Program
     P = decoded (read_of t).program
 
@@ -161,8 +160,8 @@ module _ (t : List ℕ) (j k n : ℕ) where
   line_told = go (read_of t).verdict refl
     where
       go : (x : ReadVerdict) → (read_of t).verdict ≡ x → LineTold t j k n
-      go Accepted e = accepted_told e
-      go (TextRefused x) e = text_told x e
+      go (Ok u) e = accepted_told e
+      go (Err x) e = text_told x e
 
   -- ---- exactly
 
@@ -170,12 +169,12 @@ module _ (t : List ℕ) (j k n : ℕ) where
   first_line_unique r s l u a b = no_later_both line_rank r s l u (a.first l u b.met) (b.first r s a.met)
 
   -- an answer is a refusal or it is not
-  verdicts : (x : LineRefusal) (y : ℕ) → line_answer t j k n ≡ Refused x → line_answer t j k n ≡ Written y → ⊥
+  verdicts : (x : LineRefusal) (y : ℕ) → line_answer t j k n ≡ Err x → line_answer t j k n ≡ Ok y → ⊥
   verdicts x y p q = true≢false (ap is_refused (sym p ∙ q))
     where
       is_refused : LineVerdict → Bool
-      is_refused (Refused r) = true
-      is_refused (Written r) = false
+      is_refused (Err r) = true
+      is_refused (Ok r) = false
 
   pub answers_line_first : (r s : ℕ) → LineAnswers t j k n r s → FirstLineRow t j k n r s
   answers_line_first r s a = go line_told
@@ -187,8 +186,8 @@ module _ (t : List ℕ) (j k n : ℕ) where
           eq = ap refusal_in (sym b.answer_is ∙ a.answer_is)
             where
               refusal_in : LineVerdict → LineRefusal
-              refusal_in (Refused r) = r
-              refusal_in (Written x) = ShortBuffer 0
+              refusal_in (Err r) = r
+              refusal_in (Ok x) = ShortBuffer 0
       go (written x e none) = absurd (verdicts a.refusal x a.answer_is e)
 
   pub first_line_answers : (r s : ℕ) → FirstLineRow t j k n r s → LineAnswers t j k n r s
@@ -198,16 +197,16 @@ module _ (t : List ℕ) (j k n : ℕ) where
       go (at_row l u g b) = let q = first_line_unique l u r s g f in subst (LineAnswers t j k n r) q.1 (subst (λ (z : ℕ). LineAnswers t j k n z u) q.0 b)
       go (written x e none) = absurd (none r s f.met)
 
-  pub written_none : (x : ℕ) → line_answer t j k n ≡ Written x → (r s : ℕ) → LineRow t j k n r s → ⊥
+  pub written_none : (x : ℕ) → line_answer t j k n ≡ Ok x → (r s : ℕ) → LineRow t j k n r s → ⊥
   written_none x e r s ρ = go line_told
     where
       go : LineTold t j k n → ⊥
       go (at_row l u f b) = verdicts b.refusal x b.answer_is e
       go (written y q none) = none r s ρ
 
-  pub none_written : ((r s : ℕ) → LineRow t j k n r s → ⊥) → (x : ℕ) × (line_answer t j k n ≡ Written x)
+  pub none_written : ((r s : ℕ) → LineRow t j k n r s → ⊥) → (x : ℕ) × (line_answer t j k n ≡ Ok x)
   none_written none = go line_told
     where
-      go : LineTold t j k n → (x : ℕ) × (line_answer t j k n ≡ Written x)
+      go : LineTold t j k n → (x : ℕ) × (line_answer t j k n ≡ Ok x)
       go (at_row l u f b) = absurd (none l u f.met)
       go (written x e q) = (x, e)

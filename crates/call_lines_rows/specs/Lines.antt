@@ -6,19 +6,16 @@
 --   Answered A           what such a call answers, an A, and what it leaves in its lent buffer
 --   line_call t j k b, run_call t j b  the two together, for the buffer b
 -- Assumes nothing.
-use Rattle.std.specs.Prelude.{ℕ, ◌+◌, ◌-◌, cond, List, ◌++◌, ltb, length, take, drop}
+use Rattle.std.specs.Prelude.{ℕ, ◌+◌, ◌-◌, cond, List, ◌++◌, ltb, length, take, drop, Result, Ok, Err}
 use Rattle.lists.specs.Lists.{joined}
 use Rattle.encoding.specs.Code.{Code, code_of, clause_total_of}
-use Rattle.reader.specs.declared.ReadVerdict.{ReadVerdict}
-use Rattle.reader.specs.declared.ReadVerdict.TheVariants.{Accepted, Refused as TextRefused}
 use Rattle.reader.specs.Verdict.{read_of}
 use Rattle.program.specs.Arrays.{decoded}
 use Rattle.clause_runs.specs.Lines.{code_lines, code_line, fitting, code_run, code_run_bytes}
+use Rattle.refusals.specs.declared.LineRefusal.{LineRefusal}
 use Rattle.refusals.specs.declared.LineRefusal.TheVariants.{Text, NoSuchClause, ShortBuffer}
-use Rattle.call_lines_rows.specs.declared.LineVerdict.{LineVerdict}
-use Rattle.call_lines_rows.specs.declared.LineVerdict.TheVariants.{Written, Refused}
-use Rattle.call_lines_rows.specs.declared.RunVerdict.{RunVerdict}
-use Rattle.call_lines_rows.specs.declared.RunVerdict.TheVariants.{WrittenRun, RefusedRun}
+use Rattle.reader.specs.Verdict.{ReadVerdict}
+use Rattle.call_lines_rows.specs.Verdicts.{LineVerdict, RunVerdict}
 
 pub record Answered (A : Type 0) : Type 0 where
   pub verdict : A
@@ -29,11 +26,15 @@ answered v b = record { verdict = v; buffer = b }
 
 -- ---- one line
 
+-- x, where the code has line j and `room` bytes take it
+abbrev pub answer_of : {A : Type 0} → Code → ℕ → ℕ → A → Result A LineRefusal
+answer_of G j room x =
+    cond (ltb (clause_total_of G) j) (Err (NoSuchClause (clause_total_of G)))
+    (cond (ltb room (length (code_line G j))) (Err (ShortBuffer (length (code_line G j)))) (Ok x))
+
 -- of a code, into `room` bytes
 abbrev pub answer_in : Code → ℕ → ℕ → LineVerdict
-answer_in G j room =
-    cond (ltb (clause_total_of G) j) (Refused (NoSuchClause (clause_total_of G)))
-    (cond (ltb room (length (code_line G j))) (Refused (ShortBuffer (length (code_line G j)))) (Written (length (code_line G j))))
+answer_in G j room = answer_of G j room (length (code_line G j))
 
 abbrev pub line_bytes_in : Code → ℕ → ℕ → List ℕ → List ℕ
 line_bytes_in G j k b =
@@ -41,12 +42,12 @@ line_bytes_in G j k b =
     (cond (ltb (length b - k) (length (code_line G j))) b (take k b ++ (code_line G j ++ drop (k + length (code_line G j)) b)))
 
 abbrev pub after_text : ReadVerdict → LineVerdict → LineVerdict
-after_text Accepted x = x
-after_text (TextRefused r) x = Refused (Text r)
+after_text (Ok u) x = x
+after_text (Err r) x = Err (Text r)
 
 abbrev pub kept_bytes : ReadVerdict → List ℕ → List ℕ → List ℕ
-kept_bytes Accepted x b = x
-kept_bytes (TextRefused r) x b = b
+kept_bytes (Ok u) x b = x
+kept_bytes (Err r) x b = b
 
 -- a place at or past the end leaves no bytes: n - k is 0 there
 unfoldable pub line_answer : List ℕ → ℕ → ℕ → ℕ → LineVerdict
@@ -61,13 +62,11 @@ line_call t j k b = answered (line_answer t j k (length b)) (line_bytes t j k b)
 -- ---- a run of lines
 
 abbrev pub run_answer_in : Code → ℕ → ℕ → RunVerdict
-run_answer_in G j n =
-    cond (ltb (clause_total_of G) j) (RefusedRun (NoSuchClause (clause_total_of G)))
-    (cond (ltb n (length (code_line G j))) (RefusedRun (ShortBuffer (length (code_line G j)))) (WrittenRun (fitting n (drop j (code_lines G))) (length (joined (code_run G j n)))))
+run_answer_in G j n = answer_of G j n (record { lines = fitting n (drop j (code_lines G)); bytes = length (joined (code_run G j n)) })
 
 abbrev pub after_text_run : ReadVerdict → RunVerdict → RunVerdict
-after_text_run Accepted x = x
-after_text_run (TextRefused r) x = RefusedRun (Text r)
+after_text_run (Ok u) x = x
+after_text_run (Err r) x = Err (Text r)
 
 unfoldable pub run_answer : List ℕ → ℕ → ℕ → RunVerdict
 run_answer t j n = after_text_run (read_of t).verdict (run_answer_in (code_of (decoded (read_of t).program)) j n)

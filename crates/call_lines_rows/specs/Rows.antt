@@ -10,10 +10,10 @@ use Rattle.meaning.specs.Program.{Program}
 use Rattle.reader_laws.specs.Row.{Row, rank, NoLaterBy}
 use Rattle.text.specs.Limits.{Admitted}
 use Rattle.refusals.specs.declared.LineRefusal.{LineRefusal}
-use Rattle.call_lines_rows.specs.declared.LineVerdict.TheVariants.{Refused}
 use Rattle.clause_runs.specs.Lines.{clause_total, line_of}
 use Rattle.refusals.specs.Numbers.{line_number, line_spot}
 use Rattle.call_lines_rows.specs.Lines.{line_answer}
+use Rattle.std.specs.Prelude.{Err}
 
 -- the bytes of the buffer from place k on: none if that is past the end
 abbrev pub room_from : ℕ → ℕ → ℕ
@@ -33,7 +33,7 @@ pub record FirstLineRow (t : List ℕ) (j k n r s : ℕ) : Type 0 where
 
 pub record LineAnswers (t : List ℕ) (j k n r s : ℕ) : Type 0 where
   pub refusal : LineRefusal
-  pub answer_is : line_answer t j k n ≡ Refused refusal
+  pub answer_is : line_answer t j k n ≡ Err refusal
   pub row_is : line_number refusal ≡ r
   pub spot_is : line_spot refusal ≡ s
 

@@ -4,15 +4,14 @@
 use refusals::LineRefusal;
 
 // The length of the line written, or a refusal.
-#[derive(Clone, Copy)]
-pub enum LineVerdict {
-    Written(usize),
-    Refused(LineRefusal),
+pub type LineVerdict = Result<usize, LineRefusal>;
+
+// How many lines are written, and how many bytes they are.
+#[derive(Clone, Copy, PartialEq, Eq)]
+pub struct Run {
+    pub lines: usize,
+    pub bytes: usize,
 }
 
-// How many lines are written, and how many bytes they are, or a refusal.
-#[derive(Clone, Copy)]
-pub enum RunVerdict {
-    WrittenRun(usize, usize),
-    RefusedRun(LineRefusal),
-}
+// A run of lines, or a refusal.
+pub type RunVerdict = Result<Run, LineRefusal>;

@@ -2,12 +2,14 @@
 #![tactic(auto)]
 
 ghost use Rattle.std.specs.Prelude.{◌≡◌};
-ghost use Rattle.call_replies.specs.Replies.{accepted_reply, refused_reply, of_line, of_run, of_check, of_fill};
+ghost use Rattle.call_replies.specs.declared.Reply.{Reply};
+ghost use Rattle.call_replies.specs.Replies.{accepted_reply, refused_reply, of_verdict, of_totals, of_length, of_lines, of_model, of_set};
 
-use call_check_rows::CheckVerdict;
-use call_fill_rows::FillVerdict;
-use call_lines_rows::{LineVerdict, RunVerdict};
-use refusals::{check_number, check_spot, fill_number, fill_spot, line_number, line_spot};
+use call_check_rows::Shown;
+use call_fill_rows::Filled;
+use call_lines_rows::Run;
+use clause_tables::Totals;
+use refusals::Refusal;
 
 // The row's number and the spot of a refusal, both 0 for acceptance; and the numbers that an accepted call gives, 0 where it gives none.
 #[repr(C)]
@@ -22,7 +24,7 @@ pub struct Reply {
 }
 
 // The reply of an accepted call that gives a, b and c.
-pub fn accepted(a: usize, b: usize, c: usize) -> Reply
+fn accepted(a: usize, b: usize, c: usize) -> Reply
     ensures { result ≡ accepted_reply a b c }
 {
     Reply {
@@ -36,11 +38,11 @@ pub fn accepted(a: usize, b: usize, c: usize) -> Reply
 }
 
 // The reply of a call that is refused by row `number` at `spot`.
-pub fn refused(number: u8, spot: usize) -> Reply
+fn refused(number: u8, spot: usize) -> Reply
     ensures { result ≡ refused_reply number spot }
 {
     Reply {
-        number: number as u64,
+        number: u64::from(number),
         spot: spot as u64,
         a: 0,
         b: 0,
@@ -49,42 +51,65 @@ pub fn refused(number: u8, spot: usize) -> Reply
     }
 }
 
-// The reply for a line: its length.
-pub fn of_line(v: LineVerdict) -> Reply
-    ensures { result ≡ of_line v }
-{
-    match v {
-        LineVerdict::Written(n) => accepted(n, 0, 0),
-        LineVerdict::Refused(x) => refused(line_number(x), line_spot(x)),
+// What an accepted call gives, with its reply.
+pub trait Given: Copy {
+    ghost reply_of: { Self → Reply };
+
+    fn reply(self) -> Reply
+        ensures { result ≡ reply_of self };
+}
+
+// V and C of a program.
+impl Given for Totals {
+    ghost reply_of = { of_totals };
+
+    fn reply(self) -> Reply {
+        accepted(self.vars, self.clauses, 0)
     }
 }
 
-// The reply for a run of lines: how many lines, and how many bytes.
-pub fn of_run(v: RunVerdict) -> Reply
-    ensures { result ≡ of_run v }
-{
-    match v {
-        RunVerdict::WrittenRun(m, n) => accepted(m, n, 0),
-        RunVerdict::RefusedRun(x) => refused(line_number(x), line_spot(x)),
+// A line's length.
+impl Given for usize {
+    ghost reply_of = { of_length };
+
+    fn reply(self) -> Reply {
+        accepted(self, 0, 0)
     }
 }
 
-// The reply for a check: how many atoms are true, the highest level, and how many variables the answer left out.
-pub fn of_check(v: CheckVerdict) -> Reply
-    ensures { result ≡ of_check v }
-{
-    match v {
-        CheckVerdict::Model(k, h, c) => accepted(k, h, c),
-        CheckVerdict::Refused(x) => refused(check_number(x), check_spot(x)),
+// How many lines, and how many bytes.
+impl Given for Run {
+    ghost reply_of = { of_lines };
+
+    fn reply(self) -> Reply {
+        accepted(self.lines, self.bytes, 0)
     }
 }
 
-// The reply for a filled-out set: how many atoms are true, and the highest level.
-pub fn of_fill(v: FillVerdict) -> Reply
-    ensures { result ≡ of_fill v }
+// How many atoms are true, the highest level, and how many variables the answer left out.
+impl Given for Shown {
+    ghost reply_of = { of_model };
+
+    fn reply(self) -> Reply {
+        accepted(self.atoms, self.highest, self.assumed)
+    }
+}
+
+// How many atoms are true, and the highest level.
+impl Given for Filled {
+    ghost reply_of = { of_set };
+
+    fn reply(self) -> Reply {
+        accepted(self.atoms, self.highest, 0)
+    }
+}
+
+// The reply for a verdict.
+pub fn reply_to<A: Given, R: Refusal>(verdict: Result<A, R>) -> Reply
+    ensures { result ≡ of_verdict A.reply_of R.number_of R.spot_of verdict }
 {
-    match v {
-        FillVerdict::Filled(k, h) => accepted(k, h, 0),
-        FillVerdict::Refused(x) => refused(fill_number(x), fill_spot(x)),
+    match verdict {
+        Ok(given) => given.reply(),
+        Err(refusal) => refused(refusal.number(), refusal.spot()),
     }
 }

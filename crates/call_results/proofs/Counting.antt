@@ -1,17 +1,20 @@
 -- Counters and counts, one bit or atom at a time.
 --   part_true, part_false          what a variable adds
+--   bit_is                         a truth value as a number
 --   level_within                   the variables of an atom's counter have a byte
---   counted, Counted, counted_more the counter of the first i bits, with the next power of 2; of one bit more
+--   Counted, counted_more          the counter of the first i bits, with the next power of 2; of one bit more
+--   counted_one, counted_no        of one bit more that is 1, or 0
 --   tabled_more                    a table written into a buffer, one entry more
 --   true_more, highest_more        the number of true atoms, and the highest level, with one atom more
 -- Assumes nothing.
 use Prim.Native.Nat.{ℕ, zero, suc, ◌+◌, ◌*◌, ◌^◌, ◌≤◌, ◌<◌, max}
-use native.Mathlib.Nat.{le_antisymm, mul-le-mul_right, pow-succ'}
+use native.Mathlib.Nat.{add-zero, le_antisymm, mul-le-mul_right, pow-succ'}
 use native.Mathlib.Numerals.{add-one}
 use native.Mathlib.Omega.{arith}
 use mathlib.Core.Path.{◌≡◌, refl, sym, ◌∙◌, ap, ap₂, subst}
 use mathlib.Core.Bool.{Bool, true, false, cond}
 use mathlib.Core.List.{List, [], ◌∷◌, ◌++◌, append_assoc}
+use mir.Val.{bool_byte}
 use lib.ListN.{length, get_or, set, drop}
 use lib.Pow.{pow_mono}
 use lib.Seq.{drop-cons, set_at}
@@ -35,6 +38,11 @@ module _ {d : Bool} (x : Bool) (p : ℕ) (e : d ≡ x) where
 part_small : (x : Bool) (p : ℕ) → cond x p 0 ≤ p
 part_small true p = omega arith
 part_small false p = omega arith
+
+-- a truth value as a number
+pub bit_is : (x : Bool) → bool_byte x ≡ cond x 1 0
+bit_is true = refl
+bit_is false = refl
 
 -- ---- a counter
 
@@ -66,6 +74,13 @@ module _ {X : ℕ → Bool} {i x power : ℕ} (c : Counted X i x power) where
           ap (λ (y : ℕ). y + d) c.so_far
           ∙ ap (λ (y : ℕ). value X i + y) (e ∙ ap (λ (p : ℕ). cond (X (i + 1)) p 0) c.next ∙ ap (λ (k : ℕ). cond (X k) (2 ^ i) 0) (add-one i))
           ∙ ap (value X) (sym (add-one i))
+
+  -- bit i + 1 is b, and y the counter with it
+  pub counted_one : {b : Bool} → b ≡ X (i + 1) → b ≡ true → {y : ℕ} → y ≡ x + power → Counted X (i + 1) y (power * 2)
+  counted_one e t q = subst (λ (y : ℕ). Counted X (i + 1) y (power * 2)) (sym q) (counted_more (part_true (X (i + 1)) power e t))
+
+  pub counted_no : {b : Bool} → b ≡ X (i + 1) → b ≡ false → {y : ℕ} → y ≡ x → Counted X (i + 1) y (power * 2)
+  counted_no e t q = subst (λ (y : ℕ). Counted X (i + 1) y (power * 2)) (add-zero x ∙ sym q) (counted_more (part_false (X (i + 1)) power e t))
 
   pub counted_all : (w : ℕ) → i ≤ w → w ≤ i → x ≡ value X w
   counted_all w h g = c.so_far ∙ ap (value X) (le_antisymm h g)

@@ -10,7 +10,7 @@ ghost use Rattle.checker_model.specs.Model.{true_atom_list, numbers_text, levels
 
 use digits::put_decimal;
 use fixed_lines::{put_closing, put_word};
-use numbers::{Atom, atom_var, wide};
+use numbers::{Atom, Var};
 use truth_literals::is_true;
 
 // Writes the number x at the front of the buffer, after one space where bytes of its list stand before it, and returns how many bytes they are.
@@ -19,10 +19,11 @@ fn put_listed(before: usize, x: usize, buf: &mut [u8]) -> usize
     ensures { Wrote (listed_text before x) buf.old buf.new result }
 {
     if before == 0 {
-        return put_decimal(x, &mut *buf);
+        put_decimal(x, buf)
+    } else {
+        buf[0] = b' ';
+        1 + put_decimal(x, &mut buf[1..])
     }
-    buf[0] = 32;
-    1 + put_decimal(x, &mut buf[1..])
 }
 
 // Writes the number x as the next one of its list if it is shown, nothing else, and returns how many bytes that is.
@@ -30,10 +31,7 @@ fn put_shown(shown: bool, before: usize, x: usize, buf: &mut [u8]) -> usize
     requires { Room (shown_text shown before x) buf.old }
     ensures { Wrote (shown_text shown before x) buf.old buf.new result }
 {
-    if shown {
-        return put_listed(before, x, &mut *buf);
-    }
-    0
+    if shown { put_listed(before, x, buf) } else { 0 }
 }
 
 // Whether atom a is true.
@@ -41,7 +39,7 @@ fn shows(assignment: &[u8], a: Atom) -> bool
     requires { (0 < a.0) × (a.0 ≤ length assignment.now) }
     ensures { result ≡ value_in assignment.now a.0 }
 {
-    is_true(assignment, atom_var(a))
+    is_true(assignment, Var::from(a))
 }
 
 // Writes the true ones of the atoms 1 to n.
@@ -49,13 +47,10 @@ fn put_atoms_text(n: u16, assignment: &[u8], buf: &mut [u8]) -> usize
     requires { (n ≤ length assignment.now) × (Room (numbers_text (true_atom_list n assignment.now)) buf.old) }
     ensures { Wrote (numbers_text (true_atom_list n assignment.now)) buf.old buf.new result }
 {
-    let mut a: u16 = 0;
-    let mut to: usize = 0;
-    while a < n {
-        let x = wide(a + 1);
+    let mut to = 0;
+    for a in 0..n {
         let shown = shows(assignment, Atom(a + 1));
-        to += put_shown(shown, to, x, &mut buf[to..]);
-        a += 1;
+        to += put_shown(shown, to, usize::from(a + 1), &mut buf[to..]);
     }
     to
 }
@@ -65,7 +60,7 @@ fn level_of(levels: &[u8], a: Atom) -> usize
     requires { (0 < a.0) × (a.0 ≤ length levels.now) }
     ensures { result ≡ level_byte levels.now a.0 }
 {
-    levels[wide(a.0) - 1] as usize
+    usize::from(levels[usize::from(a.0) - 1])
 }
 
 // Writes the levels of the true ones of the atoms 1 to n.
@@ -73,13 +68,11 @@ fn put_levels_text(n: u16, assignment: &[u8], levels: &[u8], buf: &mut [u8]) -> 
     requires { (n ≤ length assignment.now) × (n ≤ length levels.now) × (Room (levels_text n assignment.now levels.now) buf.old) }
     ensures { Wrote (levels_text n assignment.now levels.now) buf.old buf.new result }
 {
-    let mut a: u16 = 0;
-    let mut to: usize = 0;
-    while a < n {
+    let mut to = 0;
+    for a in 0..n {
         let shown = shows(assignment, Atom(a + 1));
         let x = level_of(levels, Atom(a + 1));
         to += put_shown(shown, to, x, &mut buf[to..]);
-        a += 1;
     }
     to
 }

@@ -25,8 +25,6 @@ use Rattle.fixed_lines.specs.Lines.{refused_text}
 use Rattle.truth_clauses.specs.Truth.{value_in}
 use Rattle.call_results.specs.Results.{Result, level_byte, assignment_after, levels_after, var_total, program_read}
 use Rattle.refusals.specs.declared.CheckRefusal.{CheckRefusal}
-use Rattle.call_check_rows.specs.declared.CheckVerdict.{CheckVerdict}
-use Rattle.call_check_rows.specs.declared.CheckVerdict.TheVariants.{Model}
 use Rattle.call_check_rows.specs.Check.{zeroes, check_verdict_of, check_of, check_answer, check_assignment, check_levels}
 use Rattle.call_check_rows.specs.Rows.{CheckAnswers, Shows}
 use Rattle.call_check_rows.proofs.Verdicts.{program_is, model_offers}
@@ -35,6 +33,7 @@ use Rattle.correspondence.proofs.Correspond.{shows_accepted, accepted_true, acce
 use Rattle.correspondence.proofs.Gaps.{value_in_lem, level_in_lem}
 use Rattle.checker_model.specs.Model.{model_line, model_text, assumed_text}
 use Rattle.checker_output.specs.Output.{checker_verdict_text, checker_output_of, checker_text, PrintsModel}
+use Rattle.call_check_rows.specs.Verdict.{CheckVerdict, model_shown}
 
 abbrev zeros : List ℕ
 zeros = replicate 9890 0
@@ -139,7 +138,7 @@ module _ (t u : List ℕ) where
     level_at_lem i h =
         level_in_lem P A.limits.all_atoms M stable bs size refl (drop (var_total P) zeros) (drop P.atoms no_levels) values_are levels_are (suc i) (is_one i h)
 
-    prints : (k h c : ℕ) → check_answer t u 9890 126 ≡ Model k h c → PrintsModel t u c
+    prints : (k h c : ℕ) → check_answer t u 9890 126 ≡ model_shown k h c → PrintsModel t u c
     prints k h c e =
         record {
           program = P;
@@ -155,5 +154,5 @@ module _ (t u : List ℕ) where
               ∙ ap (λ (x : List ℕ). assumed_text c ++ x) (line_is P.atoms M (level P M) vs ls value_at level_at_lem);
         }
 
-  pub checker_shows : (k h c : ℕ) → check_answer t u 9890 126 ≡ Model k h c → PrintsModel t u c
+  pub checker_shows : (k h c : ℕ) → check_answer t u 9890 126 ≡ model_shown k h c → PrintsModel t u c
   checker_shows k h c e = let m = model_offers t u 9890 126 k h c e in prints m.0 m.1 m.2 k h c e

@@ -2,7 +2,6 @@
 --   atoms_shown, few_shown    the number of atoms of the program of a table, at most 126
 --   text_model, text_refused    the lines of a model, and of a refusal
 --   output_accepted, output_refused   those for a text, by the reader's verdict
---   line_of_lem     the line of a refusal, by its verdict
 --   answer_whole    65,537 bytes of the answer, or all, and its length give the check's result on the whole answer
 --   output_whole    and so do those of the program text: the checker's lines are those for the whole text and the whole answer
 -- Assumes nothing.
@@ -17,10 +16,7 @@ use lib.Seq.{take_all}
 use borrow.Author.Tests.{lt-ltb}
 use Rattle.encoding.specs.Code.{Code, code_of}
 use Rattle.lists.proofs.Tests.{le_or_lt}
-use Rattle.reader.specs.declared.ReadResult.{ReadResult}
 use Rattle.reader.specs.Verdict.{read_of}
-use Rattle.reader.specs.declared.ReadVerdict.{ReadVerdict}
-use Rattle.reader.specs.declared.ReadVerdict.TheVariants.{Accepted, Refused as TextRefused}
 use Rattle.refusals.specs.declared.TextRefusal.{TextRefusal}
 use Rattle.refusals.specs.declared.CheckRefusal.{CheckRefusal}
 use Rattle.refusals.specs.declared.CheckRefusal.TheVariants.{Text}
@@ -29,11 +25,13 @@ use Rattle.clause_tables.specs.Tables.{Ready, totals_of, totals_in, code_in}
 use Rattle.clause_table_laws.proofs.Cells.{told}
 use Rattle.reader.proofs.Counted.{counted_whole}
 use Rattle.call_results.specs.Results.{program_read}
-use Rattle.call_check_rows.specs.declared.CheckVerdict.{CheckVerdict}
-use Rattle.call_check_rows.specs.declared.CheckVerdict.TheVariants.{Model, Refused}
 use Rattle.call_check_rows.specs.Check.{check_after_reading, check_result, call_result, check_verdict_of, CheckGives}
 use Rattle.checker_model.specs.Model.{shown_model}
 use Rattle.checker_output.specs.Output.{checker_refusal_line, checker_verdict_text, result_text, checked_text, checker_output_of, checker_output, checker_text}
+use Rattle.reader.specs.Verdict.{ReadVerdict}
+use Rattle.reader.specs.declared.ReadResult.{ReadResult}
+use Rattle.std.specs.Prelude.{Err, Ok}
+use Rattle.call_check_rows.specs.Verdict.{CheckVerdict, model_shown}
 
 -- the number of atoms of the program of a table
 module _ {tb : List ℕ} {t : Totals} (r : Ready tb) (e : t ≡ totals_in tb) where
@@ -54,10 +52,10 @@ module _ (G : Code) (t : List ℕ) (k : ℕ) {v : CheckVerdict} {bs ls : List �
       ∙ ap (λ (b : List ℕ). checker_verdict_text G.n (check_verdict_of G.n (check_result G t k 9890 126)) b ls) g.1
       ∙ ap (checker_verdict_text G.n (check_verdict_of G.n (check_result G t k 9890 126)) _) g.2
 
-  pub text_model : {i j c n : ℕ} → n ≡ G.n → v ≡ Model i j c → shown_model n c bs ls ≡ checked_text G t k
+  pub text_model : {i j c n : ℕ} → n ≡ G.n → v ≡ model_shown i j c → shown_model n c bs ls ≡ checked_text G t k
   text_model {c = c} e m = ap (λ (n : ℕ). shown_model n c bs ls) e ∙ sym (ap (λ (w : CheckVerdict). checker_verdict_text G.n w bs ls) m) ∙ said
 
-  pub text_refused : {q : CheckRefusal} → v ≡ Refused q → checker_refusal_line v ≡ checked_text G t k
+  pub text_refused : {q : CheckRefusal} → v ≡ Err q → checker_refusal_line v ≡ checked_text G t k
   text_refused {q} e = ap checker_refusal_line e ∙ sym (ap (λ (w : CheckVerdict). checker_verdict_text G.n w bs ls) e) ∙ said
 
 -- by the reader's verdict
@@ -67,16 +65,12 @@ module _ (x : ReadResult) (t : List ℕ) (k : ℕ) where
   unfolding checker_output_of
   by_verdict e = sym (ap (λ (v : ReadVerdict). result_text (code_of (program_read x)) (check_after_reading v (check_result (code_of (program_read x)) t k 9890 126))) e)
 
-  pub output_accepted : x.verdict ≡ Accepted → {G : Code} → G ≡ code_of (program_read x) → checked_text G t k ≡ checker_output_of x t k
+  pub output_accepted : x.verdict ≡ Ok tt → {G : Code} → G ≡ code_of (program_read x) → checked_text G t k ≡ checker_output_of x t k
   unfolding checked_text
   output_accepted e g = ap (λ (G : Code). checked_text G t k) g ∙ by_verdict e
 
-  pub output_refused : {r : TextRefusal} → x.verdict ≡ TextRefused r → checker_refusal_line (Refused (Text r)) ≡ checker_output_of x t k
+  pub output_refused : {r : TextRefusal} → x.verdict ≡ Err r → checker_refusal_line (Err (Text r)) ≡ checker_output_of x t k
   output_refused e = by_verdict e
-
--- the line of a verdict that is known
-pub line_of_lem : {v w : CheckVerdict} {s : List ℕ} → v ≡ w → s ≡ checker_refusal_line w → s ≡ checker_refusal_line v
-line_of_lem e f = f ∙ sym (ap checker_refusal_line e)
 
 -- ---- the front of a text
 
@@ -93,3 +87,7 @@ unfolding checker_output checker_text checker_output_of
 output_whole t u =
     ap (λ (x : ReadResult). result_text (code_of (program_read x)) (call_result x (take 65537 u) (length u) 9890 126)) (counted_whole t)
     ∙ ap (result_text (code_of (program_read (read_of t)))) (answer_whole (read_of t) u 9890 126)
+
+-- the line of a verdict that is known
+pub line_of_lem : {v w : CheckVerdict} {s : List ℕ} → v ≡ w → s ≡ checker_refusal_line w → s ≡ checker_refusal_line v
+line_of_lem e f = f ∙ sym (ap checker_refusal_line e)

@@ -16,7 +16,6 @@ use Rattle.meaning.specs.Program.{Program, Atoms}
 use Rattle.meaning.specs.Stage.{Stable, level}
 use Rattle.encoding.specs.Fill.{true_atoms}
 use Rattle.encoding.specs.Code.{Code, code_of, variables_of}
-use Rattle.reader.specs.declared.ReadResult.{ReadResult}
 use Rattle.reader.specs.Verdict.{read_of}
 use Rattle.text.specs.Limits.{Admitted}
 use Rattle.fixed_lines.specs.Lines.{refused_text}
@@ -25,20 +24,21 @@ use Rattle.answer_form.specs.Pieces.{Spotted}
 use Rattle.answer_offers.specs.Offered.{values_of}
 use Rattle.call_results.specs.Results.{Result, assignment_after, levels_after, var_total, program_read}
 use Rattle.refusals.specs.declared.CheckRefusal.{CheckRefusal}
-use Rattle.call_check_rows.specs.declared.CheckVerdict.{CheckVerdict}
-use Rattle.call_check_rows.specs.declared.CheckVerdict.TheVariants.{Model, Refused}
 use Rattle.refusals.specs.Numbers.{check_number, check_spot}
 use Rattle.call_check_rows.specs.Check.{zeroes, check_verdict_of, check_result, call_result}
 use Rattle.call_check_rows.specs.Rows.{Offers}
 use Rattle.checker_model.specs.Model.{model_line, model_text, assumed_text}
+use Rattle.reader.specs.declared.ReadResult.{ReadResult}
+use Rattle.call_check_rows.specs.Verdict.{CheckVerdict}
+use Rattle.std.specs.Prelude.{Err, Ok}
 
 abbrev pub checker_refusal_line : CheckVerdict → List ℕ
-checker_refusal_line (Model k h c) = []
-checker_refusal_line (Refused r) = refused_text (check_number r) (check_spot r)
+checker_refusal_line (Ok x) = []
+checker_refusal_line (Err r) = refused_text (check_number r) (check_spot r)
 
 abbrev pub checker_verdict_text : ℕ → CheckVerdict → List ℕ → List ℕ → List ℕ
-checker_verdict_text n (Model k h c) bs ls = assumed_text c ++ model_text n bs ls
-checker_verdict_text n (Refused r) bs ls = refused_text (check_number r) (check_spot r)
+checker_verdict_text n (Ok x) bs ls = assumed_text x.assumed ++ model_text n bs ls
+checker_verdict_text n (Err r) bs ls = refused_text (check_number r) (check_spot r)
 
 abbrev pub result_text : Code → Result CheckRefusal → List ℕ
 result_text G x =

@@ -2,7 +2,7 @@
 // "Programs"; document 02, Q-3).
 #![tactic(auto)]
 
-ghost use Rattle.std.specs.Prelude.{◌≤◌, ◌≡◌, length};
+ghost use Rattle.std.specs.Prelude.{◌≤◌, ◌≡◌, Err, length};
 ghost use Rattle.digits.specs.Bytes.{Wrote};
 ghost use Rattle.clause_tables.specs.Tables.{Ready, code_in};
 ghost use Rattle.checker_output.specs.Output.{checker_refusal_line, checked_text, checker_output};
@@ -15,17 +15,16 @@ use clause_cells::totals;
 use clause_tables::CELLS;
 use files::read_file;
 use fixed_lines::put_refusal;
-use reader::ReadVerdict;
-use refusals::{CheckRefusal, check_number, check_spot};
+use refusals::{CheckRefusal, Refusal};
 
 // Writes the line of a refusal at the front of the buffer, nothing for a model, and returns how many bytes it has.
-fn put_refused(v: CheckVerdict, out: &mut [u8]) -> usize
+fn put_refused(verdict: CheckVerdict, out: &mut [u8]) -> usize
     requires { 35 ≤ length out.old }
-    ensures { Wrote (checker_refusal_line v) out.old out.new result }
+    ensures { Wrote (checker_refusal_line verdict) out.old out.new result }
 {
-    match v {
-        CheckVerdict::Model(k, h, c) => 0,
-        CheckVerdict::Refused(q) => put_refusal(check_number(q), check_spot(q), &mut *out),
+    match verdict {
+        Ok(_) => 0,
+        Err(refusal) => put_refusal(refusal.number(), refusal.spot(), out),
     }
 }
 
@@ -37,11 +36,11 @@ fn put_checked<'a>(table: &'a [u16], answer: &'a [u8], total: usize, out: &mut [
     let mut assignment = [0u8; 9890];
     let mut levels = [0u8; 126];
     let n = totals(table).sizes.n;
-    let v = check_in(table, answer, total, &mut assignment, &mut levels);
-    let CheckVerdict::Model(k, h, c) = v else {
-        return put_refused(v, &mut *out);
+    let verdict = check_in(table, answer, total, &mut assignment, &mut levels);
+    let Ok(shown) = verdict else {
+        return put_refused(verdict, out);
     };
-    put_shown_model(n, c, &assignment, &levels, &mut *out)
+    put_shown_model(n, shown.assumed, &assignment, &levels, out)
 }
 
 // Writes the checker's lines for a program text of `size` bytes and an answer of `total`; of those that are not overlong, `text` and `answer` are all.
@@ -50,12 +49,9 @@ pub fn put_output(text: &[u8], size: usize, answer: &[u8], total: usize, out: &m
     ensures { Wrote (checker_output text.now size answer.now total) out.old out.new result }
 {
     let mut table = [0u16; CELLS];
-    let v = load_counted(text, size, &mut table);
-    match v {
-        ReadVerdict::Accepted => put_checked(&table, answer, total, &mut *out),
-        ReadVerdict::Refused(x) => {
-            put_refused(CheckVerdict::Refused(CheckRefusal::Text(x)), &mut *out)
-        }
+    match load_counted(text, size, &mut table) {
+        Ok(()) => put_checked(&table, answer, total, out),
+        Err(refusal) => put_refused(Err(CheckRefusal::Text(refusal)), out),
     }
 }
 

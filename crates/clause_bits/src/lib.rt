@@ -10,6 +10,7 @@ use clause_chains::Chain;
 use clause_numerals::{Numeral, numeral_of, opposite, put_three, put_two};
 
 // The lines of p with x, and of p with y.
+#[tactic(auto, unfolding(crate::specs::BitTexts::starts_text))]
 fn put_starts(p: Numeral, x: Numeral, y: Numeral, buf: &mut [u8]) -> usize
     requires { (Numbered p) × (Numbered x) × (Numbered y) × (Room (starts_text (held p) (held x) (held y)) buf.old) }
     ensures { Wrote (starts_text (held p) (held x) (held y)) buf.old buf.new result }
@@ -19,6 +20,7 @@ fn put_starts(p: Numeral, x: Numeral, y: Numeral, buf: &mut [u8]) -> usize
 }
 
 // The lines of p and x with y, and of p and x with g.
+#[tactic(auto, unfolding(crate::specs::BitTexts::ends_text))]
 fn put_ends(p: Numeral, x: Numeral, y: Numeral, g: Numeral, buf: &mut [u8]) -> usize
     requires { (Numbered p) × (Numbered x) × (Numbered y) × (Numbered g) × (Room (ends_text (held p) (held x) (held y) (held g)) buf.old) }
     ensures { Wrote (ends_text (held p) (held x) (held y) (held g)) buf.old buf.new result }
@@ -28,6 +30,7 @@ fn put_ends(p: Numeral, x: Numeral, y: Numeral, g: Numeral, buf: &mut [u8]) -> u
 }
 
 // The lines of p with two of x, y and g.
+#[tactic(auto, unfolding(crate::specs::BitTexts::half_text))]
 fn put_half(p: Numeral, x: Numeral, y: Numeral, g: Numeral, buf: &mut [u8]) -> usize
     requires { (Numbered p) × (Numbered x) × (Numbered y) × (Numbered g) × (Room (half_text (held p) (held x) (held y) (held g)) buf.old) }
     ensures { Wrote (half_text (held p) (held x) (held y) (held g)) buf.old buf.new result }
@@ -37,6 +40,7 @@ fn put_half(p: Numeral, x: Numeral, y: Numeral, g: Numeral, buf: &mut [u8]) -> u
 }
 
 // The lines of a chain's first bit, and of a further one.
+#[tactic(auto, unfolding(crate::specs::BitTexts::first_text))]
 fn put_first_bit(z: Numeral, x: Numeral, y: Numeral, buf: &mut [u8]) -> usize
     requires { (Numbered z) × (Numbered x) × (Numbered y) × (Room (first_text (held z) (held x) (held y)) buf.old) }
     ensures { Wrote (first_text (held z) (held x) (held y)) buf.old buf.new result }
@@ -48,6 +52,7 @@ fn put_first_bit(z: Numeral, x: Numeral, y: Numeral, buf: &mut [u8]) -> usize
     at + put_three(z, x, not_y, &mut buf[at..])
 }
 
+#[tactic(auto, unfolding(crate::specs::BitTexts::next_text))]
 fn put_next_bit(z: Numeral, x: Numeral, y: Numeral, g: Numeral, buf: &mut [u8]) -> usize
     requires { (Numbered z) × (Numbered x) × (Numbered y) × (Numbered g) × (Room (next_text (held z) (held x) (held y) (held g)) buf.old) }
     ensures { Wrote (next_text (held z) (held x) (held y) (held g)) buf.old buf.new result }
@@ -68,9 +73,8 @@ pub fn put_bit(c: Chain, i: u16, buf: &mut [u8]) -> usize
     let z = numeral_of(c.z);
     let x = numeral_of(c.x);
     let y = numeral_of(c.y);
-    if i == 1 {
-        return put_first_bit(z, x, y, &mut *buf);
+    match i {
+        1 => put_first_bit(z, x, y, buf),
+        _ => put_next_bit(z, x, y, numeral_of(c.g), buf),
     }
-    let g = numeral_of(c.g);
-    put_next_bit(z, x, y, g, &mut *buf)
 }

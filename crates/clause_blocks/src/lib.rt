@@ -32,65 +32,84 @@ fn level_numeral(s: Sizes, a: Atom, j: u16) -> Numeral
     numeral_of(level_var(s, a, j))
 }
 
-// -v(a,1) to -v(a,k), each followed by one space.
-fn put_lower(s: Sizes, a: Atom, k: u16, buf: &mut [u8]) -> usize
-    requires { (Bounded s) × (0 < a.0) × (a.0 ≤ 126) × (k ≤ 7) × (Room (lower_text (sizes_of s) a.0 k) buf.old) }
-    ensures { Wrote (lower_text (sizes_of s) a.0 k) buf.old buf.new result }
-{
-    let mut j: u16 = 0;
-    let mut at: usize = 0;
-    while j < k {
-        at += put_numeral(opposite(level_numeral(s, a, j + 1)), &mut buf[at..]);
-        j += 1;
-    }
-    at
-}
-
 // The two lines of a lower bit, whose variable is x.
 fn put_pair(x: Numeral, u: Numeral, v: Numeral, buf: &mut [u8]) -> usize
     requires { (Numbered x) × (Numbered u) × (Numbered v) × (Room (pair_text (held x) (held u) (held v)) buf.old) }
     ensures { Wrote (pair_text (held x) (held u) (held v)) buf.old buf.new result }
 {
-    let not_u = opposite(u);
-    let not_v = opposite(v);
-    let at = put_three(x, not_u, v, &mut *buf);
-    at + put_three(x, u, not_v, &mut buf[at..])
+    let at = put_three(x, opposite(u), v, buf);
+    at + put_three(x, u, opposite(v), &mut buf[at..])
 }
 
-// The two lines of each of the k lowest bits.
-fn put_pairs(s: Sizes, a: Atom, k: u16, u: Numeral, v: Numeral, buf: &mut [u8]) -> usize
-    requires { (Bounded s) × (0 < a.0) × (a.0 ≤ 126) × (k ≤ 7) × (Numbered u) × (Numbered v)
-        × (Room (pairs_text (sizes_of s) a.0 k (held u) (held v)) buf.old) }
-    ensures { Wrote (pairs_text (sizes_of s) a.0 k (held u) (held v)) buf.old buf.new result }
-{
-    let mut j: u16 = 0;
-    let mut at: usize = 0;
-    while j < k {
-        at += put_pair(level_numeral(s, a, j + 1), u, v, &mut buf[at..]);
-        j += 1;
+// Block i of atom a: its k = i - 1 lower bits, and u(a,i) and v(a,i) or the opposites of both.
+#[derive(Clone, Copy)]
+struct NextBlock {
+    sizes: Sizes,
+    atom: Atom,
+    lower: u16,
+    u: Numeral,
+    v: Numeral,
+    ghost bounded: { Bounded sizes },
+    ghost atom_some: { 0 < atom.0 },
+    ghost atom_in: { atom.0 ≤ 126 },
+    ghost lower_few: { lower ≤ 7 },
+    ghost u_numbered: { Numbered u },
+    ghost v_numbered: { Numbered v },
+}
+
+impl NextBlock {
+    // -v(a,1) to -v(a,k), each followed by one space.
+    fn put_lower(&self, buf: &mut [u8]) -> usize
+        requires { Room (lower_text (sizes_of self.now.sizes) self.now.atom.0 self.now.lower) buf.old }
+        ensures { Wrote (lower_text (sizes_of self.now.sizes) self.now.atom.0 self.now.lower) buf.old buf.new result }
+    {
+        let mut at: usize = 0;
+        for j in 0..self.lower {
+            at += put_numeral(
+                opposite(level_numeral(self.sizes, self.atom, j + 1)),
+                &mut buf[at..],
+            );
+        }
+        at
     }
-    at
-}
 
-// The line of the k lower bits, negated, and of u and v, and this with u and v negated before it.
-fn put_long(s: Sizes, a: Atom, k: u16, u: Numeral, v: Numeral, buf: &mut [u8]) -> usize
-    requires { (Bounded s) × (0 < a.0) × (a.0 ≤ 126) × (k ≤ 7) × (Numbered u) × (Numbered v)
-        × (Room (long_text (sizes_of s) a.0 k (held u) (held v)) buf.old) }
-    ensures { Wrote (long_text (sizes_of s) a.0 k (held u) (held v)) buf.old buf.new result }
-{
-    let at = put_lower(s, a, k, &mut *buf);
-    at + put_two(u, v, &mut buf[at..])
-}
+    // The two lines of each of the k lowest bits.
+    fn put_pairs(&self, buf: &mut [u8]) -> usize
+        requires { Room (pairs_text (sizes_of self.now.sizes) self.now.atom.0 self.now.lower (held self.now.u) (held self.now.v)) buf.old }
+        ensures { Wrote (pairs_text (sizes_of self.now.sizes) self.now.atom.0 self.now.lower (held self.now.u) (held self.now.v)) buf.old buf.new result }
+    {
+        let mut at: usize = 0;
+        for j in 0..self.lower {
+            at += put_pair(
+                level_numeral(self.sizes, self.atom, j + 1),
+                self.u,
+                self.v,
+                &mut buf[at..],
+            );
+        }
+        at
+    }
 
-fn put_longs(s: Sizes, a: Atom, k: u16, u: Numeral, v: Numeral, buf: &mut [u8]) -> usize
-    requires { (Bounded s) × (0 < a.0) × (a.0 ≤ 126) × (k ≤ 7) × (Numbered u) × (Numbered v)
-        × (Room (longs_text (sizes_of s) a.0 k (held u) (held v)) buf.old) }
-    ensures { Wrote (longs_text (sizes_of s) a.0 k (held u) (held v)) buf.old buf.new result }
-{
-    let not_u = opposite(u);
-    let not_v = opposite(v);
-    let at = put_long(s, a, k, not_u, not_v, &mut *buf);
-    at + put_long(s, a, k, u, v, &mut buf[at..])
+    // The line of the k lower bits, negated, and of u and v.
+    fn put_long(&self, buf: &mut [u8]) -> usize
+        requires { Room (long_text (sizes_of self.now.sizes) self.now.atom.0 self.now.lower (held self.now.u) (held self.now.v)) buf.old }
+        ensures { Wrote (long_text (sizes_of self.now.sizes) self.now.atom.0 self.now.lower (held self.now.u) (held self.now.v)) buf.old buf.new result }
+    {
+        let at = self.put_lower(buf);
+        at + put_two(self.u, self.v, &mut buf[at..])
+    }
+
+    // This line with u and v negated, and as it is.
+    fn put_longs(&self, buf: &mut [u8]) -> usize
+        requires { Room (longs_text (sizes_of self.now.sizes) self.now.atom.0 self.now.lower (held self.now.u) (held self.now.v)) buf.old }
+        ensures { Wrote (longs_text (sizes_of self.now.sizes) self.now.atom.0 self.now.lower (held self.now.u) (held self.now.v)) buf.old buf.new result }
+    {
+        let mut negated = *self;
+        negated.u = opposite(self.u);
+        negated.v = opposite(self.v);
+        let at = negated.put_long(buf);
+        at + self.put_long(&mut buf[at..])
+    }
 }
 
 // Group 4, atom a: the lines of block i.
@@ -98,11 +117,17 @@ fn put_next_block(s: Sizes, a: Atom, i: u16, buf: &mut [u8]) -> usize
     requires { (Bounded s) × (0 < a.0) × (a.0 ≤ 126) × (0 < i) × (i ≤ 7) × (Room (next_block_text (sizes_of s) a.0 i) buf.old) }
     ensures { Wrote (next_block_text (sizes_of s) a.0 i) buf.old buf.new result }
 {
-    let k = i - 1;
     let u = numeral_of(next_var(s, a, i));
     let v = level_numeral(s, a, i);
-    let at = put_pairs(s, a, k, u, v, &mut *buf);
-    at + put_longs(s, a, k, u, v, &mut buf[at..])
+    let block = NextBlock {
+        sizes: s,
+        atom: a,
+        lower: i - 1,
+        u,
+        v,
+    };
+    let at = block.put_pairs(buf);
+    at + block.put_longs(&mut buf[at..])
 }
 
 // ---- both groups
@@ -116,7 +141,7 @@ pub fn put_block(table: &[u16], g: u16, a: u16, i: u16, buf: &mut [u8]) -> usize
     let t = totals(table);
     if g == 5 {
         let c = chain_of_block(table, Pair(a), i);
-        return put_bit(c, chain_bit(t.sizes.w, i), &mut *buf);
+        return put_bit(c, chain_bit(t.sizes.w, i), buf);
     }
-    put_next_block(t.sizes, Atom(a), i, &mut *buf)
+    put_next_block(t.sizes, Atom(a), i, buf)
 }

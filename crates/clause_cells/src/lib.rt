@@ -2,13 +2,15 @@
 #![tactic(auto)]
 
 ghost use Rattle.std.specs.Prelude.{◌+◌, ◌-◌, ◌*◌, ◌≤◌, ◌<◌, ◌≡◌, get_or, take, drop};
-ghost use Rattle.clause_tables.specs.Tables.{Ready, region, totals_in, heads_in, bodies_in, before_in, partners_in, owners_in, starts_in, firsts_in, links_in};
+ghost use Rattle.numbers.specs.Nonzero.{nonzero};
+ghost use Rattle.clause_tables.specs.Tables.{Ready, region, count_in, totals_in, heads_in, bodies_in, before_in, partners_in, owners_in, starts_in, firsts_in, links_in};
+ghost use Rattle.clause_cells.specs.Rules.{rule_number};
 
 use clause_literals::Sizes;
 use clause_tables::{
     BEFORE_AT, BODIES_AT, FIRSTS_AT, HEADS_AT, LINKS_AT, OWNERS_AT, PARTNERS_AT, STARTS_AT, Totals,
 };
-use numbers::{Atom, Pair, Rule};
+use numbers::{Atom, Pair, Rule, nonzero};
 
 // The sizes, the number of pairs, V and C.
 pub fn totals(table: &[u16]) -> Totals
@@ -17,14 +19,22 @@ pub fn totals(table: &[u16]) -> Totals
 {
     Totals {
         sizes: Sizes {
-            n: cell(table, 0, 16, 0),
-            m: cell(table, 0, 16, 1),
-            w: cell(table, 0, 16, 2),
+            n: count(table, 0),
+            m: count(table, 1),
+            w: count(table, 2),
         },
-        pairs: cell(table, 0, 16, 3),
-        vars: cell(table, 0, 16, 4) as usize,
-        clauses: cell(table, 0, 16, 5) as usize,
+        pairs: count(table, 3),
+        vars: usize::from(count(table, 4)),
+        clauses: usize::from(count(table, 5)),
     }
+}
+
+// Count i.
+fn count(table: &[u16], i: u16) -> u16
+    requires { (Ready table.now) × (i < 16) }
+    ensures { result ≡ count_in table.now i }
+{
+    cell(table, 0, 16, i)
 }
 
 // Cell i of the region of k cells that begins at cell j.
@@ -32,7 +42,7 @@ fn cell(table: &[u16], j: usize, k: usize, i: u16) -> u16
     requires { (Ready table.now) × (j + k ≤ 4144) × (i < k) }
     ensures { result ≡ get_or (region j k table.now) i 0 }
 {
-    table[j + i as usize]
+    table[j + usize::from(i)]
 }
 
 // The head of rule r.
@@ -75,20 +85,20 @@ pub fn list_start(table: &[u16], r: Rule, k: u16) -> u16
     cell(table, STARTS_AT, 1001, 2 * (r.0 - 1) + k)
 }
 
-// The first rule of atom a, 0 if it has none.
-pub fn first_rule(table: &[u16], a: Atom) -> Rule
+// The first rule of atom a.
+pub fn first_rule(table: &[u16], a: Atom) -> Option<Rule>
     requires { (Ready table.now) × (0 < a.0) × (a.0 ≤ 126) }
-    ensures { result.0 ≡ get_or (firsts_in table.now) (a.0 - 1) 0 }
+    ensures { rule_number result ≡ nonzero (get_or (firsts_in table.now) (a.0 - 1) 0) }
 {
-    Rule(cell(table, FIRSTS_AT, 126, a.0 - 1))
+    nonzero(cell(table, FIRSTS_AT, 126, a.0 - 1)).map(Rule)
 }
 
-// The next rule with the head of rule r, 0 if there is none.
-pub fn next_rule(table: &[u16], r: Rule) -> Rule
+// The next rule with the head of rule r.
+pub fn next_rule(table: &[u16], r: Rule) -> Option<Rule>
     requires { (Ready table.now) × (0 < r.0) × (r.0 ≤ 500) }
-    ensures { result.0 ≡ get_or (links_in table.now) (r.0 - 1) 0 }
+    ensures { rule_number result ≡ nonzero (get_or (links_in table.now) (r.0 - 1) 0) }
 {
-    Rule(cell(table, LINKS_AT, 500, r.0 - 1))
+    nonzero(cell(table, LINKS_AT, 500, r.0 - 1)).map(Rule)
 }
 
 // The heads of the first m rules.
@@ -96,7 +106,7 @@ pub fn heads(table: &[u16], m: u16) -> &[u16]
     requires { (Ready table.now) × (m ≤ 500) }
     ensures { result.now ≡ take m (heads_in table.now) }
 {
-    &table[HEADS_AT..HEADS_AT + m as usize]
+    &table[HEADS_AT..HEADS_AT + usize::from(m)]
 }
 
 // The body atoms from place `first` to place `end`.
@@ -104,5 +114,5 @@ pub fn body(table: &[u16], first: u16, end: u16) -> &[u16]
     requires { (Ready table.now) × (first ≤ end) × (end ≤ 500) }
     ensures { result.now ≡ take (end - first) (drop first (bodies_in table.now)) }
 {
-    &table[BODIES_AT + first as usize..BODIES_AT + end as usize]
+    &table[BODIES_AT + usize::from(first)..BODIES_AT + usize::from(end)]
 }

@@ -22,25 +22,27 @@ pub struct Chain {
 }
 
 // Pair k of body atom b and head h: the chain's bit of block i.
+// Kept as two literals: they call different functions, and one helper would take all three of them beside the numbers.
 pub fn chain_of(s: Sizes, k: Pair, b: Atom, h: Atom, i: u16) -> Chain
     requires { (Bounded s) × (0 < k.0) × (k.0 ≤ 500) × (0 < b.0) × (b.0 ≤ 126) × (0 < h.0) × (h.0 ≤ 126) × (0 < i) × (i ≤ s.w + s.w) }
     ensures { result ≡ chain_of (sizes_of s) k.0 b.0 h.0 i }
 {
     let w = s.w;
     if i <= w {
-        return Chain {
+        Chain {
             z: below_var(s, k, i),
             x: level_var(s, b, i),
             y: level_var(s, h, i),
             g: below_var(s, k, i - 1),
-        };
-    }
-    let j = i - w;
-    Chain {
-        z: next_below_var(s, k, j),
-        x: next_var(s, b, j),
-        y: level_var(s, h, j),
-        g: next_below_var(s, k, j - 1),
+        }
+    } else {
+        let j = i - w;
+        Chain {
+            z: next_below_var(s, k, j),
+            x: next_var(s, b, j),
+            y: level_var(s, h, j),
+            g: next_below_var(s, k, j - 1),
+        }
     }
 }
 
@@ -48,74 +50,55 @@ pub fn chain_of(s: Sizes, k: Pair, b: Atom, h: Atom, i: u16) -> Chain
 fn chain_first(z: Var, x: Var, y: Var, c: u16, l: u16) -> i32
     ensures { result ≡ literal_number (chain_first z.0 x.0 y.0 c l) }
 {
-    if c == 1 {
-        return of_two(negated(z), negated(x), l);
+    match c {
+        1 => of_two(negated(z), negated(x), l),
+        2 => of_two(negated(z), literal(y), l),
+        _ => of_three(literal(z), literal(x), negated(y), l),
     }
-    if c == 2 {
-        return of_two(negated(z), literal(y), l);
-    }
-    of_three(literal(z), literal(x), negated(y), l)
 }
 
 // Of a further bit, where g is z at the bit before.
 fn chain_next(z: Var, x: Var, y: Var, g: Var, c: u16, l: u16) -> i32
     ensures { result ≡ literal_number (chain_next z.0 x.0 y.0 g.0 c l) }
 {
-    if c == 1 {
-        return of_three(negated(z), negated(x), literal(y), l);
+    match c {
+        1 => of_three(negated(z), negated(x), literal(y), l),
+        2 => of_three(negated(z), negated(x), literal(g), l),
+        3 => of_three(negated(z), literal(y), literal(g), l),
+        4 => of_three(literal(z), literal(x), negated(y), l),
+        5 => of_three(literal(z), literal(x), negated(g), l),
+        _ => of_three(literal(z), negated(y), negated(g), l),
     }
-    if c == 2 {
-        return of_three(negated(z), negated(x), literal(g), l);
-    }
-    if c == 3 {
-        return of_three(negated(z), literal(y), literal(g), l);
-    }
-    if c == 4 {
-        return of_three(literal(z), literal(x), negated(y), l);
-    }
-    if c == 5 {
-        return of_three(literal(z), literal(x), negated(g), l);
-    }
-    of_three(literal(z), negated(y), negated(g), l)
 }
 
 // Slot l of clause y of bit i.
 pub fn chain_literal(c: Chain, i: u16, y: u16, l: u16) -> i32
     ensures { result ≡ literal_number (chain_slot c.z.0 c.x.0 c.y.0 c.g.0 i y l) }
 {
-    if i == 1 {
-        return chain_first(c.z, c.x, c.y, y, l);
+    match i {
+        1 => chain_first(c.z, c.x, c.y, y, l),
+        _ => chain_next(c.z, c.x, c.y, c.g, y, l),
     }
-    chain_next(c.z, c.x, c.y, c.g, y, l)
 }
 
 // The bit of block i, how many clauses a bit has, and how many slots its clause c has.
 pub fn chain_bit(w: u16, i: u16) -> u16
     ensures { result ≡ chain_bit w i }
 {
-    if i <= w {
-        return i;
-    }
-    i - w
+    if i <= w { i } else { i - w }
 }
 
 pub fn chain_size(i: u16) -> u16
     ensures { result ≡ chain_size i }
 {
-    if i == 1 {
-        return 3;
+    match i {
+        1 => 3,
+        _ => 6,
     }
-    6
 }
 
 pub fn chain_slots(i: u16, c: u16) -> u16
     ensures { result ≡ chain_slots i c }
 {
-    if i == 1 {
-        if c == 3 {
-            return 3;
-        }
-        return 2;
-    }
-    3
+    if i == 1 && c != 3 { 2 } else { 3 }
 }

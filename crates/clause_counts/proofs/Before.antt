@@ -102,20 +102,23 @@ module _ {G : Code} {t : Totals} {hs ss bs ks xs ys : List ℕ} (T : Tabled G t 
 
   -- ---- groups
 
-  module _ (h : ℕ) {k x : ℕ} (e : k ≡ sum h gs) (u : x ≡ gs (h + 1)) where
-    pub groups_more : k + x ≡ sum (h + 1) gs
-    groups_more = ap₂ ◌+◌ e (u ∙ ap gs (add-one h)) ∙ sym (ap (λ (k : ℕ). sum k gs) (add-one h))
+  module _ {h k x : ℕ} (p : 0 < h) (e : k ≡ sum (pred h) gs) (u : x ≡ gs h) where
+    up_to : k + x ≡ sum h gs
+    up_to = go h p e u
+      where
+        go : (h : ℕ) → 0 < h → k ≡ sum (pred h) gs → x ≡ gs h → k + x ≡ sum h gs
+        go zero p e u = absurd (omega (arith, p))
+        go (suc h) p e u = ap₂ ◌+◌ e u
 
-    pub groups_add : h < group_count → k + x ≤ 53690
-    groups_add l = omega (arith, groups_more, groups_short (h + 1) (omega (arith, l)))
+    pub groups_more : k + x ≡ sum (pred (h + 1)) gs
+    groups_more = up_to ∙ ap (λ (j : ℕ). sum (pred j) gs) (sym (add-one h))
+
+    pub groups_add : h ≤ group_count → k + x ≤ 53690
+    groups_add l = omega (arith, up_to, groups_short h l)
 
   -- the groups before group g
-  pub groups_done : (g h : ℕ) → 0 < g → h + 1 ≤ g → g ≤ h + 1 → {k : ℕ} → k ≡ sum h gs → k ≡ sum (pred g) gs
-  groups_done zero h p l q e = absurd (omega (arith, p))
-  groups_done (suc g) h p l q e = e ∙ ap (λ (k : ℕ). sum k gs) (same h g l q)
-    where
-      same : (h g : ℕ) → h + 1 ≤ suc g → suc g ≤ h + 1 → h ≡ g
-      same h g l q = omega (arith, l, q)
+  pub groups_done : {g h k : ℕ} → h ≤ g → g ≤ h → k ≡ sum (pred h) gs → k ≡ sum (pred g) gs
+  groups_done l q e = e ∙ ap (λ (j : ℕ). sum (pred j) gs) (le_antisymm l q)
 
   module _ {x : ℕ} (e : x ≡ t.sizes.n) where
     pub last_short : x ≤ t.clauses

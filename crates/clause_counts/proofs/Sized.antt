@@ -1,6 +1,6 @@
 -- What the code asks and answers, over plain numbers and heads.
---   varied_1, varied_2, fixed_rest      whether the items of group g have one size
---   size_3 to size_rest, size_fits      that size, from 1 to 78
+--   fixed_of                            the items of groups 3 to 5 have one size
+--   size_fits                           that size, from 1 to 78
 --   count_low, count_high, count_fits, count_front     heads that are at most a, counted one by one
 --   group_1, group_2, group_rest        how many clauses a group has, as the code finds it
 -- Assumes nothing.
@@ -9,12 +9,12 @@ use native.Mathlib.Nat.{mul-le-mul}
 use native.Mathlib.Numerals.{add-one}
 use native.Mathlib.Omega.{arith}
 use mathlib.Core.Path.{◌≡◌, sym, ◌∙◌, ap, ap₂, subst}
-use mathlib.Core.Bool.{Bool, true, false, not, cond}
+use mathlib.Core.Bool.{Bool, true, false, cond}
 use mathlib.Core.List.{List}
 use lib.Dec.{eqb, leb}
 use lib.ListN.{length, get_or, take}
 use lib.Seq.{get_or-take, length-take-le}
-use borrow.Author.Tests.{eq-eqb, ne_eqb, le-leb, lt-leb}
+use borrow.Author.Tests.{ne_eqb, le-leb, lt-leb}
 use Rattle.encoding.specs.Code.{Code}
 use Rattle.lists.proofs.Tables.{sum_ext}
 use Rattle.lists.proofs.Growing.{count_le}
@@ -29,32 +29,11 @@ use Rattle.clause_counts.specs.Counts.{group_size, low_count, is_fixed, fixed_si
 use Rattle.clause_counts.proofs.Counted.{bodies_group, atoms_group, fixed_group}
 
 module _ (g : ℕ) where
-  pub varied_1 : g ≡ 1 → false ≡ is_fixed g
-  varied_1 e = rw (eq-eqb g 1 e)
-
-  pub varied_2 : (g ≡ 1 → ⊥) → g ≡ 2 → false ≡ is_fixed g
-  varied_2 n e = rw (ne_eqb g 1 n, eq-eqb g 2 e)
-
-  pub fixed_rest : (g ≡ 1 → ⊥) → (g ≡ 2 → ⊥) → not (eqb g 6) ≡ is_fixed g
-  fixed_rest n k = rw (ne_eqb g 1 n, ne_eqb g 2 k)
-
   -- groups 3 to 5
   pub fixed_of : (g ≡ 1 → ⊥) → (g ≡ 2 → ⊥) → g ≤ 5 → is_fixed g ≡ true
   fixed_of n k h = rw (ne_eqb g 1 n, ne_eqb g 2 k, ne_eqb g 6 (λ e. omega (arith, e, h)))
 
   module _ (w : ℕ) where
-    pub size_3 : g ≡ 3 → w ≡ fixed_size w g
-    size_3 e = rw (eq-eqb g 3 e)
-
-    pub size_4 : (g ≡ 3 → ⊥) → g ≡ 4 → w * (w + 1) ≡ fixed_size w g
-    size_4 n e = rw (ne_eqb g 3 n, eq-eqb g 4 e)
-
-    pub size_5 : (g ≡ 3 → ⊥) → (g ≡ 4 → ⊥) → g ≡ 5 → 12 * w - 6 ≡ fixed_size w g
-    size_5 n k e = rw (ne_eqb g 3 n, ne_eqb g 4 k, eq-eqb g 5 e)
-
-    pub size_rest : (g ≡ 3 → ⊥) → (g ≡ 4 → ⊥) → (g ≡ 5 → ⊥) → 1 ≡ fixed_size w g
-    size_rest n k l = rw (ne_eqb g 3 n, ne_eqb g 4 k, ne_eqb g 5 l)
-
     pub next_fits : w ≤ 7 → w * (w + 1) ≤ 56
     next_fits h = mul-le-mul {n₂ = 7} {m₂ = 8} h (omega (arith, h))
 

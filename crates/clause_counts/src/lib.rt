@@ -9,19 +9,13 @@ ghost use Rattle.clause_counts.specs.Counts.{item_size, group_size, low_count, i
 
 use clause_cells::{heads, list_start, totals};
 use clause_layout::{GROUPS, items, size};
-use numbers::{Atom, Rule, wide};
+use numbers::{Atom, Rule};
 
 // Whether the items of group g have one size.
 pub fn is_fixed(g: u16) -> bool
     ensures { result ≡ is_fixed g }
 {
-    if g == 1 {
-        return false;
-    }
-    if g == 2 {
-        return false;
-    }
-    g != 6
+    !matches!(g, 1 | 2 | 6)
 }
 
 // How many clauses each item of group 3, 4, 5 or 7 has.
@@ -29,16 +23,12 @@ pub fn fixed_size(w: usize, g: u16) -> usize
     requires { (0 < w) × (w ≤ 7) }
     ensures { result ≡ fixed_size w g }
 {
-    if g == 3 {
-        return w;
+    match g {
+        3 => w,
+        4 => w * (w + 1),
+        5 => 12 * w - 6,
+        _ => 1,
     }
-    if g == 4 {
-        return w * (w + 1);
-    }
-    if g == 5 {
-        return 12 * w - 6;
-    }
-    1
 }
 
 // How many heads are at most a.
@@ -47,12 +37,10 @@ fn low_count(heads: &[u16], a: Atom) -> u16
     ensures { result ≡ low_count (length heads.now) heads.now a.0 }
 {
     let mut n: u16 = 0;
-    let mut i: usize = 0;
-    while i < heads.len() {
-        if heads[i] <= a.0 {
+    for h in heads {
+        if *h <= a.0 {
             n += 1;
         }
-        i += 1;
     }
     n
 }
@@ -62,7 +50,7 @@ pub fn atoms_size(table: &[u16], m: u16, a: Atom) -> usize
     requires { (Ready table.now) × (m ≤ 500) }
     ensures { result ≡ low_count m (heads_in table.now) a.0 + a.0 }
 {
-    wide(low_count(heads(table, m), a)) + wide(a.0)
+    usize::from(low_count(heads(table, m), a)) + usize::from(a.0)
 }
 
 // Group 1: how many clauses its m rules have, from where the body atoms of the last rule end.
@@ -70,7 +58,7 @@ fn bodies_size(table: &[u16], m: u16) -> usize
     requires { (Ready table.now) × (m ≤ 500) }
     ensures { result ≡ get_or (starts_in table.now) (2 * m) 0 + m }
 {
-    wide(list_start(table, Rule(m + 1), 0)) + wide(m)
+    usize::from(list_start(table, Rule(m + 1), 0)) + usize::from(m)
 }
 
 // How many clauses group g has, from 1 to 5.
@@ -79,13 +67,11 @@ pub fn group_size(table: &[u16], g: u16) -> usize
     ensures { result ≡ group_size (code_in table.now) g }
 {
     let t = totals(table);
-    if g == 1 {
-        return bodies_size(table, t.sizes.m);
+    match g {
+        1 => bodies_size(table, t.sizes.m),
+        2 => usize::from(t.sizes.m) + usize::from(t.sizes.n),
+        _ => usize::from(items(t, g)) * fixed_size(usize::from(t.sizes.w), g),
     }
-    if g == 2 {
-        return wide(t.sizes.m) + wide(t.sizes.n);
-    }
-    wide(items(t, g)) * fixed_size(wide(t.sizes.w), g)
 }
 
 // How many clauses rules 1 to a have in group 1 or 6.
@@ -94,10 +80,8 @@ fn rules_size(table: &[u16], g: u16, a: u16) -> usize
     ensures { result ≡ sum a (item_size (code_in table.now) g) }
 {
     let mut n: usize = 0;
-    let mut r: u16 = 0;
-    while r < a {
-        n += wide(size(table, g, r + 1, 1));
-        r += 1;
+    for r in 0..a {
+        n += usize::from(size(table, g, r + 1, 1));
     }
     n
 }
@@ -109,7 +93,7 @@ fn items_size(table: &[u16], g: u16, a: u16) -> usize
 {
     let t = totals(table);
     if is_fixed(g) {
-        return wide(a) * fixed_size(wide(t.sizes.w), g);
+        return usize::from(a) * fixed_size(usize::from(t.sizes.w), g);
     }
     if g == 2 {
         return atoms_size(table, t.sizes.m, Atom(a));
@@ -124,13 +108,11 @@ fn groups_size(table: &[u16], g: u16) -> usize
 {
     let t = totals(table);
     if g == GROUPS {
-        return t.clauses - wide(t.sizes.n);
+        return t.clauses - usize::from(t.sizes.n);
     }
     let mut n: usize = 0;
-    let mut h: u16 = 0;
-    while h + 1 < g {
-        n += group_size(table, h + 1);
-        h += 1;
+    for h in 1..g {
+        n += group_size(table, h);
     }
     n
 }

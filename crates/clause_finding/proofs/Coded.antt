@@ -2,7 +2,8 @@
 --   last_in, in_last, before_last       group 7, from its end
 --   atoms_before, rule_size, item_even how many clauses items have, as the code finds it
 --   atoms_all, atoms_fit, falls_2       the search in group 2
---   block_below, blocks_end, items-..   the numbers of blocks and items
+--   block_below, blocks_within, blocks_end    the numbers of blocks
+--   block_here, item_here               the blocks where the search is
 --   coordinates_is                      the coordinates made from them
 -- Assumes nothing.
 use Prim.Native.Nat.{ℕ, suc, ◌+◌, ◌-◌, ◌/◌, ◌%◌, ◌≤◌, ◌<◌}
@@ -22,7 +23,7 @@ use Rattle.clause_layout.specs.Numbers.{items_of, blocks_of}
 use Rattle.clause_places.specs.Places.{coordinates}
 use Rattle.clause_places.proofs.Steps.{items_is, blocks_is}
 use Rattle.clause_finding.specs.declared.PartFound.{PartFound}
-use Rattle.clause_finding.specs.Falls.{Passed, Falls, Between}
+use Rattle.clause_finding.specs.Falls.{Falls, Between}
 use Rattle.clause_counts.specs.Counts.{item_size, group_size, low_count, is_fixed, fixed_size}
 use Rattle.clause_finding.proofs.Falling.{between_all, falls_even}
 use Rattle.clause_counts.proofs.Counted.{fixed_item, rule_item, atoms_sum, groups_all, last_group}
@@ -57,8 +58,8 @@ module _ {G : Code} {t : Totals} {hs ss bs ks xs ys : List ℕ} (T : Tabled G t 
   pub atoms_before : (a : ℕ) {x : ℕ} → x ≡ low_count t.sizes.m hs a + a → x ≡ sum a (item_size G 2)
   atoms_before a e = e ∙ atoms_sum T a
 
-  pub rule_size : (g a : ℕ) → 0 < g → g ≤ 7 → is_fixed g ≡ false → (g ≡ 2 → ⊥) → {x y : ℕ} → x ≡ size G g a 1 → y ≡ x → y ≡ item_size G g a
-  rule_size g a h l f n p q = q ∙ p ∙ rule_item G g h l f n a
+  pub rule_size : (g a : ℕ) → 0 < g → g ≤ 7 → is_fixed g ≡ false → (g ≡ 2 → ⊥) → {x : ℕ} → x ≡ size G g a 1 → x ≡ item_size G g a
+  rule_size g a h l f n p = p ∙ rule_item G g h l f n a
 
   -- all atoms
   pub atoms_all : {left : ℕ} → left < gs 2 → Between (item_count G 2) (item_size G 2) left 0 t.sizes.n
@@ -93,22 +94,20 @@ module _ {G : Code} {t : Totals} {hs ss bs ks xs ys : List ℕ} (T : Tabled G t 
     pub block_below : n ≡ blocks_of t.sizes g → i < n → i < block_count G g
     block_below e h = subst (λ (k : ℕ). i < k) (e ∙ blocks_is T g) h
 
+    pub blocks_within : n ≡ blocks_of t.sizes g → i ≤ n → i ≤ block_count G g
+    blocks_within e h = subst (λ (k : ℕ). i ≤ k) (e ∙ blocks_is T g) h
+
     pub blocks_end : n ≡ blocks_of t.sizes g → n ≤ i → block_count G g ≤ i
     blocks_end e h = subst (λ (k : ℕ). k ≤ i) (e ∙ blocks_is T g) h
 
-    pub item_below : n ≡ items_of t g → i < n → i < item_count G g
-    item_below e h = subst (λ (k : ℕ). i < k) (e ∙ items_is T g) h
+  -- block i of the item, and block 1 of item a
+  pub block_here : {g a i n : ℕ} → 0 < g → g ≤ 7 → 0 < a → a ≤ item_count G g → n ≡ blocks_of t.sizes g → 0 < i → i < n → BlockAt G g a i
+  block_here {g} {i = i} h l p q e r s =
+      record { group_some = h; group_in = l; item_some = p; item_in = q; block_some = r; block_in = omega (arith, block_below g e s) }
 
-    pub items_end : n ≡ items_of t g → n ≤ i → item_count G g ≤ i
-    items_end e h = subst (λ (k : ℕ). k ≤ i) (e ∙ items_is T g) h
-
-  -- block i of the item, where the search is
-  pub block_here : {g a i left at : ℕ} → 0 < g → g ≤ 7 → 0 < a → a ≤ item_count G g → Passed (block_count G g) (size G g a) left i at → BlockAt G g a i
-  block_here h l p q s = record { group_some = h; group_in = l; item_some = p; item_in = q; block_some = s.some; block_in = s.within }
-
-  -- block 1 of item a, where the search is
-  pub item_here : {g a left at : ℕ} → 0 < g → g ≤ 7 → Passed (item_count G g) (item_size G g) left a at → BlockAt G g a 1
-  item_here {g} h l s = record { group_some = h; group_in = l; item_some = s.some; item_in = s.within; block_some = omega arith; block_in = block_some }
+  pub item_here : {g a n : ℕ} → 0 < g → g ≤ 7 → n ≡ items_of t g → 0 < a → a < n → BlockAt G g a 1
+  item_here {g} {a} h l e p q =
+      record { group_some = h; group_in = l; item_some = p; item_in = omega (arith, subst (λ (k : ℕ). a < k) (e ∙ items_is T g) q); block_some = omega arith; block_in = block_some }
     where
       block_some : 0 < block_count G g
       block_some = subst (λ (k : ℕ). 0 < k) (blocks_is T g) (go (eqb g 2) (eqb g 4) (eqb g 5))

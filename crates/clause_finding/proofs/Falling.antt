@@ -1,7 +1,7 @@
 -- The search part by part, over plain numbers.
 --   passed_first, passed_on      the search begins with all clauses left, and passes a part whose clauses are no more
 --   falls_here, falls_last       fewer clauses than the part has fall into it, and so does what is left at the last part
---   falls_more                   further parts change nothing
+--   falls_as, falls_more         the number of parts by another name, and further parts change nothing
 --   between_all, between_low, between_high, falls_between    the binary search
 --   falls_even                   parts of one size are passed by a division
 --   each_falls                   an element of several lists in one stands in the list that it falls into
@@ -46,12 +46,13 @@ module _ {n : ℕ} {f : ℕ → ℕ} {x : ℕ} where
     pub falls_here : {k : ℕ} → k ≡ f i → at < k → Falls n f x (record { number = i; left = at })
     falls_here e q = record { at = p; inside = subst (λ (k : ℕ). at < k) e q }
 
-    pub falls_last : n ≤ i → x < sum n f → Falls n f x (record { number = i; left = at })
+    pub falls_last : n ≤ i → x < sum n f → Falls n f x (record { number = n; left = at })
     falls_last h q =
-        record {
+        subst (λ (k : ℕ). Falls n f x (record { number = k; left = at })) (sym (le_antisymm h p.within))
+        (record {
           at = p;
           inside = omega (arith, sum_last i f p.some, p.left_are, subst (λ (k : ℕ). x < sum k f) (le_antisymm h p.within) q);
-        }
+        })
 
   pub between_all : x < sum n f → Between n f x 0 n
   between_all h = record { some = part_some n f x h; within = omega arith; low = omega arith; high = h }
@@ -93,6 +94,10 @@ module _ {n : ℕ} {f : ℕ → ℕ} {x : ℕ} where
 
       below : x / k < n
       below = (div-lt_iff_lt-mul {x = x} {y = n} p).1 (subst (λ (s : ℕ). x < s) (evenly n (omega arith)) h)
+
+-- the number of parts by another name
+pub falls_as : {n k : ℕ} {f : ℕ → ℕ} {x : ℕ} {r : PartFound} → n ≡ k → (x < sum n f → Falls n f x r) → x < sum k f → Falls k f x r
+falls_as {f = f} {x = x} {r = r} e F h = subst (λ (m : ℕ). Falls m f x r) e (F (subst (λ (m : ℕ). x < sum m f) (sym e) h))
 
 pub falls_more : {n k : ℕ} {f : ℕ → ℕ} {x : ℕ} {r : PartFound} → n ≤ k → Falls n f x r → Falls k f x r
 falls_more h F =

@@ -1,18 +1,19 @@
 // The place of clause j, found by passing whole groups, items and blocks.
 #![tactic(auto)]
 
-ghost use Rattle.std.specs.Prelude.{◌≤◌, ◌<◌, ◌≡◌, false};
+ghost use Rattle.std.specs.Prelude.{ℕ, ◌≤◌, ◌<◌, ◌≡◌, false};
+ghost use Rattle.lists.specs.Lists.{sum};
 ghost use Rattle.clause_walk.specs.Walk.{group_count, item_count, block_count, size as size_at, At};
 ghost use Rattle.clause_tables.specs.Tables.{Ready, code_in, clauses_in};
 ghost use Rattle.clause_places.specs.Places.{coordinates, place_at};
-ghost use Rattle.clause_finding.specs.Falls.{Falls};
+ghost use Rattle.clause_finding.specs.Falls.{SizesBy, Falls};
 ghost use Rattle.clause_counts.specs.Counts.{item_size, group_size, is_fixed};
 
 use clause_cells::totals;
 use clause_counts::{atoms_size, fixed_size, group_size, is_fixed};
 use clause_layout::{GROUPS, block_count, items, size};
 use clause_places::{Coordinates, Place, start};
-use numbers::{Atom, wide};
+use numbers::Atom;
 
 // The last group but one.
 const LAST_BUT_ONE: u16 = GROUPS - 1;
@@ -24,39 +25,45 @@ pub struct PartFound {
     pub left: usize,
 }
 
+// Of n parts, of which part k has size(k) clauses, the one with the clause after `left` others.
+fn find_part<F: Fn(u16) -> usize>(n: u16, left: usize, size: F) -> PartFound
+    requires { (k : ℕ) → 0 < k → k < n → F.pre size k }
+    ensures { (f : ℕ → ℕ) → SizesBy n f (λ k x. F.post size k x) → left < sum n f → Falls n f left result }
+{
+    let mut at = left;
+    for k in 1..n {
+        let clauses = size(k);
+        if at < clauses {
+            return PartFound {
+                number: k,
+                left: at,
+            };
+        }
+        at -= clauses;
+    }
+    PartFound {
+        number: n,
+        left: at,
+    }
+}
+
 // The group with the clause after `left` others.
 fn find_group(table: &[u16], left: usize) -> PartFound
     requires { (Ready table.now) × (left < clauses_in table.now) }
     ensures { Falls group_count (group_size (code_in table.now)) left result }
 {
     let t = totals(table);
-    let last = t.clauses - wide(t.sizes.n);
+    let last = t.clauses - usize::from(t.sizes.n);
     if last <= left {
         return PartFound {
             number: GROUPS,
             left: left - last,
         };
     }
-    let mut g: u16 = 1;
-    let mut at = left;
-    while g < LAST_BUT_ONE {
-        let k = group_size(table, g);
-        if at < k {
-            return PartFound {
-                number: g,
-                left: at,
-            };
-        }
-        at -= k;
-        g += 1;
-    }
-    PartFound {
-        number: g,
-        left: at,
-    }
+    find_part(LAST_BUT_ONE, left, |g| group_size(table, g))
 }
 
-// Group 2: the atom with the clause after `left` others of the group, by binary search.
+// Group 2: the atom with the clause after `left` others of the group, by binary search: how many clauses the first atoms have is counted when it is asked.
 fn find_atom(table: &[u16], left: usize) -> PartFound
     requires { (Ready table.now) × (left < group_size (code_in table.now) 2) }
     ensures { Falls (item_count (code_in table.now) 2) (item_size (code_in table.now) 2) left result }
@@ -84,24 +91,7 @@ fn find_rule(table: &[u16], g: u16, left: usize) -> PartFound
     ensures { Falls (item_count (code_in table.now) g) (item_size (code_in table.now) g) left result }
 {
     let t = totals(table);
-    let n = items(t, g);
-    let mut a: u16 = 1;
-    let mut at = left;
-    while a < n {
-        let k = wide(size(table, g, a, 1));
-        if at < k {
-            return PartFound {
-                number: a,
-                left: at,
-            };
-        }
-        at -= k;
-        a += 1;
-    }
-    PartFound {
-        number: a,
-        left: at,
-    }
+    find_part(items(t, g), left, |a| usize::from(size(table, g, a, 1)))
 }
 
 // The item of group g with the clause after `left` others of the group. Items of one size are passed by a division.
@@ -111,7 +101,7 @@ fn find_item(table: &[u16], g: u16, left: usize) -> PartFound
 {
     let t = totals(table);
     if is_fixed(g) {
-        let k = fixed_size(wide(t.sizes.w), g);
+        let k = fixed_size(usize::from(t.sizes.w), g);
         let q = left / k;
         return PartFound {
             number: q as u16 + 1,
@@ -131,24 +121,11 @@ fn find_block(table: &[u16], g: u16, a: u16, left: usize) -> PartFound
     ensures { Falls (block_count (code_in table.now) g) (size_at (code_in table.now) g a) left result }
 {
     let t = totals(table);
-    let n = block_count(t.sizes, g);
-    let mut i: u16 = 1;
-    let mut at = left;
-    while i < n {
-        let k = wide(size(table, g, a, i));
-        if at < k {
-            return PartFound {
-                number: i,
-                left: at,
-            };
-        }
-        at -= k;
-        i += 1;
-    }
-    PartFound {
-        number: i,
-        left: at,
-    }
+    find_part(
+        block_count(t.sizes, g),
+        left,
+        |i| usize::from(size(table, g, a, i)),
+    )
 }
 
 // Where clause y of block i of item a of group g stands.

@@ -1,26 +1,29 @@
 -- The next rule whose head is an atom, by its index in the heads.
---   next_here, next_on, next_end_lem  index by index, as code goes on
---   next_eight                      eight indexes at once
+--   next_here, next_on, next_end_lem, next_none  index by index, as code goes on
+--   next_eights                     several indexes at once
 --   next_from, next_fits            where it lies
 --   next_at_lem, next_between       a stands there, and nowhere between
 --   next_in                         a bound of it among the first m heads
 --   others_empty                    the slots of rules between hold no literal
 --   front_fits, front_slots, front_next  the first m of 500 heads, as code has them
 -- Assumes nothing.
-use Prim.Native.Nat.{ℕ, zero, suc, pred, ◌+◌, ◌-◌, ◌^◌, ◌≤◌, ◌<◌}
+use Prim.Native.Nat.{ℕ, zero, suc, pred, max, ◌+◌, ◌-◌, ◌^◌, ◌≤◌, ◌<◌}
 use native.Mathlib.Nat.{le_of_eq, not-suc-le-zero, le_of_suc-le-suc, add-zero}
 use native.Mathlib.Numerals.{add-one}
 use native.Mathlib.Omega.{arith}
 use mathlib.Core.Path.{◌≡◌, refl, sym, ◌∙◌, ap}
-use mathlib.Core.Bool.{Bool, true, false, cond}
+use mathlib.Core.Bool.{Bool, true, false, ◌||◌, cond}
 use mathlib.Core.List.{List, [], ◌∷◌}
+use mathlib.Core.Logic.{⊎_elim}
 use lib.Dec.{eqb}
 use lib.ListN.{length, get_or, take, drop, length-drop, drop_of_length-le}
-use lib.Seq.{drop-cons, get_or-drop, length-take-le}
+use lib.Seq.{drop-cons, get_or-take, get_or-drop, length-take-le}
 use borrow.Author.Tests.{eq-eqb, ne_eqb, eqb-true, eqb-false}
+use Rattle.std.specs.Prelude.{fold}
 use Rattle.lists.proofs.Bools.{or_neither}
+use Rattle.lists.proofs.Tests.{le_or_lt}
 use Rattle.clause_walk.specs.Walk.{of_head}
-use Rattle.clause_heads.specs.NextHead.{others, is_at, among_eight, next_head, past_others}
+use Rattle.clause_heads.specs.NextHead.{others, among, next_head, past_others}
 
 -- ---- the first a of a list
 
@@ -92,6 +95,19 @@ module _ (hs : List ℕ) (a i : ℕ) where
   unfolding next_head
   next_at_lem h = sym (get_or-drop i hs (others a (drop i hs)) 0) ∙ others_end a (drop i hs) (omega (arith, length-drop i hs, h))
 
+-- after a loop from `first` on that found none: i is the length, or `first` where that is more
+pub next_none : (hs : List ℕ) (a i first k : ℕ) → length hs ≤ i → (first ≤ length hs → i ≤ length hs) → k ≡ max first (length hs)
+    → {x : ℕ} → next_head hs a first ≡ x → next_head hs a i ≡ x → k ≡ x
+next_none hs a i first k h f e {x} p q =
+    ⊎_elim (λ (l : length hs ≤ first). past l ∙ next_end_lem hs a first l ∙ p)
+    (λ (l : first < length hs). (let g : i ≤ length hs = f (omega (arith, l)) in at l g) ∙ next_end_lem hs a i h ∙ q) (le_or_lt (length hs) first)
+  where
+    past : length hs ≤ first → k ≡ first
+    past l = omega (arith, e, l)
+
+    at : first < length hs → i ≤ length hs → k ≡ i
+    at l g = omega (arith, e, l, g, h)
+
 -- ---- among the first m heads
 
 module _ (hs : List ℕ) (m a i : ℕ) (h : m ≤ length hs) where
@@ -117,24 +133,34 @@ module _ (xs : List ℕ) {ys : List ℕ} (s : length xs ≡ 500) (m : ℕ) (p : 
   pub front_next : (a l : ℕ) {r : ℕ} → 0 < l → l < 2 ^ 16 → r ≡ next_head ys a (l - 1) → (r + 1 < 2 ^ 16) × (r + 1 ≡ past_others (take m xs) a l)
   front_next a l {r} f n e = (omega (arith, e, next_fits ys a (l - 1) (2 ^ 16 - 2) (omega (arith, f, n)) (omega (arith, front_fits))), ap (λ (k : ℕ). k + 1) (e ∙ ap (λ (hs : List ℕ). next_head hs a (l - 1)) p))
 
--- ---- eight indexes at once
+-- ---- several indexes at once
 
-next_more : (hs : List ℕ) (a i k : ℕ) → i + k < length hs → is_at hs a (i + k) ≡ false → next_head hs a (i + suc k) ≡ next_head hs a (i + k)
-next_more hs a i k h e = ap (next_head hs a) (shift i k) ∙ next_on hs a (i + k) h (eqb-false (get_or hs (i + k) 0) a e)
-  where
-    shift : (i k : ℕ) → i + suc k ≡ i + k + 1
-    shift i k = omega arith
+module _ (a : ℕ) where
+  -- none of xs is a, and none was found before
+  among_none : (xs : List ℕ) (b : Bool) → fold (λ (found : Bool) (x : ℕ). found || eqb x a) b xs ≡ false
+      → (b ≡ false) × ((q : ℕ) → q < length xs → get_or xs q 0 ≡ a → ⊥)
+  among_none [] b e = (e, λ q h. absurd (not-suc-le-zero h))
+  among_none (x ∷ xs) b e =
+      let r = among_none xs (b || eqb x a) e in
+      let p = or_neither b (eqb x a) r.0 in
+      (p.0, go p.1 r.1)
+    where
+      go : eqb x a ≡ false → ((q : ℕ) → q < length xs → get_or xs q 0 ≡ a → ⊥) → (q : ℕ) → q < suc (length xs) → get_or (x ∷ xs) q 0 ≡ a → ⊥
+      go u f zero h = eqb-false x a u
+      go u f (suc q) h = f q (le_of_suc-le-suc h)
 
-pub next_eight : (hs : List ℕ) (a i : ℕ) → i + 8 ≤ length hs → among_eight hs a i ≡ false → next_head hs a (i + 8) ≡ next_head hs a i
-unfolding among_eight
-next_eight hs a i h e7 =
-    let p7 = or_neither _ _ e7 in
-    let p6 = or_neither _ _ p7.0 in
-    let p5 = or_neither _ _ p6.0 in
-    let p4 = or_neither _ _ p5.0 in
-    let p3 = or_neither _ _ p4.0 in
-    let p2 = or_neither _ _ p3.0 in
-    let p1 = or_neither _ _ p2.0 in
-    next_more hs a i 7 (omega (arith, h)) p7.1 ∙ next_more hs a i 6 (omega (arith, h)) p6.1 ∙ next_more hs a i 5 (omega (arith, h)) p5.1
-    ∙ next_more hs a i 4 (omega (arith, h)) p4.1 ∙ next_more hs a i 3 (omega (arith, h)) p3.1 ∙ next_more hs a i 2 (omega (arith, h)) p2.1
-    ∙ next_more hs a i 1 (omega (arith, h)) p1.1 ∙ next_on hs a i (omega (arith, h)) (eqb-false (get_or hs i 0) a p1.0)
+  module _ (hs : List ℕ) (i : ℕ) where
+    next_passed : (n : ℕ) → i + n ≤ length hs → ((q : ℕ) → q < n → get_or hs (i + q) 0 ≡ a → ⊥) → next_head hs a (i + n) ≡ next_head hs a i
+    next_passed zero h f = ap (next_head hs a) (add-zero i)
+    next_passed (suc n) h f =
+        ap (next_head hs a) (shift i n) ∙ next_on hs a (i + n) (omega (arith, h)) (f n (omega arith)) ∙ next_passed n (omega (arith, h)) (λ q l. f q (omega (arith, l)))
+      where
+        shift : (i n : ℕ) → i + suc n ≡ i + n + 1
+        shift i n = omega arith
+
+    -- the test of the n heads from i on, as code has them
+    pub next_eights : (n : ℕ) {k : ℕ} → k ≡ n → i + n ≤ length hs → among (take k (drop i hs)) a ≡ false → next_head hs a (i + n) ≡ next_head hs a i
+    next_eights n {k} e h t =
+        next_passed n h (λ q l p. (among_none (take n (drop i hs)) false (sym (ap (λ (j : ℕ). among (take j (drop i hs)) a) e) ∙ t)).1 q
+        (omega (arith, l, length-take-le n (drop i hs) (omega (arith, h, length-drop i hs))))
+        (get_or-take n (drop i hs) q 0 l ∙ get_or-drop i hs q 0 ∙ p))

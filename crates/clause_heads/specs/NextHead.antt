@@ -1,11 +1,10 @@
 -- The next rule whose head is an atom, by its index in the heads, and the slots without a literal.
 --   next_head hs a i    the first index of hs, from i on, where a stands; if there is none, the length, or i where that is more
---   is_at hs a i        a stands at index i
---   among_eight hs a i  a stands at one of the eight indexes from i on
+--   among hs a          a is one of hs
 --   past_others hs a l  how many slots of a's last clause are done once the empty ones after slot l are passed
 --   past_empty          the same of any clause, from m and the heads
 -- Assumes nothing.
-use Rattle.std.specs.Prelude.{ℕ, suc, ◌+◌, ◌-◌, Bool, ◌||◌, cond, List, [], ◌∷◌, get_or, take, drop, eqb, ltb}
+use Rattle.std.specs.Prelude.{ℕ, suc, ◌+◌, ◌-◌, Bool, false, ◌||◌, cond, List, [], ◌∷◌, take, drop, eqb, ltb, fold}
 
 -- how many elements stand before the first a
 abbrev pub others : ℕ → List ℕ → ℕ
@@ -15,13 +14,8 @@ others a (h ∷ hs) = cond (eqb h a) 0 (suc (others a hs))
 unfoldable pub next_head : List ℕ → ℕ → ℕ → ℕ
 next_head hs a i = i + others a (drop i hs)
 
-abbrev pub is_at : List ℕ → ℕ → ℕ → Bool
-is_at hs a i = eqb (get_or hs i 0) a
-
-unfoldable pub among_eight : List ℕ → ℕ → ℕ → Bool
-among_eight hs a i =
-    (((((((is_at hs a i || is_at hs a (i + 1)) || is_at hs a (i + 2)) || is_at hs a (i + 3)) || is_at hs a (i + 4)) || is_at hs a (i + 5))
-    || is_at hs a (i + 6)) || is_at hs a (i + 7))
+abbrev pub among : List ℕ → ℕ → Bool
+among hs a = fold (λ found h. found || eqb h a) false hs
 
 -- slots can be empty in the last clause of an atom in groups 2 and 7, where slot l is that of rule l − 1
 abbrev pub past_others : List ℕ → ℕ → ℕ → ℕ

@@ -3,32 +3,18 @@
 
 ghost use Rattle.std.specs.Prelude.{◌+◌, ◌-◌, ◌^◌, ◌≤◌, ◌<◌, ◌≡◌, length, take};
 ghost use Rattle.clause_tables.specs.Tables.{Ready, heads_in};
-ghost use Rattle.clause_heads.specs.NextHead.{is_at, among_eight, next_head, past_others, past_empty};
+ghost use Rattle.clause_heads.specs.NextHead.{among, next_head, past_others, past_empty};
 
 use clause_cells::heads;
 use numbers::Atom;
 
-// Whether head i, from 0, is a.
-fn is_at(heads: &[u16], i: usize, a: Atom) -> bool
-    requires { i < length heads.now }
-    ensures { result ≡ is_at heads.now a.0 i }
+// Whether one of these heads is a. The fold takes no branch, so that eight heads are one comparison of the machine.
+fn among(heads: &[u16], a: Atom) -> bool
+    ensures { result ≡ among heads.now a.0 }
 {
-    heads[i] == a.0
-}
-
-// Whether one of the eight heads from i on is a: one comparison of the machine.
-fn among_eight(heads: &[u16], i: usize, a: Atom) -> bool
-    requires { i + 8 ≤ length heads.now }
-    ensures { result ≡ among_eight heads.now a.0 i }
-{
-    is_at(heads, i, a)
-        | is_at(heads, i + 1, a)
-        | is_at(heads, i + 2, a)
-        | is_at(heads, i + 3, a)
-        | is_at(heads, i + 4, a)
-        | is_at(heads, i + 5, a)
-        | is_at(heads, i + 6, a)
-        | is_at(heads, i + 7, a)
+    heads
+        .iter()
+        .fold(false, |found, head| found | (*head == a.0))
 }
 
 // Passes heads from `from` on, eight at a time, as long as none of them is a.
@@ -38,7 +24,7 @@ fn past_eights(heads: &[u16], a: Atom, from: usize) -> usize
 {
     let mut i = from;
     while i + 8 <= heads.len() {
-        if among_eight(heads, i, a) {
+        if among(&heads[i..i + 8], a) {
             return i;
         }
         i += 8;
@@ -47,18 +33,18 @@ fn past_eights(heads: &[u16], a: Atom, from: usize) -> usize
 }
 
 // The first index, from `from` on, whose head is a; if there is none, the length, or `from` where that is more.
+// Kept as a number where there is none: the walk passes that many heads then too.
 pub fn next_head(heads: &[u16], a: Atom, from: u16) -> u16
     requires { length heads.now ≤ 500 }
     ensures { result ≡ next_head heads.now a.0 from }
 {
-    let mut i = past_eights(heads, a, from as usize);
-    while i < heads.len() {
+    let first = past_eights(heads, a, usize::from(from));
+    for i in first..heads.len() {
         if heads[i] == a.0 {
             return i as u16;
         }
-        i += 1;
     }
-    i as u16
+    first.max(heads.len()) as u16
 }
 
 // Groups 2 and 7, atom a and m rules: how many slots of its last clause are done once the empty ones after slot l are passed.
@@ -74,13 +60,9 @@ pub fn past_empty(table: &[u16], m: u16, g: u16, a: u16, i: u16, l: u16) -> u16
     requires { (Ready table.now) × (m ≤ 500) × (0 < l) }
     ensures { result ≡ past_empty m (heads_in table.now) g a i l }
 {
-    if g == 7 {
-        return past_others(table, m, Atom(a), l);
+    match g {
+        2 if i <= m => l,
+        2 | 7 => past_others(table, m, Atom(a), l),
+        _ => l,
     }
-    if g == 2 {
-        if m < i {
-            return past_others(table, m, Atom(a), l);
-        }
-    }
-    l
 }

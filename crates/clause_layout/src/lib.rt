@@ -22,38 +22,30 @@ use clause_tables::Totals;
 use numbers::{Atom, Pair, Rule};
 
 // How many groups of clauses there are.
+// Kept as numbers: a group is a number from 1 to 7 in document 01's order, and the walk counts through the groups and sums over those before one.
 pub const GROUPS: u16 = 7;
 
 // How many items group g has, and how many blocks each of them has.
 pub fn items(t: Totals, g: u16) -> u16
     ensures { result ≡ items_of t g }
 {
-    if g == 1 {
-        return t.sizes.m;
+    match g {
+        1 | 6 => t.sizes.m,
+        5 => t.pairs,
+        _ => t.sizes.n,
     }
-    if g == 5 {
-        return t.pairs;
-    }
-    if g == 6 {
-        return t.sizes.m;
-    }
-    t.sizes.n
 }
 
 pub fn block_count(s: Sizes, g: u16) -> u16
     requires { Bounded s }
     ensures { result ≡ blocks_of s g }
 {
-    if g == 2 {
-        return s.m + 1;
+    match g {
+        2 => s.m + 1,
+        4 => s.w,
+        5 => s.w + s.w,
+        _ => 1,
     }
-    if g == 4 {
-        return s.w;
-    }
-    if g == 5 {
-        return s.w + s.w;
-    }
-    1
 }
 
 // How many body atoms rule r has before start k.
@@ -107,13 +99,7 @@ fn implied_size(table: &[u16], m: u16, a: Atom, i: u16) -> u16
     requires { (Ready table.now) × (m ≤ 500) × (0 < i) }
     ensures { result ≡ implied_size m (heads_in table.now) a.0 i }
 {
-    if m < i {
-        return 1;
-    }
-    if head(table, Rule(i)).0 == a.0 {
-        return 1;
-    }
-    0
+    u16::from(m < i || head(table, Rule(i)) == a)
 }
 
 // How many clauses block i of item a of group g has.
@@ -121,27 +107,16 @@ pub fn size(table: &[u16], g: u16, a: u16, i: u16) -> u16
     requires { (Ready table.now) × (BlockAt (code_in table.now) g a i) }
     ensures { result ≡ size_at (code_in table.now) g a i }
 {
-    let t = totals(table);
-    let s = t.sizes;
-    if g == 1 {
-        return span(table, Rule(a), 2) + 1;
+    let s = totals(table).sizes;
+    match g {
+        1 => span(table, Rule(a), 2) + 1,
+        2 => implied_size(table, s.m, Atom(a), i),
+        3 => s.w,
+        4 => 2 * i,
+        5 => chain_size(chain_bit(s.w, i)),
+        6 => rule_size(s.w, span(table, Rule(a), 1)),
+        _ => 1,
     }
-    if g == 2 {
-        return implied_size(table, s.m, Atom(a), i);
-    }
-    if g == 3 {
-        return s.w;
-    }
-    if g == 4 {
-        return 2 * i;
-    }
-    if g == 5 {
-        return chain_size(chain_bit(s.w, i));
-    }
-    if g == 6 {
-        return rule_size(s.w, span(table, Rule(a), 1));
-    }
-    1
 }
 
 // How many slots clause y of block i of item a of group g has.
@@ -149,30 +124,17 @@ pub fn slots(table: &[u16], g: u16, a: u16, i: u16, y: u16) -> u16
     requires { (Ready table.now) × (At (code_in table.now) g a i y) }
     ensures { result ≡ slots_at (code_in table.now) g a i y }
 {
-    let t = totals(table);
-    let s = t.sizes;
-    if g == 1 {
-        return body_slots(span(table, Rule(a), 2), y);
+    let s = totals(table).sizes;
+    match g {
+        1 => body_slots(span(table, Rule(a), 2), y),
+        2 if s.m < i => s.m + 1,
+        2 => 2,
+        3 => 2,
+        4 => next_slots(i, y),
+        5 => chain_slots(chain_bit(s.w, i), y),
+        6 => rule_slots(span(table, Rule(a), 1), y),
+        _ => s.m + 1,
     }
-    if g == 2 {
-        if s.m < i {
-            return s.m + 1;
-        }
-        return 2;
-    }
-    if g == 3 {
-        return 2;
-    }
-    if g == 4 {
-        return next_slots(i, y);
-    }
-    if g == 5 {
-        return chain_slots(chain_bit(s.w, i), y);
-    }
-    if g == 6 {
-        return rule_slots(span(table, Rule(a), 1), y);
-    }
-    s.m + 1
 }
 
 // The literal in slot l of that clause; 0 where the slot has none.
@@ -180,35 +142,28 @@ pub fn slot(table: &[u16], g: u16, a: u16, i: u16, y: u16, l: u16) -> i32
     requires { (Ready table.now) × (At (code_in table.now) g a i y) × (0 < l) × (l ≤ slots_at (code_in table.now) g a i y) }
     ensures { result ≡ slot_number (slot_at (code_in table.now) g a i y l) }
 {
-    let t = totals(table);
-    let s = t.sizes;
-    if g == 5 {
-        let c = chain_of_block(table, Pair(a), i);
-        return chain_literal(c, chain_bit(s.w, i), y, l);
-    }
-    if g == 1 {
-        let r = Rule(a);
-        let first = list_start(table, r, 0);
-        let middle = list_start(table, r, 1);
-        let end = list_start(table, r, 2);
-        return body_part(table, first, middle, end, r, y, l);
-    }
-    if g == 2 {
-        if s.m < i {
-            return heads_part(table, s, Atom(a), false, l);
+    let s = totals(table).sizes;
+    match g {
+        1 => {
+            let r = Rule(a);
+            let first = list_start(table, r, 0);
+            let middle = list_start(table, r, 1);
+            let end = list_start(table, r, 2);
+            body_part(table, first, middle, end, r, y, l)
         }
-        return implied_slot(s, Atom(a), Rule(i), l);
+        2 if s.m < i => heads_part(table, s, Atom(a), false, l),
+        2 => implied_slot(s, Atom(a), Rule(i), l),
+        3 => zero_slot(s, Atom(a), y, l),
+        4 => next_slot(s, Atom(a), i, y, l),
+        5 => {
+            let c = chain_of_block(table, Pair(a), i);
+            chain_literal(c, chain_bit(s.w, i), y, l)
+        }
+        6 => {
+            let r = Rule(a);
+            let b = span(table, r, 1);
+            rule_slot(s, r, head(table, r), pairs_before(table, r), b, y, l)
+        }
+        _ => heads_part(table, s, Atom(a), true, l),
     }
-    if g == 3 {
-        return zero_slot(s, Atom(a), y, l);
-    }
-    if g == 4 {
-        return next_slot(s, Atom(a), i, y, l);
-    }
-    if g == 6 {
-        let r = Rule(a);
-        let b = span(table, r, 1);
-        return rule_slot(s, r, head(table, r), pairs_before(table, r), b, y, l);
-    }
-    heads_part(table, s, Atom(a), true, l)
 }

@@ -14,7 +14,7 @@ use mathlib.Core.List.{List, [], ◌∷◌, ◌++◌}
 use mathlib.Core.Logic.{⊎_elim}
 use lib.Dec.{eqb}
 use lib.ListN.{length, get_or, set, take, drop, replicate, length-drop, length-set, length-replicate, get_or-replicate, take-append-drop, replicate-append-replicate}
-use lib.Seq.{ext_get_or, get_or-take, get_or-set_same, get_or-set_other, set-append_left, length-take-le}
+use lib.Seq.{ext_get_or, get_or-set_same, get_or-set_other, set-append_left, length-take-le}
 use borrow.Author.Tests.{eqb-true, eqb-false}
 use Rattle.lists.specs.Lists.{tab}
 use Rattle.lists.proofs.Tables.{length_tab, get_or_tab, get_or_skip, get_or_here}
@@ -134,20 +134,20 @@ module _ (hs t : List ℕ) where
 
 -- ---- as the code has it
 
-module _ (m : ℕ) (heads t : List ℕ) (U : Unlinked m heads t) where
-  pub linking_from : Linking (take m heads) t m t
-  linking_from = linking_start (take m heads) t m (length-take-le m heads U.many_heads) U.none_linked
+module _ (heads t : List ℕ) (U : Unlinked (length heads) heads t) where
+  pub linking_from : Linking heads t (length heads) t
+  linking_from = linking_start heads t (length heads) refl U.none_linked
 
-  module _ (r a : ℕ) (some : 0 < r) (in_rules : r ≤ m) (e : a ≡ get_or heads (r - 1) 0) where
+  module _ (r a : ℕ) (some : 0 < r) (in_rules : r ≤ length heads) (e : a ≡ get_or heads (r - 1) 0) where
     pub head_fits : (0 < a) × (a ≤ 126)
     head_fits = let h = U.atoms (r - 1) (omega (arith, some, in_rules)) in (omega (arith, e, h.0), omega (arith, e, h.1))
 
-    pub linking_next : (u v : List ℕ) → Linking (take m heads) t r u → v ≡ link_one r a u → Linking (take m heads) t (r - 1) v
+    pub linking_next : (u v : List ℕ) → Linking heads t r u → v ≡ link_one r a u → Linking heads t (r - 1) v
     linking_next u v k p =
-        subst (λ (v : List ℕ). Linking (take m heads) t (r - 1) v) (sym (p ∙ same))
-        (turned (take m heads) t (r - 1) (a - 1) u (subst (λ (r : ℕ). Linking (take m heads) t r u) back k)
-        (omega (arith, some, in_rules, length-take-le m heads U.many_heads)) (omega (arith, some, in_rules, U.few_rules))
-        (get_or-take m heads (r - 1) 0 (omega (arith, some, in_rules)) ∙ sym e ∙ again) (omega (arith, head_fits.1)))
+        subst (λ (v : List ℕ). Linking heads t (r - 1) v) (sym (p ∙ same))
+        (turned heads t (r - 1) (a - 1) u (subst (λ (r : ℕ). Linking heads t r u) back k)
+        (omega (arith, some, in_rules)) (omega (arith, some, in_rules, U.few_rules))
+        (sym e ∙ again) (omega (arith, head_fits.1)))
       where
         back : r ≡ suc (r - 1)
         back = omega (arith, some)

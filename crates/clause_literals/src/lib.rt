@@ -15,7 +15,7 @@ use numbers::{Atom, Pair, Rule, Var};
 pub fn literal(v: Var) -> i32
     ensures { result ≡ literal_number (var v.0) }
 {
-    v.0 as i32
+    i32::from(v.0)
 }
 
 // A literal's negation. -2^31 has none in an i32.
@@ -37,39 +37,34 @@ pub fn negated(v: Var) -> i32
 pub fn with_sign(positive: bool, v: Var) -> i32
     ensures { result ≡ literal_number (cond positive (var v.0) (− v.0)) }
 {
-    if positive {
-        return literal(v);
-    }
-    negated(v)
+    if positive { literal(v) } else { negated(v) }
 }
 
 // The literal in slot l of a clause of two literals, and of three.
 pub fn of_two(x: i32, y: i32, l: u16) -> i32
     ensures { result ≡ cond (eqb l 1) x y }
 {
-    if l == 1 {
-        return x;
+    match l {
+        1 => x,
+        _ => y,
     }
-    y
 }
 
 pub fn of_three(x: i32, y: i32, z: i32, l: u16) -> i32
     ensures { result ≡ cond (eqb l 1) x (cond (eqb l 2) y z) }
 {
-    if l == 1 {
-        return x;
+    match l {
+        1 => x,
+        2 => y,
+        _ => z,
     }
-    if l == 2 {
-        return y;
-    }
-    z
 }
 
 // The sign of a literal.
 pub fn is_negative(x: i32) -> bool
     ensures { result ≡ is_negative x }
 {
-    x < 0
+    x.is_negative()
 }
 
 // A literal without its sign: the number of its variable.
@@ -77,17 +72,14 @@ pub fn magnitude(x: i32) -> u32
     requires { nat_abs x < 2 ^ 31 }
     ensures { result ≡ nat_abs x }
 {
-    if x < 0 {
-        return negate(x) as u32;
-    }
-    x as u32
+    x.unsigned_abs()
 }
 
 // The width of a counter for n atoms: as many bits as n + 1 has, the smallest w with n + 2 <= 2^w.
 pub fn width_of(n: u16) -> u16
     ensures { result ≡ width n }
 {
-    (32 - u32::leading_zeros(n as u32 + 1)) as u16
+    (u32::BITS - (u32::from(n) + 1).leading_zeros()) as u16
 }
 
 // n atoms, m rules and counters of w bits.
@@ -143,9 +135,7 @@ pub fn next_below_var(s: Sizes, k: Pair, i: u16) -> Var
     requires { (Bounded s) × (0 < k.0) × (k.0 ≤ 500) × (i ≤ 7) }
     ensures { result.0 ≡ next_below_var (sizes_of s) k.0 i }
 {
-    let w = s.w;
-    let p = below_var(s, k, i);
-    Var(w + p.0)
+    Var(s.w + below_var(s, k, i).0)
 }
 
 // V, the number of variables with k pairs.

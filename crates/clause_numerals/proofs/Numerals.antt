@@ -2,8 +2,8 @@
 --   numeral_is, opposite_is             what code makes of a variable, and of a literal by negating its number
 --   number_back                         its number, read back from its bits
 --   numeral_positive, numeral_negative  the text of a literal from its digits, by its sign
---   sign_by                             how many bytes its sign has
---   sign_room, sign_start, sign_tail, sign_sum, sign_put, sign_kept    the sign's byte, and the digits after it or over it
+--   sign_is                             how many bytes its sign has
+--   sign_tail, sign_put                 the sign's byte, and the digits after it or over it
 --   line_cons, cons_front               a literal in front of those of a line
 --   one_room, one_put                   the line of a literal alone
 --   lower_word_lem                      the text of a variable, negated
@@ -18,6 +18,9 @@ use mir.Val.{to_z, of_z}
 use mir.Facts.{to_z-of_z}
 use lib.ListN.{length, take, drop, set, length-append, length-set}
 use borrow.Rule.Slice.PartMut.{put_mid}
+use lib.Dec.{leb-suc-zero}
+use mir.Val.{bool_byte}
+use Rattle.std.specs.Int.{is_negative as below_zero}
 use lib.IntN.{ℤ, pos, negsuc, neg_ℤ, nat_abs}
 use Rattle.encoding.specs.Literal.{Literal, Clause, var, −◌, literal_number}
 use Rattle.text.specs.Decimal.{decimal}
@@ -27,7 +30,7 @@ use Rattle.digits.specs.declared.Digits.{Digits}
 use Rattle.digits.specs.Bytes.{literal_text, literals_text, line_text, Room, Wrote}
 use Rattle.digits.specs.Digits.{digits_of, digits_text}
 use Rattle.digits.proofs.DigitLaws.{digits_text_lem}
-use Rattle.digits.proofs.Wrote.{room_as, room_front, wrote_none, wrote_as, wrote_kept, wrote_after, wrote_end, end_room}
+use Rattle.digits.proofs.Wrote.{room_as, room_front, wrote_none, wrote_as, wrote_after, wrote_end, end_room}
 use Rattle.digits.proofs.Tail.{tail_length}
 use Rattle.digits.proofs.Writing.{word_positive, word_negative, lead_put}
 use Rattle.clause_numerals.specs.declared.Numeral.{Numeral}
@@ -73,9 +76,10 @@ module _ (x : Numeral) (N : Numbered x) {y : ℤ} {r : Bool} (q : y ≡ x.litera
       word_negative q e s (ap nat_abs (sym q))
       ∙ ap (λ (t : List ℕ). 45 ∷ t) (sym (ap digits_text N.written ∙ digits_text_lem (nat_abs x.literal) N.short.fits))
 
--- how many bytes the sign has, by the test c of it
-pub sign_by : (x : ℤ) {y : ℤ} {r : Bool} (c : Bool) → y ≡ x → r ≡ is_negative y → r ≡ c → ◌≡◌ {A = ℕ} (cond c 1 0) (cond (is_negative x) 1 0)
-sign_by x c q e s = ap (λ (b : Bool). cond b 1 0) (sym s ∙ e ∙ ap is_negative q)
+-- how many bytes the sign has
+pub sign_is : {k : ℕ} {r : Bool} (y : ℤ) → k ≡ bool_byte r → r ≡ below_zero y → k ≡ cond (is_negative y) 1 0
+sign_is (pos n) e s = e ∙ ap bool_byte (s ∙ leb-suc-zero n)
+sign_is (negsuc n) e s = e ∙ ap bool_byte s
 
 -- ---- the sign's byte is written first, and the digits over it where the literal is positive
 
@@ -89,7 +93,7 @@ over : (b : List ℕ) (v : ℕ) {s e : List ℕ} {r : ℕ} → 0 < length s → 
 over b v {s} {r = r} h W =
     record { count = W.count; bytes = W.bytes ∙ ap (λ (t : List ℕ). s ++ t) (past_first b v r (omega (arith, W.count, h))) }
 
--- y is the number as the machine holds it, and k what sign_length returns
+-- y is the number as the machine holds it, and k how many bytes its sign has
 module _ (x : Numeral) (N : Numbered x) (b : List ℕ) {y : ℤ} {k : ℕ} (q : y ≡ x.literal) (e : k ≡ cond (is_negative y) 1 0) (f : Room (literal_text x.literal ++ (32 ∷ [])) b) where
   abbrev word : List ℕ
   word = literal_text x.literal ++ (32 ∷ [])
@@ -111,17 +115,8 @@ module _ (x : Numeral) (N : Numbered x) (b : List ℕ) {y : ℤ} {k : ℕ} (q : 
   some_digits =
       omega (arith, ap (λ (t : List ℕ). length t) (ap digits_text N.written ∙ digits_text_lem (nat_abs x.literal) N.short.fits), length-append (decimal (nat_abs x.literal)) (32 ∷ []))
 
-  pub sign_room : 0 < length b
-  sign_room = omega (arith, word_length, some_digits, f)
-
-  pub sign_start : k ≤ length E
-  sign_start = omega (arith, word_length, f, length-set b 0 45)
-
   pub sign_tail : Room digits (take (length E - k) (drop k E))
   sign_tail = omega (arith, word_length, f, length-set b 0 45, tail_length E k)
-
-  pub sign_sum : {r : ℕ} → r ≡ length digits → k + r ≤ length b
-  sign_sum p = omega (arith, word_length, f, p)
 
   module _ {l : List ℕ} {r : ℕ} where
     by_sign : (c : Bool) → c ≡ is_negative y → Wrote digits (take (length E - cond c 1 0) (drop (cond c 1 0) E)) l r
@@ -133,9 +128,6 @@ module _ (x : Numeral) (N : Numbered x) (b : List ℕ) {y : ℤ} {k : ℕ} (q : 
     sign_put X =
         subst (λ (j : ℕ). Wrote word b (put_mid j (length E - j) E l) (j + r)) (sym e)
         (by_sign (is_negative y) refl (subst (λ (j : ℕ). Wrote digits (take (length E - j) (drop j E)) l r) e X))
-
-    pub sign_kept : Wrote digits (take (length E - k) (drop k E)) l r → length (put_mid k (length E - k) E l) ≡ length b
-    sign_kept X = wrote_kept (sign_put X) f
 
 -- ---- a literal alone, and in front of others
 

@@ -2,13 +2,12 @@
 // once for all clauses of a block that have it (document 01, "Which places take which form").
 #![tactic(auto)]
 
-ghost use Rattle.std.specs.Prelude.{◌≡◌, cond, [], ◌∷◌, ◌++◌};
+ghost use Rattle.std.specs.Prelude.{◌≡◌, [], ◌∷◌, ◌++◌};
 ghost use Rattle.encoding.specs.Literal.{var};
-ghost use Rattle.clause_literals.specs.Signed.{is_negative};
 ghost use Rattle.digits.specs.Bytes.{literal_text, line_text, Room, Wrote};
 ghost use Rattle.clause_numerals.specs.Numerals.{Short, Numbered, held, opposed};
 
-use clause_literals::{is_negative, literal, negate};
+use clause_literals::{literal, negate};
 use digits::{Digits, digits_of, put_digits};
 use numbers::Var;
 
@@ -35,24 +34,13 @@ pub fn opposite(x: Numeral) -> Numeral
     requires { Numbered x }
     ensures { (Numbered result) × (held result ≡ opposed (held x)) }
 {
-    let d = x.digits;
     Numeral {
         literal: negate(x.literal),
-        digits: d,
+        ..x
     }
 }
 
 // Each function below writes at the front of the buffer and returns how many bytes it wrote.
-
-// How many bytes the sign of a literal has.
-fn sign_length(x: i32) -> usize
-    ensures { result ≡ cond (is_negative x) 1 0 }
-{
-    if is_negative(x) {
-        return 1;
-    }
-    0
-}
 
 // A literal and one space. The sign's byte is written first, and the digits over it where there is no sign: a positive literal and a negative one take
 // the same way.
@@ -60,8 +48,8 @@ pub fn put_numeral(x: Numeral, buf: &mut [u8]) -> usize
     requires { (Numbered x) × (Room (literal_text x.literal ++ (32 ∷ [])) buf.old) }
     ensures { Wrote (literal_text x.literal ++ (32 ∷ [])) buf.old buf.new result }
 {
-    let k = sign_length(x.literal);
-    buf[0] = 45;
+    let k = usize::from(x.literal.is_negative());
+    buf[0] = b'-';
     k + put_digits(x.digits, &mut buf[k..])
 }
 
@@ -71,8 +59,8 @@ fn put_one(x: Numeral, buf: &mut [u8]) -> usize
     ensures { Wrote (line_text (held x ∷ [])) buf.old buf.new result }
 {
     let at = put_numeral(x, &mut *buf);
-    buf[at] = 48;
-    buf[at + 1] = 10;
+    buf[at] = b'0';
+    buf[at + 1] = b'\n';
     at + 2
 }
 

@@ -11,9 +11,8 @@ use clause_heads::next_head;
 use clause_layout::{GROUPS, block_count, items, size};
 use numbers::Atom;
 
-// The last group but one, and the number after the last one.
-const LAST_BUT_ONE: u16 = GROUPS - 1;
-
+// The number after that of the last group.
+// Kept as a group's number: a place past the last clause is told by its own number, and no code asks for the group of such a place.
 const PAST: u16 = GROUPS + 1;
 
 // A clause's group, item, block and number in its block, and how many clauses follow in the block, blocks in the item and items in the group.
@@ -29,6 +28,7 @@ pub struct Coordinates {
 }
 
 // A clause by its number, with its coordinates. Number 0 is before the first clause.
+// Kept as a `requires` of what takes a place: that its coordinates are those of its number is a fact about a table, which it does not hold.
 #[derive(Clone, Copy)]
 pub struct Place {
     pub number: usize,
@@ -54,13 +54,7 @@ fn group_start(g: u16, count: u16) -> Coordinates
 fn is_over(c: Coordinates) -> bool
     ensures { result ≡ is_over c }
 {
-    if 0 < c.blocks {
-        return false;
-    }
-    if 0 < c.items {
-        return false;
-    }
-    LAST_BUT_ONE < c.group
+    c.blocks == 0 && c.items == 0 && GROUPS <= c.group
 }
 
 // Group 2: the next block of the item, an atom, that holds a clause: that of the next rule with this head, or the last block.
@@ -70,51 +64,54 @@ fn head_block(table: &[u16], m: u16, c: Coordinates) -> Coordinates
 {
     let j = next_head(heads(table, m), Atom(c.item), c.block);
     Coordinates {
-        group: c.group,
-        item: c.item,
         block: j + 1,
         clause: 0,
         clauses: 1,
         blocks: m - j,
-        items: c.items,
+        ..c
     }
 }
 
-// The next block of the item, in group 2 the next one that holds a clause, the next item of the group or the next group.
+// The next block of the item, in group 2 the next one that holds a clause.
+fn next_block(table: &[u16], c: Coordinates) -> Coordinates
+    requires { (Ready table.now) × (In (code_in table.now) c) × (c.clauses ≡ 0) × (0 < c.blocks) }
+    ensures { Onward (code_in table.now) c result }
+{
+    if c.group == 2 {
+        return head_block(table, totals(table).sizes.m, c);
+    }
+    let block = c.block + 1;
+    Coordinates {
+        block,
+        clause: 0,
+        clauses: size(table, c.group, c.item, block),
+        blocks: c.blocks - 1,
+        ..c
+    }
+}
+
+// The next block of the item, the next item of the group or the next group.
 fn step(table: &[u16], c: Coordinates) -> Coordinates
     requires { (Ready table.now) × (In (code_in table.now) c) × (c.clauses ≡ 0) × (is_over c ≡ false) }
     ensures { Onward (code_in table.now) c result }
 {
-    let t = totals(table);
-    let g = c.group;
-    let a = c.item;
     if 0 < c.blocks {
-        if g == 2 {
-            return head_block(table, t.sizes.m, c);
-        }
-        let i = c.block + 1;
-        return Coordinates {
-            group: g,
-            item: a,
-            block: i,
-            clause: 0,
-            clauses: size(table, g, a, i),
-            blocks: c.blocks - 1,
-            items: c.items,
-        };
+        return next_block(table, c);
     }
+    let t = totals(table);
     if 0 < c.items {
         return Coordinates {
-            group: g,
-            item: a + 1,
+            item: c.item + 1,
             block: 0,
             clause: 0,
             clauses: 0,
-            blocks: block_count(t.sizes, g),
+            blocks: block_count(t.sizes, c.group),
             items: c.items - 1,
+            ..c
         };
     }
-    group_start(g + 1, items(t, g + 1))
+    let g = c.group + 1;
+    group_start(g, items(t, g))
 }
 
 // The coordinates of the first clause that follows c.
@@ -130,13 +127,9 @@ fn next_coordinates(table: &[u16], c: Coordinates) -> Coordinates
         at = step(table, at);
     }
     Coordinates {
-        group: at.group,
-        item: at.item,
-        block: at.block,
         clause: at.clause + 1,
         clauses: at.clauses - 1,
-        blocks: at.blocks,
-        items: at.items,
+        ..at
     }
 }
 

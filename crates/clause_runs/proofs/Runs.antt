@@ -1,6 +1,5 @@
 -- A run of lines, line by line.
 --   Going        the state of a run that began at line j: lines written so far, their bytes, and what is still to fit
---   begun        at the beginning
 --   goes_on      after some lines more
 --   runs_out     when no line is left
 --   runs_full    when the next line does not fit
@@ -18,12 +17,12 @@ use mathlib.Core.List.{List, [], ◌∷◌, ◌++◌, append_assoc, append-nil}
 use lib.Dec.{leb}
 use lib.ListN.{length, get_or, take, drop, length-append, length-drop, drop_of_length-le}
 use lib.Seq.{take-add, take-suc, drop-cons, drop-drop}
-use borrow.Author.Tests.{le-leb, lt-leb, leb-true, leb-false}
+use borrow.Author.Tests.{le-leb, lt-leb, leb-false}
 use borrow.Rule.Slice.PartMut.{put_mid}
 use Rattle.lists.specs.Lists.{joined}
 use Rattle.digits.specs.Bytes.{Wrote}
 use Rattle.digits.proofs.Tail.{tail_length}
-use Rattle.digits.proofs.Wrote.{wrote_none, wrote_as, wrote_kept, wrote_after}
+use Rattle.digits.proofs.Wrote.{wrote_as, wrote_kept, wrote_after}
 use Rattle.clause_tables.specs.declared.Totals.{Totals}
 use Rattle.clause_tables.specs.Tables.{Tabled}
 use Rattle.clause_places.specs.declared.Place.{Place}
@@ -33,7 +32,6 @@ use Rattle.clause_runs.proofs.Placed.{lines_count, line_short}
 use Rattle.clause_places.proofs.Numbers.{own_number, number_is}
 use Rattle.clause_runs.specs.Lines.{code_lines, code_line, fitting, code_part, code_run_bytes}
 use Rattle.clause_runs.specs.Taken.{Taken}
-use Rattle.clause_table_laws.proofs.Bounds.{clauses_short}
 
 pub joined_append : (xs ys : List (List ℕ)) → joined (xs ++ ys) ≡ joined xs ++ joined ys
 joined_append [] ys = refl
@@ -78,19 +76,6 @@ module _ (all : List (List ℕ)) (j : ℕ) (b₀ : List ℕ) where
     pub same_length : length b ≡ length b₀
     pub wrote : Wrote (joined (take lines ls)) b₀ b to
     pub fits_are : fitting (length b₀) ls ≡ lines + fitting (length b₀ - to) (drop n all)
-
-  pub begun : Going j 0 0 b₀
-  begun =
-      record {
-        number_is = sym (add-zero j);
-        in_room = omega arith;
-        same_length = refl;
-        wrote = wrote_none b₀;
-        fits_are = sym (zero-add (fitting (length b₀ - 0) (drop j all)) ∙ ap (λ (k : ℕ). fitting k (drop j all)) (less (length b₀)));
-      }
-    where
-      less : (k : ℕ) → k - 0 ≡ k
-      less k = omega arith
 
   module _ {n lines to : ℕ} {b : List ℕ} (G : Going n lines to b) (h : n < length all) where
     abbrev line : List ℕ
@@ -183,33 +168,16 @@ module _ {G : Code} {t : Totals} {hs ss bs ks xs ys : List ℕ} (T : Tabled G t 
           → (record { lines = lines; bytes = to; place = at } ≡ code_part G j (length b₀)) × (b ≡ code_run_bytes G j b₀)
       part_full p q = part_is (runs_full (code_lines G) j b₀ N listed (leb-false (length (code_line G at.number)) (length b - to) (sym p ∙ q)))
 
-      -- it fits
-      module _ {f : Bool} (p : f ≡ leb (length (code_line G at.number)) (length b - to)) (q : f ≡ true) where
-        fit : length (code_line G at.number) ≤ length b - to
-        fit = leb-true (length (code_line G at.number)) (length b - to) (sym p ∙ q)
-
-        pub line_asks : length (code_line G at.number) ≤ length (take (length b - to) (drop to b))
-        line_asks = subst (λ (k : ℕ). length (code_line G at.number) ≤ k) (sym (tail_length b to)) fit
-
       -- some lines are written into the lent tail
       module _ {q : RunPart} {l : List ℕ} (u : Taken G at.number q (take (length b - to) (drop to b)) l) where
         onward : Going (code_lines G) j b₀ (at.number + q.lines) (lines + q.lines) (to + q.bytes) (put_mid to (length b - to) b l)
         onward =
             goes_on (code_lines G) j b₀ N q.lines u.listed (subst (λ (k : ℕ). q.bytes ≤ k) (tail_length b to) u.in_room) u.wrote
 
-        pub sum_fits : to + q.bytes ≤ length b₀
-        sum_fits = onward.in_room
-
-        pub lines_fit : lines + q.lines ≤ 53691
-        lines_fit = omega (arith, u.listed, lines_count T, N.number_is, clauses_short T)
-
         pub run_goes_on : (q.place ≡ place_at G q.place.number) × (q.place.number ≤ suc t.clauses)
             × Going (code_lines G) j b₀ q.place.number (lines + q.lines) (to + q.bytes) (put_mid to (length b - to) b l)
         run_goes_on =
             (own_number T u.place_is, omega (arith, number_is T u.place_is, u.listed, lines_count T), subst (λ (k : ℕ). Going (code_lines G) j b₀ k (lines + q.lines) (to + q.bytes) (put_mid to (length b - to) b l)) (sym (number_is T u.place_is)) onward)
-
-        pub run_less : suc t.clauses - q.place.number < suc t.clauses - at.number
-        run_less = omega (arith, number_is T u.place_is, u.some, h)
 
 -- ---- from part to part
 

@@ -19,7 +19,9 @@ use clause_layout::{block_count, size};
 use clause_places::{Coordinates, Place, next};
 use clause_text::{clause_length, is_blockwise, put_clause};
 use fixed_lines::{header_length, put_header};
-use numbers::wide;
+
+// No line has more bytes, nor do the lines of an item of groups 4 and 5.
+const LONGEST_LINE: usize = 3008;
 
 // A run of lines as far as it fits: how many lines, their bytes, and the place of the line after them.
 #[derive(Clone, Copy)]
@@ -50,21 +52,18 @@ pub fn put_line(table: &[u16], c: Place, buf: &mut [u8]) -> usize
 {
     let t = totals(table);
     if c.number == 0 {
-        return put_header(t.vars, t.clauses, &mut *buf);
+        return put_header(t.vars, t.clauses, buf);
     }
     let s = c.coordinates;
-    put_clause(table, s.group, s.item, s.block, s.clause, &mut *buf)
+    put_clause(table, s.group, s.item, s.block, s.clause, buf)
 }
 
-// Whether the line at place c fits `room` bytes. No line has more than 3,008 bytes.
+// Whether the line at place c fits `room` bytes.
 fn fits(table: &[u16], c: Place, room: usize) -> bool
     requires { (Ready table.now) × (c ≡ place_at (code_in table.now) c.number) × (c.number ≤ clauses_in table.now) }
     ensures { result ≡ leb (length (code_line (code_in table.now) c.number)) room }
 {
-    if 3008 <= room {
-        return true;
-    }
-    line_length(table, c) <= room
+    LONGEST_LINE <= room || line_length(table, c) <= room
 }
 
 // The lines of item a of group g, 4 or 5, block by block.
@@ -75,11 +74,9 @@ fn put_item(table: &[u16], g: u16, a: u16, buf: &mut [u8]) -> usize
 {
     let t = totals(table);
     let n = block_count(t.sizes, g);
-    let mut i: u16 = 0;
     let mut at: usize = 0;
-    while i < n {
+    for i in 0..n {
         at += put_block(table, g, a, i + 1, &mut buf[at..]);
-        i += 1;
     }
     at
 }
@@ -96,13 +93,11 @@ fn after_item(table: &[u16], c: Place, k: usize) -> Place
     let last = Place {
         number: c.number + (k - 1),
         coordinates: Coordinates {
-            group: s.group,
-            item: s.item,
             block: i,
             clause: size(table, s.group, s.item, i),
             clauses: 0,
             blocks: 0,
-            items: s.items,
+            ..s
         },
     };
     next(table, last)
@@ -116,11 +111,11 @@ fn put_whole_item(table: &[u16], c: Place, buf: &mut [u8]) -> RunPart
 {
     let t = totals(table);
     let s = c.coordinates;
-    let k = fixed_size(wide(t.sizes.w), s.group);
-    let bytes = put_item(table, s.group, s.item, &mut *buf);
+    let k = fixed_size(usize::from(t.sizes.w), s.group);
+    let bytes = put_item(table, s.group, s.item, buf);
     RunPart {
         lines: k,
-        bytes: bytes,
+        bytes,
         place: after_item(table, c, k),
     }
 }
@@ -131,10 +126,10 @@ fn put_one(table: &[u16], c: Place, buf: &mut [u8]) -> RunPart
         × (Room (code_line (code_in table.now) c.number) buf.old) }
     ensures { Taken (code_in table.now) c.number result buf.old buf.new }
 {
-    let bytes = put_line(table, c, &mut *buf);
+    let bytes = put_line(table, c, buf);
     RunPart {
         lines: 1,
-        bytes: bytes,
+        bytes,
         place: next(table, c),
     }
 }
@@ -145,16 +140,11 @@ fn put_some(table: &[u16], c: Place, buf: &mut [u8]) -> RunPart
         × (Room (code_line (code_in table.now) c.number) buf.old) }
     ensures { Taken (code_in table.now) c.number result buf.old buf.new }
 {
-    if 3008 <= buf.len() {
-        if c.coordinates.clause == 1 {
-            if c.coordinates.block == 1 {
-                if is_blockwise(c.coordinates.group) {
-                    return put_whole_item(table, c, &mut *buf);
-                }
-            }
-        }
+    let s = c.coordinates;
+    if LONGEST_LINE <= buf.len() && s.clause == 1 && s.block == 1 && is_blockwise(s.group) {
+        return put_whole_item(table, c, buf);
     }
-    put_one(table, c, &mut *buf)
+    put_one(table, c, buf)
 }
 
 // Writes as many whole lines as fit the buffer, from the line at place c on.
@@ -164,25 +154,18 @@ pub fn put_lines(table: &[u16], c: Place, buf: &mut [u8]) -> RunPart
         × (buf.new ≡ code_run_bytes (code_in table.now) c.number buf.old) }
 {
     let t = totals(table);
-    let mut at = c;
-    let mut lines: usize = 0;
-    let mut to: usize = 0;
-    while at.number <= t.clauses {
-        if !fits(table, at, buf.len() - to) {
-            return RunPart {
-                lines: lines,
-                bytes: to,
-                place: at,
-            };
-        }
-        let part = put_some(table, at, &mut buf[to..]);
-        to += part.bytes;
-        lines += part.lines;
-        at = part.place;
+    let mut run = RunPart {
+        lines: 0,
+        bytes: 0,
+        place: c,
+    };
+    while run.place.number <= t.clauses && fits(table, run.place, buf.len() - run.bytes) {
+        let part = put_some(table, run.place, &mut buf[run.bytes..]);
+        run = RunPart {
+            lines: run.lines + part.lines,
+            bytes: run.bytes + part.bytes,
+            place: part.place,
+        };
     }
-    RunPart {
-        lines: lines,
-        bytes: to,
-        place: at,
-    }
+    run
 }

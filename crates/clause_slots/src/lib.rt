@@ -13,7 +13,7 @@ use clause_literals::{
     Sizes, below_var, body_var, founds_var, level_var, literal, negated, next_below_var, next_var,
     of_three, of_two, with_sign,
 };
-use numbers::{Atom, Pair, Rule, Var, atom_var, wide};
+use numbers::{Atom, Pair, Rule, Var};
 use program::head;
 
 // Group 3, atom a: slot l of clause y.
@@ -21,7 +21,7 @@ pub fn zero_slot(s: Sizes, a: Atom, y: u16, l: u16) -> i32
     requires { (Bounded s) × (0 < a.0) × (a.0 ≤ 126) × (y ≤ 7) }
     ensures { result ≡ literal_number (slot3 (sizes_of s) a.0 y l) }
 {
-    of_two(literal(atom_var(a)), negated(level_var(s, a, y)), l)
+    of_two(literal(Var::from(a)), negated(level_var(s, a, y)), l)
 }
 
 // Group 4, atom a: slot l of clause y of block i.
@@ -34,20 +34,17 @@ pub fn next_slot(s: Sizes, a: Atom, i: u16, y: u16, l: u16) -> i32
     let u = next_var(s, a, i);
     let v = level_var(s, a, i);
     if j < i {
-        return of_three(
+        of_three(
             literal(level_var(s, a, j)),
             with_sign(second, u),
             with_sign(!second, v),
             l,
-        );
+        )
+    } else if l < i {
+        negated(level_var(s, a, l))
+    } else {
+        with_sign(second, if l == i { u } else { v })
     }
-    if l < i {
-        return negated(level_var(s, a, l));
-    }
-    if l == i {
-        return with_sign(second, u);
-    }
-    with_sign(second, v)
 }
 
 // Group 6, rule r: slot l of its long clause, where k pairs stand before those of r.
@@ -56,13 +53,11 @@ fn founded_slot(s: Sizes, r: Rule, k: u16, l: u16) -> i32
     ensures { result
         ≡ literal_number (three (var (founds_var (sizes_of s) r.0)) (− body_var (sizes_of s) r.0) (− below_var (sizes_of s) (k + (l - 2)) s.w) l) }
 {
-    if l == 1 {
-        return literal(founds_var(s, r));
+    match l {
+        1 => literal(founds_var(s, r)),
+        2 => negated(body_var(s, r)),
+        _ => negated(below_var(s, Pair(k + (l - 2)), s.w)),
     }
-    if l == 2 {
-        return negated(body_var(s, r));
-    }
-    negated(below_var(s, Pair(k + (l - 2)), s.w))
 }
 
 // Group 6, rule r with pairs: slot l of its last clause, where k pairs stand before those of r.
@@ -70,10 +65,10 @@ fn lowest_slot(s: Sizes, r: Rule, k: u16, l: u16) -> i32
     requires { (Bounded s) × (r.0 ≤ 500) × (0 < l) × (k + l ≤ 501) }
     ensures { result ≡ literal_number (two (− body_var (sizes_of s) r.0) (− next_below_var (sizes_of s) (k + pred l) s.w) l) }
 {
-    if l == 1 {
-        return negated(body_var(s, r));
+    match l {
+        1 => negated(body_var(s, r)),
+        _ => negated(next_below_var(s, Pair(k + (l - 1)), s.w)),
     }
-    negated(next_below_var(s, Pair(k + (l - 1)), s.w))
 }
 
 // Group 6, rule r with head h and b pairs after k others: slot l of clause y.
@@ -81,29 +76,23 @@ pub fn rule_slot(s: Sizes, r: Rule, h: Atom, k: u16, b: u16, y: u16, l: u16) -> 
     requires { (Bounded s) × (r.0 ≤ 500) × (0 < h.0) × (h.0 ≤ 126) × (k + b ≤ 500) × (0 < y) × (y ≤ size6 s.w b) × (0 < l) × (l ≤ slots6 b y) }
     ensures { result ≡ literal_number (slot6 (sizes_of s) r.0 h.0 k b y l) }
 {
-    let w = s.w;
-    if y == 1 {
-        return of_two(negated(founds_var(s, r)), literal(body_var(s, r)), l);
-    }
     if y <= b + 1 {
-        return of_two(
-            negated(founds_var(s, r)),
-            literal(below_var(s, Pair(k + (y - 1)), w)),
-            l,
-        );
-    }
-    if y == b + 2 {
-        return founded_slot(s, r, k, l);
-    }
-    if b == 0 {
-        let third = y == 3;
-        return of_two(
+        let implied = match y {
+            1 => body_var(s, r),
+            _ => below_var(s, Pair(k + (y - 1)), s.w),
+        };
+        of_two(negated(founds_var(s, r)), literal(implied), l)
+    } else if y == b + 2 {
+        founded_slot(s, r, k, l)
+    } else if b == 0 {
+        of_two(
             negated(body_var(s, r)),
-            with_sign(third, level_var(s, h, y - 2)),
+            with_sign(y == 3, level_var(s, h, y - 2)),
             l,
-        );
+        )
+    } else {
+        lowest_slot(s, r, k, l)
     }
-    lowest_slot(s, r, k, l)
 }
 
 // Body atom x of a rule, from 1, as a variable.
@@ -111,8 +100,7 @@ fn atom_at(body: &[u16], x: u16) -> Var
     requires { (0 < x) × (x ≤ length body.now) }
     ensures { result.0 ≡ atom_at body.now x }
 {
-    let i = wide(x - 1);
-    atom_var(Atom(body[i]))
+    Var::from(Atom(body[usize::from(x) - 1]))
 }
 
 // Group 1, rule r with the body atoms `body`, the first p of them positive: slot l of clause y.
@@ -121,18 +109,17 @@ pub fn body_slot(s: Sizes, r: Rule, body: &[u16], p: u16, y: u16, l: u16) -> i32
     ensures { result ≡ literal_number (slot1 (sizes_of s) r.0 body.now p y l) }
 {
     let t = body_var(s, r);
-    if wide(y) <= body.len() {
-        if l == 1 {
-            return negated(t);
+    if usize::from(y) <= body.len() {
+        match l {
+            1 => negated(t),
+            _ => with_sign(y <= p, atom_at(body, y)),
         }
-        let stands = y <= p;
-        return with_sign(stands, atom_at(body, y));
+    } else {
+        match l {
+            1 => literal(t),
+            _ => with_sign(p < l - 1, atom_at(body, l - 1)),
+        }
     }
-    if l == 1 {
-        return literal(t);
-    }
-    let stands = p < l - 1;
-    with_sign(stands, atom_at(body, l - 1))
 }
 
 // Group 2, atom a and its rule r: slot l of their clause.
@@ -140,7 +127,7 @@ pub fn implied_slot(s: Sizes, a: Atom, r: Rule, l: u16) -> i32
     requires { (Bounded s) × (r.0 ≤ 500) }
     ensures { result ≡ literal_number (implied_slot (sizes_of s) a.0 r.0 l) }
 {
-    of_two(literal(atom_var(a)), negated(body_var(s, r)), l)
+    of_two(literal(Var::from(a)), negated(body_var(s, r)), l)
 }
 
 // The variable of rule r in group 2, t(r), and in group 7, s(r).
@@ -149,9 +136,10 @@ pub fn rule_var(s: Sizes, founds: bool, r: Rule) -> Var
     ensures { result.0 ≡ rule_var (sizes_of s) founds r.0 }
 {
     if founds {
-        return founds_var(s, r);
+        founds_var(s, r)
+    } else {
+        body_var(s, r)
     }
-    body_var(s, r)
 }
 
 // Groups 2 and 7, atom a: slot l of its last clause, the negated a or the variable of rule l - 1 if a is its head; 0 where the slot has no literal.
@@ -160,13 +148,14 @@ pub fn head_slot(s: Sizes, heads: &[u16], a: Atom, founds: bool, l: u16) -> i32
     ensures { result ≡ slot_number (of_head heads.now a.0 (rule_var (sizes_of s) founds) l) }
 {
     if l == 1 {
-        return negated(atom_var(a));
+        return negated(Var::from(a));
     }
-    let r = l - 1;
-    if head(heads, Rule(r)).0 == a.0 {
-        return literal(rule_var(s, founds, Rule(r)));
+    let r = Rule(l - 1);
+    if head(heads, r) == a {
+        literal(rule_var(s, founds, r))
+    } else {
+        0
     }
-    0
 }
 
 // Group 1: how many slots clause y of a rule with b body atoms has.
@@ -174,10 +163,7 @@ pub fn body_slots(b: u16, y: u16) -> u16
     requires { b ≤ 500 }
     ensures { result ≡ slots1 b y }
 {
-    if y <= b {
-        return 2;
-    }
-    b + 1
+    if y <= b { 2 } else { b + 1 }
 }
 
 // Group 4: how many slots clause y of block i has.
@@ -185,10 +171,7 @@ pub fn next_slots(i: u16, y: u16) -> u16
     requires { (i ≤ 7) × (0 < y) }
     ensures { result ≡ slots4 i y }
 {
-    if (y - 1) / 2 + 1 < i {
-        return 3;
-    }
-    i + 1
+    if (y - 1) / 2 + 1 < i { 3 } else { i + 1 }
 }
 
 // Group 6: how many clauses a rule with b pairs has, and how many slots its clause y has.
@@ -196,10 +179,10 @@ pub fn rule_size(w: u16, b: u16) -> u16
     requires { (w ≤ 7) × (b ≤ 500) }
     ensures { result ≡ size6 w b }
 {
-    if b == 0 {
-        return w + 2;
+    match b {
+        0 => w + 2,
+        _ => b + 3,
     }
-    b + 3
 }
 
 pub fn rule_slots(b: u16, y: u16) -> u16
@@ -207,13 +190,12 @@ pub fn rule_slots(b: u16, y: u16) -> u16
     ensures { result ≡ slots6 b y }
 {
     if y <= b + 1 {
-        return 2;
+        2
+    } else if y == b + 2 {
+        b + 2
+    } else if b == 0 {
+        2
+    } else {
+        b + 1
     }
-    if y == b + 2 {
-        return b + 2;
-    }
-    if b == 0 {
-        return 2;
-    }
-    b + 1
 }

@@ -1,9 +1,9 @@
 -- Products: the products in the number of clauses are bounded
--- Stores: the loops that store a list or copies of a number, and what they leave of an array with zeros after its list
+-- Stores: what stores leave of a list, and of an array with zeros after its list
 -- Regions: what stores into one of several lists leave of them all
 -- Held: the arrays of a stored program are lists, filled up with zeros
 -- Kept: what they hold of a rule
--- Sums: the counts of a loop over the rules
+-- Sums: the tally of a loop over the rules
 -- Laid: the regions of the table, written one after the other
 -- Turns: the loop over the rules that writes the pairs
 -- Totals: the counts of the table of a stored program

@@ -3,8 +3,9 @@
 --   links_made       with them it is that of its code
 -- Assumes nothing.
 use Prim.Native.Nat.{ℕ, zero, suc, ◌≤◌, ◌<◌}
+use native.Mathlib.Nat.{le_refl}
 use native.Mathlib.Omega.{arith}
-use mathlib.Core.Path.{◌≡◌, refl, sym, ◌∙◌, ap, ap₂}
+use mathlib.Core.Path.{◌≡◌, refl, sym, ◌∙◌, ap, ap₂, subst}
 use mathlib.Core.List.{List, [], ◌∷◌, ◌++◌, append_assoc, append-nil}
 use mathlib.Core.Logic.{⊎_elim}
 use lib.ListN.{length, get_or, take, drop, replicate, length-map, replicate-append-replicate, get_or-eq_default}
@@ -26,7 +27,7 @@ use Rattle.clause_table_laws.proofs.Elements.{get_or_pad, head_atom, head_in, pr
 use Rattle.clause_table_laws.proofs.Cells.{sizes, lengths_are}
 use Rattle.clause_table_laws.proofs.Links.{Follows, first_follows}
 use Rattle.clause_tabling.specs.Stages.{with_counts}
-use Rattle.clause_tabling.proofs.Held.{heads_held, many_heads, rules_many}
+use Rattle.clause_tabling.proofs.Held.{rules_many}
 
 joined_append : (xss yss : List (List ℕ)) → joined (xss ++ yss) ≡ joined xss ++ joined yss
 joined_append [] yss = refl
@@ -58,8 +59,8 @@ module _ (A : Arrays) (s : Stored A) where
   heads_are : take A.rules A.heads ≡ heads_of G
   heads_are = ap (take A.rules) heads_pad ∙ take_at (heads_of G) _ A.rules (length-map G.rules (λ R. R.head) ∙ rules_many A)
 
-  head_at_lem : (i : ℕ) → get_or A.heads i 0 ≡ head_at (heads_of G) (suc i)
-  head_at_lem i = ap (λ (xs : List ℕ). get_or xs i 0) heads_pad ∙ get_or_pad 500 (heads_of G) i
+  heads_many : length (heads_of G) ≡ length G.rules
+  heads_many = length-map {B = ℕ} G.rules (λ R. R.head)
 
   first_none : (i : ℕ) → G.n ≤ i → first_rule (heads_of G) (suc i) ≡ 0
   first_none i h = go (first_rule (heads_of G) (suc i)) (first_follows (heads_of G) (suc i))
@@ -95,24 +96,30 @@ module _ (A : Arrays) (s : Stored A) where
     unfolding with_counts
     in_two = e ∙ with_ends (replicate 126 0) (replicate 500 0)
 
-    pub links_asked : Unlinked A.rules A.heads t
-    links_asked =
+    heads_asked : Unlinked (length (heads_of G)) (heads_of G) t
+    heads_asked =
         record {
-          few_rules = (heads_held A s).few;
-          many_heads = omega (arith, (heads_held A s).few, many_heads A s);
-          atoms = λ i h.
-              let q = head_in G limited (suc i) (omega arith) (omega (arith, h, rules_many A)) in
-              (omega (arith, head_at_lem i, q.0), omega (arith, head_at_lem i, q.1));
+          few_rules = omega (arith, heads_many, limited.within.few_rules);
+          many_heads = le_refl (length (heads_of G));
+          atoms = λ i h. head_in G limited (suc i) (omega arith) (omega (arith, h, heads_many));
           none_linked =
               ap (drop 3518) in_two ∙ drop_at (joined front) _ 3518 front_length ∙ replicate-append-replicate 126 500 0;
         }
 
-    pub links_made : (u : List ℕ) → u ≡ linked (take A.rules A.heads) t → u ≡ table_of G
-    unfolding linked regions_of
-    links_made u p =
-        p ∙ ap₂ linked heads_are in_two
-        ∙ ap (λ (xs : List ℕ). xs ++ (tab 126 (first_rule (heads_of G)) ++ tab 500 (next_rule (heads_of G)))) (take_at (joined front) _ 3518 front_length)
-        ∙ ap₂ (λ (xs ys : List ℕ). joined front ++ (xs ++ ys))
-        (tab_pad 126 G.n (first_rule (heads_of G)) limited.within.few_atoms first_none)
-        (tab_pad 500 (m G) (next_rule (heads_of G)) limited.within.few_rules next_none)
-        ∙ sym (with_ends (pad 126 (tab G.n (first_rule (heads_of G)))) (pad 500 (tab (m G) (next_rule (heads_of G)))))
+    -- the heads of the first rules, as code takes them
+    module _ (n : ℕ) (all : n ≡ A.rules) where
+      taken : take n A.heads ≡ heads_of G
+      taken = ap (λ (k : ℕ). take k A.heads) all ∙ heads_are
+
+      pub links_asked : Unlinked (length (take n A.heads)) (take n A.heads) t
+      links_asked = subst (λ (hs : List ℕ). Unlinked (length hs) hs t) (sym taken) heads_asked
+
+      pub links_made : (u : List ℕ) → u ≡ linked (take n A.heads) t → u ≡ table_of G
+      unfolding linked regions_of
+      links_made u p =
+          p ∙ ap₂ linked taken in_two
+          ∙ ap (λ (xs : List ℕ). xs ++ (tab 126 (first_rule (heads_of G)) ++ tab 500 (next_rule (heads_of G)))) (take_at (joined front) _ 3518 front_length)
+          ∙ ap₂ (λ (xs ys : List ℕ). joined front ++ (xs ++ ys))
+          (tab_pad 126 G.n (first_rule (heads_of G)) limited.within.few_atoms first_none)
+          (tab_pad 500 (m G) (next_rule (heads_of G)) limited.within.few_rules next_none)
+          ∙ sym (with_ends (pad 126 (tab G.n (first_rule (heads_of G)))) (pad 500 (tab (m G) (next_rule (heads_of G)))))

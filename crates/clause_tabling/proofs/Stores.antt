@@ -1,73 +1,56 @@
--- The loops that store a list or copies of a number, and what stores leave of an array with zeros after its list.
---   taken_goes, copies_goes    one turn: what is left to store, without the element stored
---   sets_twice                 two lists stored, one after the other
+-- What stores leave of a list, and of an array with zeros after its list.
+--   part_stored                a list stored as a part
+--   copies_stored              copies of a number stored so
+--   rest_starts, rest_goes, rest_ends    a list stored by a loop
 --   set_pad, sets_pad          x, and the elements of ys, stored after xs
 --   set_behind, sets_behind    the same at a place that is known to be after xs
 -- Assumes nothing.
 use Prim.Native.Nat.{ℕ, suc, ◌+◌, ◌-◌, ◌≤◌, ◌<◌}
-use native.Mathlib.Nat.{add-zero, sub-zero}
+use native.Mathlib.Nat.{add-zero}
 use native.Mathlib.Numerals.{add-one}
 use native.Mathlib.Omega.{arith}
 use mathlib.Core.Path.{◌≡◌, refl, sym, ◌∙◌, ap, ap₂, subst}
-use mathlib.Core.List.{List, [], ◌∷◌, ◌++◌, append-nil}
-use lib.ListN.{length, get_or, set, take, drop, replicate, length-append}
-use lib.Seq.{sets, drop-cons, set_at, append_snoc}
+use mathlib.Core.List.{List, [], ◌∷◌, ◌++◌, append_assoc, append-nil}
+use lib.ListN.{length, get_or, set, take, drop, replicate, length-append, length-drop, length-replicate, drop_of_length-le}
+use lib.Seq.{sets, drop-cons, drop-drop, set_at, append_snoc, length-take-le}
+use borrow.Rule.Slice.PartMut.{put_mid, mid_of}
+use Rattle.std.proofs.lemmas.List.Edits.{sets-eq}
 use Rattle.program.specs.Arrays.{pad}
 
--- ---- one turn of the loop
+-- ---- a part of a list
 
--- the first of the elements that are left is stored
-turn : (ys zs ws xs rest : List ℕ) (k k' x : ℕ) → xs ≡ x ∷ rest → zs ≡ set ys k x → k' ≡ suc k → sets ys k xs ≡ ws → sets zs k' rest ≡ ws
-turn ys zs ws xs rest k k' x e q n inv =
-    ap₂ (λ (zs : List ℕ) (j : ℕ). sets zs j rest) q n ∙ sym (ap (sets ys k) e) ∙ inv
+-- ys written to the cells from a on
+pub part_stored : (xs ys : List ℕ) (a k : ℕ) → length ys ≡ k → a + k ≤ length xs → put_mid a k xs ys ≡ sets xs a ys
+part_stored xs ys a k e h =
+    ap (λ (zs : List ℕ). take a xs ++ (ys ++ zs)) (drop-drop k a xs ∙ ap (λ (j : ℕ). drop (a + j) xs) (sym e))
+    ∙ sym (append_assoc (take a xs) ys (drop (a + length ys) xs))
+    ∙ sym (sets-eq ys xs a (omega (arith, e, h)))
 
-left_is : (size i : ℕ) → i < size → size - i ≡ suc (size - (i + 1))
-left_is size i h = omega (arith, h)
+-- n copies of h written to the cells from a on
+pub copies_stored : (xs ys : List ℕ) (a k n h : ℕ) → k ≡ n → a + n ≤ length xs → ys ≡ replicate (length (mid_of a k xs)) h
+    → put_mid a k xs ys ≡ sets xs a (replicate n h)
+copies_stored xs ys a k n h e fits is =
+    part_stored xs ys a k (ap length whole ∙ length-replicate n h ∙ sym e) (omega (arith, e, fits)) ∙ ap (sets xs a) whole
+  where
+    whole : ys ≡ replicate n h
+    whole = is ∙ ap (λ (i : ℕ). replicate i h) (length-take-le k (drop a xs) (omega (arith, e, fits, length-drop a xs)) ∙ e)
 
-next : (at i : ℕ) → at + (i + 1) ≡ suc (at + i)
-next at i = omega arith
+-- ---- a loop that writes a list: i elements are written, and the others are left
 
-taken_is : (from : List ℕ) (a size i : ℕ) → i < size → a + size ≤ length from
-    → take (size - i) (drop (a + i) from) ≡ get_or from (a + i) 0 ∷ take (size - (i + 1)) (drop (a + (i + 1)) from)
-taken_is from a size i h l =
-    ap₂ (λ (k : ℕ) (xs : List ℕ). take k xs) (left_is size i h) (drop-cons from (a + i) 0 (omega (arith, h, l)))
-    ∙ ap (λ (j : ℕ). get_or from (a + i) 0 ∷ take (size - (i + 1)) (drop j from)) (sym (next a i))
+pub rest_starts : (ys xs : List ℕ) (at : ℕ) → sets ys (at + 0) (drop 0 xs) ≡ sets ys at xs
+rest_starts ys xs at = ap (λ (k : ℕ). sets ys k xs) (add-zero at)
 
-pub taken_goes : (from ys zs ws : List ℕ) (a size at i x : ℕ)
-    → i < size → a + size ≤ length from → x ≡ get_or from (a + i) 0 → zs ≡ set ys (at + i) x
-    → sets ys (at + i) (take (size - i) (drop (a + i) from)) ≡ ws
-    → sets zs (at + (i + 1)) (take (size - (i + 1)) (drop (a + (i + 1)) from)) ≡ ws
-taken_goes from ys zs ws a size at i x h l p q inv =
-    turn ys zs ws _ _ (at + i) (at + (i + 1)) x (taken_is from a size i h l ∙ ap (λ (y : ℕ). y ∷ take (size - (i + 1)) (drop (a + (i + 1)) from)) (sym p)) q (next at i) inv
+pub rest_goes : (ys xs ws : List ℕ) (at i : ℕ) → i < length xs → sets ys (at + i) (drop i xs) ≡ ws
+    → sets (set ys (at + i) (get_or xs i 0)) (at + (i + 1)) (drop (i + 1) xs) ≡ ws
+rest_goes ys xs ws at i h inv =
+    ap₂ (λ (k j : ℕ). sets (set ys (at + i) (get_or xs i 0)) k (drop j xs)) (next at i) (add-one i)
+    ∙ sym (ap (sets ys (at + i)) (drop-cons xs i 0 h)) ∙ inv
+  where
+    next : (at i : ℕ) → at + (i + 1) ≡ suc (at + i)
+    next at i = omega arith
 
-pub copies_goes : (ys zs ws : List ℕ) (size at i x : ℕ)
-    → i < size → zs ≡ set ys (at + i) x
-    → sets ys (at + i) (replicate (size - i) x) ≡ ws
-    → sets zs (at + (i + 1)) (replicate (size - (i + 1)) x) ≡ ws
-copies_goes ys zs ws size at i x h q inv =
-    turn ys zs ws _ _ (at + i) (at + (i + 1)) x (ap (λ (k : ℕ). replicate k x) (left_is size i h)) q (next at i) inv
-
--- before the first turn and after the last
-
-pub taken_starts : (from ys : List ℕ) (a size at : ℕ) → sets ys (at + 0) (take (size - 0) (drop (a + 0) from)) ≡ sets ys at (take size (drop a from))
-taken_starts from ys a size at = rw (add-zero at, add-zero a, sub-zero size)
-
-pub copies_starts : (ys : List ℕ) (size at x : ℕ) → sets ys (at + 0) (replicate (size - 0) x) ≡ sets ys at (replicate size x)
-copies_starts ys size at x = rw (add-zero at, sub-zero size)
-
-none_left : (size i : ℕ) → size ≤ i → size - i ≡ 0
-none_left size i h = omega (arith, h)
-
-pub taken_ends : (from ys ws : List ℕ) (a size at i : ℕ) → size ≤ i → sets ys (at + i) (take (size - i) (drop (a + i) from)) ≡ ws → ys ≡ ws
-taken_ends from ys ws a size at i h inv = sym (ap (λ (k : ℕ). sets ys (at + i) (take k (drop (a + i) from))) (none_left size i h)) ∙ inv
-
-pub copies_ends : (ys ws : List ℕ) (size at i x : ℕ) → size ≤ i → sets ys (at + i) (replicate (size - i) x) ≡ ws → ys ≡ ws
-copies_ends ys ws size at i x h inv = sym (ap (λ (k : ℕ). sets ys (at + i) (replicate k x)) (none_left size i h)) ∙ inv
-
--- ---- two stores, one after the other
-
-pub sets_twice : (xs ys zs us vs : List ℕ) (i j : ℕ) → ys ≡ sets xs i us → zs ≡ sets ys j vs → zs ≡ sets (sets xs i us) j vs
-sets_twice xs ys zs us vs i j p q = q ∙ ap (λ (ws : List ℕ). sets ws j vs) p
+pub rest_ends : (ys xs ws : List ℕ) (at i : ℕ) → length xs ≤ i → sets ys (at + i) (drop i xs) ≡ ws → ys ≡ ws
+rest_ends ys xs ws at i h inv = sym (ap (sets ys (at + i)) (drop_of_length-le xs h)) ∙ inv
 
 -- ---- arrays with zeros after a list
 

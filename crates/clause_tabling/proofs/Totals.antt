@@ -1,7 +1,6 @@
 -- The counts of the table of a stored program.
 --   width_bounded    the counters of at most 126 atoms have from 1 to 7 bits
 --   sizes_bounded    sizes with that width are within the bounds of the variables' numbers
---   counts_made      the counts over plain numbers, from the width, V and C
 --   counts_bounded   what the counts of a stored program are made of is within its bounds
 --   table_made       with the counts the table has all but the links
 --   totals_made      the counts are the totals of its code
@@ -11,7 +10,7 @@ use native.Mathlib.Omega.{arith}
 use mathlib.Core.Path.{◌≡◌, refl, sym, ◌∙◌, ap, ap₂}
 use mathlib.Core.Bool.{So}
 use mathlib.Core.List.{List, [], ◌∷◌, map}
-use lib.ListN.{length, get_or, take, drop, replicate}
+use lib.ListN.{length, replicate}
 use lib.Seq.{sets}
 use Rattle.lists.specs.Lists.{tab, joined}
 use Rattle.meaning.specs.Program.{Program, well_formed}
@@ -22,15 +21,15 @@ use Rattle.encoding.specs.Code.{Code, code_of, m, pair_list, before}
 use Rattle.theory.proofs.Widths.{width_some, width_is, width_enough}
 use Rattle.theory.proofs.Whole.{pairs_whole, clauses_whole}
 use Rattle.theory.proofs.Counts.{count_whole}
-use Rattle.clause_literals.specs.declared.Sizes.{Sizes}
 use Rattle.clause_literals.specs.Sizes.{sizes_of, Bounded}
 use Rattle.program.specs.declared.Program.{Program as Arrays}
 use Rattle.program.specs.Arrays.{pad, kept, decoded}
 use Rattle.clause_tables.specs.declared.Totals.{Totals}
 use Rattle.clause_tables.specs.Tables.{Stored, totals_of, regions_of}
 use Rattle.clause_tables.proofs.Sizes.{atoms_held, count_few, empty_few}
-use Rattle.clause_tabling.specs.Formula.{clauses_for, counts_for}
-use Rattle.clause_tabling.specs.Stages.{with_pairs, with_counts}
+use Rattle.clause_tabling.specs.declared.Tally.{Tally}
+use Rattle.clause_tabling.specs.Formula.{clauses_for, counts_of}
+use Rattle.clause_tabling.specs.Stages.{tally_of, with_pairs, with_counts}
 use Rattle.clause_tabling.proofs.Regions.{sets_region}
 use Rattle.clause_tabling.proofs.Held.{rules_many, heads_held, bodies_held}
 
@@ -61,14 +60,6 @@ width_bounded n w h e = (omega (arith, e, width_some n), omega (arith, e, width_
 pub sizes_bounded : (n m w : ℕ) → n ≤ 126 → m ≤ 500 → w ≡ width n → Bounded (record { n = n; m = m; w = w })
 sizes_bounded n m w h k e = record { atoms = h; rules = k; bits = (width_bounded n w h e).1 }
 
-pub counts_made : (n m o k e w v c : ℕ) → w ≡ width n → v ≡ var_count (sizes_of (record { n = n; m = m; w = w })) k → c ≡ clauses_for n m w o k e
-    → n ∷ m ∷ w ∷ k ∷ v ∷ c ∷ [] ≡ counts_for n m o k e
-counts_made n m o k e w v c pw pv pc = rw (pv, pc, pw)
-
--- the counts of the table, by their names
-abbrev named : Totals → List ℕ
-named t = t.sizes.n ∷ t.sizes.m ∷ t.sizes.w ∷ t.pairs ∷ t.vars ∷ t.clauses ∷ []
-
 module _ (A : Arrays) (s : Stored A) where
   atoms_are : A.atoms ≡ (decoded A).atoms
   unfolding decoded
@@ -82,12 +73,12 @@ module _ (A : Arrays) (s : Stored A) where
   atoms_few = omega (arith, atoms_are, s.limits.few_atoms)
 
   -- the counts are the last that is written but the links
-  counts_laid : (t : Totals) → t ≡ totals_of (code_of (decoded A)) → sets (with_pairs A) 0 (named t) ≡ with_counts A
+  counts_laid : (t : Totals) → t ≡ totals_of (code_of (decoded A)) → sets (with_pairs A) 0 (counts_of t) ≡ with_counts A
   unfolding with_pairs with_counts regions_of totals_of
   counts_laid t e =
-      sets_region [] (replicate 16 0) (A.heads ∷ A.bodies ∷ ks ∷ xs ∷ ys ∷ A.starts ∷ zs) (named t) 0 0 refl (omega arith)
+      sets_region [] (replicate 16 0) (A.heads ∷ A.bodies ∷ ks ∷ xs ∷ ys ∷ A.starts ∷ zs) (counts_of t) 0 0 refl (omega arith)
       ∙ λ i. joined
-      (pad 16 (named (e i)) ∷ (s.arrays_are i).heads ∷ (s.arrays_are i).bodies ∷ ks ∷ xs ∷ ys ∷ (s.arrays_are i).starts ∷ zs)
+      (pad 16 (counts_of (e i)) ∷ (s.arrays_are i).heads ∷ (s.arrays_are i).bodies ∷ ks ∷ xs ∷ ys ∷ (s.arrays_are i).starts ∷ zs)
     where
       G : Code
       G = code_of (decoded A)
@@ -105,36 +96,31 @@ module _ (A : Arrays) (s : Stored A) where
       zs : List (List ℕ)
       zs = replicate 126 0 ∷ replicate 500 0 ∷ []
 
-  module _ (k e : ℕ) (ek : k ≡ pair_count (decoded A)) (ee : e ≡ empty_bodies (decoded A)) where
-    pub counts_bounded : (A.atoms ≤ 126) × (A.rules ≤ 500) × (A.held ≤ 500) × (k ≤ 500) × (e ≤ A.rules)
+  pub table_made : (t : Totals) (table table' : List ℕ) → t ≡ totals_of (code_of (decoded A)) → table ≡ with_pairs A → table' ≡ sets table 0 (counts_of t)
+      → table' ≡ with_counts A
+  table_made t table table' e p q = q ∙ ap (λ (x : List ℕ). sets x 0 (counts_of t)) p ∙ counts_laid t e
+
+  -- from the tally of all rules
+  module _ (all : Tally) (is : all ≡ tally_of (decoded A)) where
+    pairs_all : all.pairs ≡ pair_count (decoded A)
+    pairs_all = ap (λ (x : Tally). x.pairs) is
+
+    empty_all : all.empty ≡ empty_bodies (decoded A)
+    empty_all = ap (λ (x : Tally). x.empty) is
+
+    pub counts_bounded : (A.atoms ≤ 126) × (A.rules ≤ 500) × (A.held ≤ 500) × (all.pairs ≤ 500) × (all.empty ≤ A.rules)
     counts_bounded = (
       atoms_few,
       (heads_held A s).few,
       (bodies_held A s).few,
-      omega (arith, ek, count_few (decoded A) s.limits),
-      omega (arith, ee, rules_many A, empty_few (decoded A)),
+      omega (arith, pairs_all, count_few (decoded A) s.limits),
+      omega (arith, empty_all, rules_many A, empty_few (decoded A)),
     )
 
-    -- the counts of the code by their names
-    abbrev made : Totals
-    made =
-        let S : Sizes = record { n = A.atoms; m = A.rules; w = width A.atoms } in
-        record { sizes = S; pairs = k; vars = var_count (sizes_of S) k; clauses = clauses_for A.atoms A.rules (width A.atoms) A.held k e }
-
-    made_is : made ≡ totals_of (code_of (decoded A))
-    made_is =
-        by_numbers (decoded A) s.limits.all_atoms A.atoms A.rules (width A.atoms) A.held k e
-        atoms_are (sym (rules_many A)) (ap width atoms_are) held_is ek ee
-
-    pub table_made : (t t' cs : List ℕ) → cs ≡ counts_for A.atoms A.rules A.held k e → t ≡ with_pairs A → t' ≡ sets t 0 (take 6 (drop 0 cs))
-        → t' ≡ with_counts A
-    table_made t t' cs c p q = q ∙ ap₂ (λ (t cs : List ℕ). sets t 0 (take 6 cs)) p c ∙ counts_laid made made_is
-
-    pub totals_made : (cs : List ℕ) → cs ≡ counts_for A.atoms A.rules A.held k e → (v c : ℕ) → v ≡ get_or cs 4 0 → c ≡ get_or cs 5 0
-        → ◌≡◌ {A = Totals}
-        (record { sizes = record { n = get_or cs 0 0; m = get_or cs 1 0; w = get_or cs 2 0 }; pairs = get_or cs 3 0; vars = v; clauses = c })
+    pub totals_made : (w v c : ℕ) → w ≡ width A.atoms → v ≡ var_count (sizes_of (record { n = A.atoms; m = A.rules; w = w })) all.pairs
+        → c ≡ clauses_for A.atoms A.rules w A.held all.pairs all.empty
+        → ◌≡◌ {A = Totals} (record { sizes = record { n = A.atoms; m = A.rules; w = w }; pairs = all.pairs; vars = v; clauses = c })
         (totals_of (code_of (decoded A)))
-    totals_made cs e v c pv pc = ap₂ (named_by cs) pv pc ∙ ap (λ (cs : List ℕ). named_by cs (get_or cs 4 0) (get_or cs 5 0)) e ∙ made_is
-      where
-        named_by : List ℕ → ℕ → ℕ → Totals
-        named_by cs v c = record { sizes = record { n = get_or cs 0 0; m = get_or cs 1 0; w = get_or cs 2 0 }; pairs = get_or cs 3 0; vars = v; clauses = c }
+    totals_made w v c ew ev ec =
+        rw (ev, ec) (by_numbers (decoded A) s.limits.all_atoms A.atoms A.rules w A.held all.pairs all.empty
+        atoms_are (sym (rules_many A)) (ew ∙ ap width atoms_are) held_is pairs_all empty_all)

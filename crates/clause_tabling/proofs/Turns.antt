@@ -1,15 +1,15 @@
 -- The loop over the rules that writes the pairs into the table.
---   Filled A r table count empty     the table and the counts after the first r rules of the program that A holds
+--   Filled A r table t    the table and the tally after the first r rules of the program that A holds
 --   filled_start      before the first rule
 --   filled_next       one turn
 --   filled_end        after the last rule and the last number, the table has all pairs
 -- Assumes nothing.
-use Prim.Native.Nat.{ℕ, suc, ◌+◌, ◌-◌, ◌*◌, ◌≤◌, ◌<◌}
+use Prim.Native.Nat.{ℕ, suc, ◌+◌, ◌*◌, ◌≤◌, ◌<◌}
 use native.Mathlib.Numerals.{add-one}
 use native.Mathlib.Omega.{arith}
-use mathlib.Core.Path.{◌≡◌, refl, sym, ◌∙◌, ap, ap₂, subst, fun_ext}
+use mathlib.Core.Path.{◌≡◌, refl, sym, ◌∙◌, ap, ap₂, fun_ext}
 use mathlib.Core.List.{List, [], ◌∷◌, ◌++◌, map, map-append}
-use lib.ListN.{length, get_or, set, take, drop, replicate, length-map, length-replicate}
+use lib.ListN.{length, get_or, set, replicate, length-map, length-replicate}
 use lib.Seq.{sets, length-sets}
 use Rattle.lists.specs.Lists.{tab, each, sum}
 use Rattle.lists.proofs.Tables.{sum_ext, length_tab, length_each}
@@ -18,17 +18,17 @@ use Rattle.encoding.specs.Width.{width}
 use Rattle.encoding.specs.Clauses.{Pair, pairs, pairs_with, pairs_before}
 use Rattle.theory.proofs.Whole.{pairs_whole, before_whole}
 use Rattle.program.specs.declared.Program.{Program as Arrays}
-use Rattle.program.specs.Arrays.{pad, start_of, decoded}
+use Rattle.program.specs.Arrays.{pad, list_in, decoded}
 use Rattle.program.proofs.Pads.{length_pad}
 use Rattle.text.specs.Limits.{Limits}
 use Rattle.clause_tables.specs.Tables.{Stored}
 use Rattle.clause_tables.proofs.Sizes.{size_of}
-use Rattle.clause_tabling.specs.Formula.{when_none}
-use Rattle.clause_tabling.specs.Stages.{laid, with_arrays, with_pairs}
+use Rattle.clause_tabling.specs.declared.Tally.{Tally}
+use Rattle.clause_tabling.specs.Stages.{counted, laid, with_arrays, with_pairs}
 use Rattle.clause_tabling.proofs.Stores.{set_behind, sets_behind}
 use Rattle.clause_tabling.proofs.Held.{rules_many}
-use Rattle.clause_tabling.proofs.Kept.{Here, here, size_is}
-use Rattle.clause_tabling.proofs.Sums.{Summed, summed_start, summed_next, few}
+use Rattle.clause_tabling.proofs.Kept.{Here, here}
+use Rattle.clause_tabling.proofs.Sums.{Summed, summed_start, body_size, summed_next, few}
 use Rattle.clause_tabling.proofs.Laid.{set_before, sets_partners, sets_owners}
 
 -- the pairs of rule r
@@ -42,11 +42,11 @@ numbers_to P r = pad 501 (tab r (pairs_before P))
 abbrev pub atoms_to : Program → ℕ → (Pair → ℕ) → List ℕ
 atoms_to P r g = pad 500 (map g (each r (row_of P)))
 
-pub record Filled (A : Arrays) (r : ℕ) (table : List ℕ) (count empty : ℕ) : Type 0 where
-  pub sums : Summed A r count empty
+pub record Filled (A : Arrays) (r : ℕ) (table : List ℕ) (t : Tally) : Type 0 where
+  pub sums : Summed A r t
   pub table_is : table ≡ laid A (numbers_to (decoded A) r) (atoms_to (decoded A) r (λ p. p.body)) (atoms_to (decoded A) r (λ p. p.head))
 
-pub filled_start : (A : Arrays) (table : List ℕ) → table ≡ with_arrays A → Filled A 0 table 0 0
+pub filled_start : (A : Arrays) (table : List ℕ) → table ≡ with_arrays A → Filled A 0 table (record { pairs = 0; empty = 0 })
 unfolding with_arrays
 filled_start A table e = record { sums = summed_start A; table_is = e }
 
@@ -82,7 +82,7 @@ module _ (P : Program) (l : Limits P) (r : ℕ) where
         sets_behind (map g (each r (row_of P))) _ ys 500 (sum r (size_of P)) refl (row_count g) (omega (arith, e, few P l r h))
         ∙ ap (pad 500) (sym (map-append g (each r (row_of P)) (row_of P (suc r)) ∙ ap (λ (xs : List ℕ). map g (each r (row_of P)) ++ xs) y))
 
-module _ (A : Arrays) (s : Stored A) (r : ℕ) (table : List ℕ) (count empty : ℕ) (f : Filled A r table count empty) where
+module _ (A : Arrays) (s : Stored A) (r : ℕ) (table : List ℕ) (t : Tally) (f : Filled A r table t) where
   abbrev P : Program
   P = decoded A
 
@@ -102,9 +102,9 @@ module _ (A : Arrays) (s : Stored A) (r : ℕ) (table : List ℕ) (count empty :
   abbrev hs : List ℕ
   hs = replicate (size_of P (suc r)) (rule_at P.rules (suc r)).head
 
-  number_next : set table (1016 + r) count ≡ laid A (numbers_to P (suc r)) (partners r) (owners r)
+  number_next : set table (1016 + r) t.pairs ≡ laid A (numbers_to P (suc r)) (partners r) (owners r)
   number_next =
-      ap₂ (λ (t : List ℕ) (k : ℕ). set t (1016 + r) k) f.table_is f.sums.count_is
+      ap₂ (λ (t : List ℕ) (k : ℕ). set t (1016 + r) k) f.table_is f.sums.pairs_sum
       ∙ set_before A s (numbers_to P r) (partners r) (owners r) (numbers_length P s.limits r f.sums.in_rules) r K
       (omega (arith, f.sums.in_rules, s.limits.few_rules))
       ∙ ap (λ (ks : List ℕ). laid A ks (partners r) (owners r)) (numbers_next P s.limits r f.sums.in_rules)
@@ -132,37 +132,34 @@ module _ (A : Arrays) (s : Stored A) (r : ℕ) (table : List ℕ) (count empty :
       as_many : length hs ≡ size_of P (suc r)
       as_many = length-replicate (size_of P (suc r)) (rule_at P.rules (suc r)).head
 
-  pub filled_end : (m : ℕ) (table' : List ℕ) → r ≡ m → m ≡ length P.rules → table' ≡ set table (1016 + m) count → table' ≡ with_pairs A
+  pub filled_end : (m : ℕ) → r ≡ A.rules → m ≡ A.rules → set table (1016 + m) t.pairs ≡ with_pairs A
   unfolding with_pairs pairs
-  filled_end m table' q n b =
-      b ∙ ap (λ (k : ℕ). set table (1016 + k) count) (sym q) ∙ number_next ∙ ap (λ (k : ℕ). laid A (numbers_to P (suc k)) (partners k) (owners k)) (q ∙ n)
+  filled_end m q n =
+      ap (λ (k : ℕ). set table (1016 + k) t.pairs) (n ∙ sym q) ∙ number_next
+      ∙ ap (λ (k : ℕ). laid A (numbers_to P (suc k)) (partners k) (owners k)) (q ∙ sym (rules_many A))
       ∙ ap₂ (λ (f : ℕ → ℕ) (ps : List Pair). laid A (pad 501 (tab (suc (length P.rules)) f))
       (pad 500 (map (λ p. p.body) ps)) (pad 500 (map (λ p. p.head) ps)))
       (fun_ext (λ i. sym (before_whole P (width P.atoms) i))) (sym (pairs_whole P (width P.atoms)))
 
   -- one turn of the code
-  pub filled_next : (m : ℕ) → m ≡ length P.rules → r < m → (table₁ table₂ : List ℕ) (size a hd a' size' count' x : ℕ)
-      → table₁ ≡ set table (1016 + r) count
-      → size ≡ start_of A (2 * r + 1) - start_of A (2 * r) → a ≡ start_of A (2 * r) → hd ≡ get_or A.heads r 0
-      → a' ≡ a → size' ≡ size → count' ≡ count
-      → table₂ ≡ sets (sets table₁ (1517 + count') (take size' (drop a' A.bodies))) (2017 + count') (replicate size' hd)
-      → x ≡ when_none size
-      → Filled A (r + 1) table₂ (count + size) (empty + x)
-  filled_next m n h table₁ table₂ size a hd a' size' count' x e₁ es ea eh wa ws wc e₂ ex =
+  pub filled_next : (h : r < A.rules) (body table' : List ℕ) (k : ℕ) → body ≡ list_in A (2 * r) → k ≡ t.pairs
+      → table' ≡ sets (sets (set table (1016 + r) t.pairs) (1517 + k) body) (2017 + k) (replicate (length body) (get_or A.heads r 0))
+      → Filled A (r + 1) table' (counted t (length body))
+  filled_next h body table' k e ek et =
       record {
-        sums = summed_next A s r count empty f.sums m n h size es x ex;
-        table_is = e₂ ∙ same ∙ pairs_next at.is_rule ∙ ap (λ (k : ℕ). laid A (numbers_to P k) (partners k) (owners k)) (sym (add-one r));
+        sums = summed_next A s r t f.sums h body e;
+        table_is = et ∙ same ∙ pairs_next at.is_rule ∙ ap (λ (k : ℕ). laid A (numbers_to P k) (partners k) (owners k)) (sym (add-one r));
       }
     where
       at : Here A P r
-      at = here A s r (subst (λ (k : ℕ). r < k) (n ∙ rules_many A) h)
+      at = here A s r h
 
-      bodies : take size' (drop a' A.bodies) ≡ bs
-      bodies = ap₂ (λ (k j : ℕ). take k (drop j A.bodies)) (ws ∙ es) (wa ∙ ea) ∙ at.positive_is
+      bodies : body ≡ bs
+      bodies = e ∙ at.positive_is
 
-      heads : replicate size' hd ≡ hs
-      heads = ap₂ (λ (k y : ℕ). replicate k y) (ws ∙ es ∙ size_is A P r at) (eh ∙ at.head_is)
+      heads : replicate (length body) (get_or A.heads r 0) ≡ hs
+      heads = ap₂ (λ (k y : ℕ). replicate k y) (body_size A s r t f.sums h body e) at.head_is
 
-      same : sets (sets table₁ (1517 + count') (take size' (drop a' A.bodies))) (2017 + count') (replicate size' hd)
+      same : sets (sets (set table (1016 + r) t.pairs) (1517 + k) body) (2017 + k) (replicate (length body) (get_or A.heads r 0))
           ≡ sets (sets (laid A (numbers_to P (suc r)) (partners r) (owners r)) (1517 + K) bs) (2017 + K) hs
-      same = λ t. sets (sets ((e₁ ∙ number_next) t) (1517 + (wc ∙ f.sums.count_is) t) (bodies t)) (2017 + (wc ∙ f.sums.count_is) t) (heads t)
+      same = λ i. sets (sets (number_next i) (1517 + (ek ∙ f.sums.pairs_sum) i) (bodies i)) (2017 + (ek ∙ f.sums.pairs_sum) i) (heads i)

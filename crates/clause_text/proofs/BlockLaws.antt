@@ -1,5 +1,4 @@
 -- The groups whose blocks are taken as a whole.
---   blockwise_four, blockwise_other    by the tests that code makes
 --   blockwise_is, blockwise_not_five   they are 4 and 5
 -- Assumes nothing.
 use Prim.Native.Nat.{ℕ}
@@ -7,14 +6,8 @@ use mathlib.Core.Path.{◌≡◌, refl}
 use mathlib.Core.Bool.{Bool, true, false, cond}
 use mathlib.Core.Logic.{◌⊎◌, inl, inr}
 use lib.Dec.{eqb}
-use borrow.Author.Tests.{eq-eqb, ne_eqb, eqb-true}
+use borrow.Author.Tests.{eqb-true}
 use Rattle.clause_text.specs.Blocks.{is_blockwise}
-
-pub blockwise_four : (g : ℕ) → g ≡ 4 → true ≡ is_blockwise g
-blockwise_four g e = rw (eq-eqb g 4 e)
-
-pub blockwise_other : (g : ℕ) → (g ≡ 4 → ⊥) → eqb g 5 ≡ is_blockwise g
-blockwise_other g e = rw (ne_eqb g 4 e)
 
 pub blockwise_is : (g : ℕ) → is_blockwise g ≡ true → (g ≡ 4) ⊎ (g ≡ 5)
 blockwise_is g e = go (eqb g 4) refl e

@@ -32,10 +32,11 @@ fn put_slot(x: i32, buf: &mut [u8]) -> usize
     if x == 0 {
         return 0;
     }
-    put_literal(x, &mut *buf)
+    put_literal(x, buf)
 }
 
 // How many bytes the line of clause y of block i of item a of group g has.
+// Kept as a loop beside that of `put_clause`: one for both takes a closure that holds the buffer, and contracts for what its calls wrote.
 pub fn clause_length(table: &[u16], g: u16, a: u16, i: u16, y: u16) -> usize
     requires { (Ready table.now) × (At (code_in table.now) g a i y) }
     ensures { result ≡ length (line_text (clause_at (code_in table.now) g a i y)) }
@@ -67,8 +68,8 @@ pub fn put_clause(table: &[u16], g: u16, a: u16, i: u16, y: u16, buf: &mut [u8])
         to += put_slot(x, &mut buf[to..]);
         l = past_empty(table, t.sizes.m, g, a, i, l + 1);
     }
-    buf[to] = 48;
-    buf[to + 1] = 10;
+    buf[to] = b'0';
+    buf[to + 1] = b'\n';
     to + 2
 }
 
@@ -76,8 +77,5 @@ pub fn put_clause(table: &[u16], g: u16, a: u16, i: u16, y: u16, buf: &mut [u8])
 pub fn is_blockwise(g: u16) -> bool
     ensures { result ≡ is_blockwise g }
 {
-    if g == 4 {
-        return true;
-    }
-    g == 5
+    g == 4 || g == 5
 }

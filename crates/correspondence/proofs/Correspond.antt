@@ -47,16 +47,16 @@ use Rattle.truth_clauses.specs.Truth.{value_in}
 use Rattle.level_lists.specs.Bytes.{set_in}
 use Rattle.call_results.specs.Results.{var_total}
 use Rattle.call_results.proofs.ValueBytes.{value_same}
-use Rattle.call_check_rows.specs.declared.CheckVerdict.TheVariants.{Model}
 use Rattle.call_check_rows.specs.Check.{check_answer, check_assignment, check_levels}
 use Rattle.call_check_rows.specs.Rows.{Offers, assumed_number, true_number, levels_of, clause_of, clause_number, EachTrue, Shows, ModelWritten}
 use Rattle.call_check_rows.proofs.Spots.{offers_unique}
 use Rattle.call_check_rows.proofs.Verdicts.{model_offers, true_accepted}
 use Rattle.call_check_rows.proofs.Buffers.{shows_writes}
-use Rattle.call_fill_rows.specs.declared.FillVerdict.TheVariants.{Filled}
 use Rattle.call_fill_rows.specs.FillOut.{fill_answer, fill_assignment, fill_levels}
 use Rattle.call_fill_rows.proofs.Written.{stable_fills}
 use Rattle.correspondence.specs.Accepted.{AcceptedAssignment, Room, CheckWrites, set_bytes, SetOf}
+use Rattle.call_check_rows.specs.Verdict.{model_shown}
+use Rattle.call_fill_rows.specs.Verdict.{filled_out}
 
 -- ---- clauses, one by one and all together
 
@@ -90,7 +90,7 @@ module _ (t : List ℕ) (P : Program) (A : Admitted t P) where
   -- ---- an answer that is accepted
 
   module _ (u : List ℕ) (xs : List Spotted) (o : Offers u xs) where
-    shows : (a l k h c : ℕ) → check_answer t u a l ≡ Model k h c → Shows t u a l P xs
+    shows : (a l k h c : ℕ) → check_answer t u a l ≡ model_shown k h c → Shows t u a l P xs
     shows a l k h c e = go (model_offers t u a l k h c e)
       where
         go : ((Q : Program) × (ys : List Spotted) × Shows t u a l Q ys) → Shows t u a l P xs
@@ -156,13 +156,13 @@ module _ (t : List ℕ) (P : Program) (A : Admitted t P) where
     pub check_writes : (b l : List ℕ) → Room P b l → CheckWrites t P bs X b l
     check_writes b l r = go (shows_writes t X.answer b l P X.literals (with_room X.answer X.literals X.offers its_shows (length b) (length l) r.assignment r.levels))
       where
-        go : ((k : ℕ) × (h : ℕ) × (c : ℕ) × (check_answer t X.answer (length b) (length l) ≡ Model k h c) × ModelWritten t X.answer b l P X.literals k h c)
+        go : ((k : ℕ) × (h : ℕ) × (c : ℕ) × (check_answer t X.answer (length b) (length l) ≡ model_shown k h c) × ModelWritten t X.answer b l P X.literals k h c)
             → CheckWrites t P bs X b l
         go (k, h, c, e, W) =
             record {
               answer_is =
-                  e ∙ ap (Model k h) W.assumed_is
-                  ∙ ap₂ (λ (x y : ℕ). Model x y (assumed_number P X.literals)) (W.count_is ∙ count_is)
+                  e ∙ ap (model_shown k h) W.assumed_is
+                  ∙ ap₂ (λ (x y : ℕ). model_shown x y (assumed_number P X.literals)) (W.count_is ∙ count_is)
                   (W.highest_is ∙ highest_same n (levels_of P X.literals) (level P M) level_is);
               assignment_is = W.assignment_is ∙ ap (λ (cs : List Bool). value_bytes cs ++ drop (var_total P) b) X.its_values;
               levels_are = W.levels_are ∙ ap (λ (ls : List ℕ). ls ++ drop n l) (tab_ext n (levels_of P X.literals) (level P M) level_is);
@@ -170,14 +170,14 @@ module _ (t : List ℕ) (P : Program) (A : Admitted t P) where
 
     -- and filling out the set of its true atoms does the same
     pub fill_agrees : (s b l : List ℕ) → SetOf n s M → Room P b l
-        → (fill_answer t s (length b) (length l) ≡ Filled (sum n (λ a. cond (M a) 1 0)) (highest n (level P M)))
+        → (fill_answer t s (length b) (length l) ≡ filled_out (sum n (λ a. cond (M a) 1 0)) (highest n (level P M)))
         × (fill_assignment t s b (length l) ≡ check_assignment t X.answer b (length l))
         × (fill_levels t s (length b) l ≡ check_levels t X.answer (length b) l)
     fill_agrees s b l S r =
         let σ = subst (Stable P) (sym S.its_atoms) accepted_stable.0 in
         let F = stable_fills t s b l P A (record { room = r.assignment; levels_room = r.levels; sized = S.sized; bytes = S.bytes; stable = σ }) in
         let C = check_writes b l r in (
-          F.0 ∙ ap (λ (Y : Atoms). Filled (sum n (λ a. cond (Y a) 1 0)) (highest n (level P Y))) S.its_atoms,
+          F.0 ∙ ap (λ (Y : Atoms). filled_out (sum n (λ a. cond (Y a) 1 0)) (highest n (level P Y))) S.its_atoms,
           F.1.assignment_is ∙ ap (λ (Y : Atoms). value_bytes (fill P w Y) ++ drop (var_total P) b) S.its_atoms ∙ ap (λ (cs : List Bool). value_bytes cs ++ drop (var_total P) b) (sym accepted_stable.1) ∙ sym C.assignment_is,
           F.1.levels_is ∙ ap (λ (Y : Atoms). tab n (level P Y) ++ drop n l) S.its_atoms ∙ sym C.levels_are,
         )

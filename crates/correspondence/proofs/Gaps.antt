@@ -30,16 +30,16 @@ use Rattle.truth_clauses.specs.Truth.{value_in}
 use Rattle.level_lists.specs.Bytes.{set_in}
 use Rattle.call_results.specs.Results.{level_byte, var_total}
 use Rattle.call_results.proofs.ValueBytes.{value_same, atoms_within, value_here, level_here}
-use Rattle.call_check_rows.specs.declared.CheckVerdict.TheVariants.{Model}
 use Rattle.call_check_rows.specs.Check.{check_answer, check_assignment, check_levels}
 use Rattle.call_check_rows.specs.Rows.{Shows}
 use Rattle.call_check_rows.proofs.Verdicts.{model_offers}
 use Rattle.call_check_rows.proofs.Buffers.{count_in, highest_in}
-use Rattle.call_fill_rows.specs.declared.FillVerdict.TheVariants.{Filled}
 use Rattle.call_fill_rows.specs.FillOut.{fill_answer, fill_assignment, fill_levels}
 use Rattle.call_fill_rows.specs.Rows.{Fills}
 use Rattle.call_fill_rows.proofs.Written.{fill_accepted}
 use Rattle.correspondence.proofs.Correspond.{shows_accepted, accepted_true, accepted_stable, check_writes}
+use Rattle.call_check_rows.specs.Verdict.{model_shown}
+use Rattle.call_fill_rows.specs.Verdict.{filled_out}
 
 -- bs are the values of the stable model M: c holds them and m the level numbers, and after them any bytes
 module _ (P : Program) (form : So (well_formed P)) (M : Atoms) (σ : Stable P M) (bs : List Bool) (size : length bs ≡ var_total P) (has : true_atoms P bs ≡ M) where
@@ -75,7 +75,7 @@ module _ (P : Program) (form : So (well_formed P)) (M : Atoms) (σ : Stable P M)
 abbrev InBytes : (t c m : List ℕ) → ℕ → ℕ → Type 0
 InBytes t c m k h = (P : Program) × Admitted t P × WithoutGaps (set_in P.atoms c) (level_byte m) k h
 
-pub check_gaps : (t u b l : List ℕ) (k h c : ℕ) → check_answer t u (length b) (length l) ≡ Model k h c
+pub check_gaps : (t u b l : List ℕ) (k h c : ℕ) → check_answer t u (length b) (length l) ≡ model_shown k h c
     → InBytes t (check_assignment t u b (length l)) (check_levels t u (length b) l) k h
 check_gaps t u b l k h c e = go (model_offers t u (length b) (length l) k h c e)
   where
@@ -91,7 +91,7 @@ check_gaps t u b l k h c e = go (model_offers t u (length b) (length l) k h c e)
               C.assignment_is C.levels_are (ap count_in (sym e ∙ C.answer_is)) (ap highest_in (sym e ∙ C.answer_is)),
         )
 
-pub fill_gaps : (t s b l : List ℕ) (k h : ℕ) → fill_answer t s (length b) (length l) ≡ Filled k h
+pub fill_gaps : (t s b l : List ℕ) (k h : ℕ) → fill_answer t s (length b) (length l) ≡ filled_out k h
     → InBytes t (fill_assignment t s b (length l)) (fill_levels t s (length b) l) k h
 fill_gaps t s b l k h e = go (fill_accepted t s b l k h e)
   where

@@ -21,8 +21,6 @@ use Rattle.encoding.specs.Clauses.{sizes}
 use Rattle.encoding.specs.Fill.{true_atoms, counter}
 use Rattle.theory.proofs.Base as Base
 use Rattle.digits.specs.Bytes.{line_text}
-use Rattle.reader.specs.declared.ReadResult.{ReadResult}
-use Rattle.reader.specs.declared.ReadVerdict.TheVariants.{Accepted}
 use Rattle.reader.specs.Verdict.{read_of}
 use Rattle.text.specs.Limits.{Admitted}
 use Rattle.call_laws.proofs.Texts.{one_admitted}
@@ -47,6 +45,8 @@ use Rattle.call_fill_rows.specs.Rows.{FillAccepts, Fills}
 use Rattle.call_fill_rows.proofs.Written.{fill_accepted, stable_fills}
 use Rattle.correspondence.specs.Accepted.{AcceptedAssignment, Room}
 use Rattle.correspondence.proofs.Correspond.{accepted_stable, accepted_counter, check_writes}
+use Rattle.reader.specs.declared.ReadResult.{ReadResult}
+use Rattle.std.specs.Prelude.{Ok}
 
 module _ (t : List ℕ) (P : Program) (A : Admitted t P) where
   abbrev n : ℕ
@@ -66,7 +66,7 @@ module _ (t : List ℕ) (P : Program) (A : Admitted t P) where
 
   -- ---- lines
 
-  accepted : (read_of t).verdict ≡ Accepted
+  accepted : (read_of t).verdict ≡ Ok tt
   accepted = ap (λ (x : ReadResult). x.verdict) (admitted_answer t P A)
 
   same : (Q : Program) → Admitted t Q → Q ≡ P

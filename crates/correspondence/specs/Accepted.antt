@@ -13,10 +13,10 @@ use Rattle.encoding.specs.Fill.{true_atoms}
 use Rattle.answer_form.specs.Pieces.{Spotted}
 use Rattle.answer_offers.specs.Offered.{value_bytes, values_of}
 use Rattle.level_lists.specs.Bytes.{set_in}
-use Rattle.call_check_rows.specs.declared.CheckVerdict.TheVariants.{Model}
 use Rattle.call_results.specs.Results.{var_total}
 use Rattle.call_check_rows.specs.Check.{check_answer, check_assignment, check_levels}
 use Rattle.call_check_rows.specs.Rows.{Offers, assumed_number}
+use Rattle.call_check_rows.specs.Verdict.{model_shown}
 
 pub record AcceptedAssignment (t : List ℕ) (P : Program) (bs : List Bool) : Type 0 where
   pub answer : List ℕ
@@ -27,7 +27,7 @@ pub record AcceptedAssignment (t : List ℕ) (P : Program) (bs : List Bool) : Ty
   pub count : ℕ
   pub highest : ℕ
   pub assumed : ℕ
-  pub accepted : check_answer t answer (var_total P) P.atoms ≡ Model count highest assumed
+  pub accepted : check_answer t answer (var_total P) P.atoms ≡ model_shown count highest assumed
 
 pub record Room (P : Program) (b l : List ℕ) : Type 0 where
   pub assignment : var_total P ≤ length b
@@ -37,7 +37,7 @@ pub record Room (P : Program) (b l : List ℕ) : Type 0 where
 -- values and the level numbers; the bytes after them stay
 pub record CheckWrites (t : List ℕ) (P : Program) (bs : List Bool) (X : AcceptedAssignment t P bs) (b l : List ℕ) : Type 0 where
   pub answer_is : check_answer t X.answer (length b) (length l)
-      ≡ Model (sum P.atoms (λ a. cond (true_atoms P bs a) 1 0)) (highest_of P.atoms (level P (true_atoms P bs))) (assumed_number P X.literals)
+      ≡ model_shown (sum P.atoms (λ a. cond (true_atoms P bs a) 1 0)) (highest_of P.atoms (level P (true_atoms P bs))) (assumed_number P X.literals)
   pub assignment_is : check_assignment t X.answer b (length l) ≡ value_bytes bs ++ drop (var_total P) b
   pub levels_are : check_levels t X.answer (length b) l ≡ tab P.atoms (level P (true_atoms P bs)) ++ drop P.atoms l
 

@@ -1,54 +1,62 @@
 -- Numbers below 10,000 by their digits.
---   four, three, two, one           a number of so many digits: its text, their count as code finds it, its bytes store by store, and their room
---   digits_short                    the digits and their space are at most 5 bytes
---   room_at                         where there is room for m bytes, there is for each of them
---   digits_are                      the digits from the hundreds and the rest
---   digits_text_lem                 they are the number's text
+--   decimal_one, decimal_two, decimal_three, decimal_four    the digits of a number of so many digits
+--   count_is                                                 how many digits it has
+--   digits_are                                               the digits from the hundreds and the rest
+--   text_four, text_three, text_two, text_one                the text of digits, by their count
+--   digits_short                                             the digits and their space are at most 5 bytes
+--   digits_text_lem                                          they are the number's text
 -- Assumes nothing.
 use Prim.Native.Nat.{ℕ, ◌+◌, ◌/◌, ◌%◌, ◌≤◌, ◌<◌}
 use native.Mathlib.Omega.{arith}
-use mathlib.Core.Path.{◌≡◌, sym, ◌∙◌, ap, ap₂, subst}
+use mathlib.Core.Path.{◌≡◌, sym, ◌∙◌, ap, ap₂}
 use mathlib.Core.Bool.{Bool, true, false, cond}
 use mathlib.Core.Logic.{⊎_elim}
 use mathlib.Core.List.{List, [], ◌∷◌, ◌++◌}
 use lib.Dec.{eqb}
-use lib.ListN.{length, set}
+use lib.ListN.{length}
 use borrow.Author.Tests.{eq-eqb, ne_eqb, lt-ltb, le-ltb}
 use Rattle.lists.proofs.Tests.{le_or_lt}
 use Rattle.text.specs.Decimal.{decimal}
 use Rattle.text.proofs.Decimals.{decimal_small, decimal_large}
 use Rattle.digits.specs.declared.Digits.{Digits}
 use Rattle.digits.specs.Digits.{digit_count, digits_of, digits_text}
-use Rattle.digits.specs.Bytes.{Wrote}
-use Rattle.digits.proofs.Wrote.{wrote_none, wrote_byte, wrote_as}
+use Rattle.digits.proofs.Lengths.{length_small, decimal_length}
 
 -- ---- how many digits
 
 module _ (n : ℕ) where
-  pub size_four : 999 < n → 4 ≡ digit_count n
+  size_four : 999 < n → 4 ≡ digit_count n
   unfolding digit_count
   size_four h = rw (lt-ltb 999 n h)
 
-  pub size_three : n ≤ 999 → 99 < n → 3 ≡ digit_count n
+  size_three : n ≤ 999 → 99 < n → 3 ≡ digit_count n
   unfolding digit_count
   size_three h k = rw (le-ltb 999 n h, lt-ltb 99 n k)
 
-  pub size_two : n ≤ 999 → n ≤ 99 → 9 < n → 2 ≡ digit_count n
+  size_two : n ≤ 999 → n ≤ 99 → 9 < n → 2 ≡ digit_count n
   unfolding digit_count
   size_two h k l = rw (le-ltb 999 n h, le-ltb 99 n k, lt-ltb 9 n l)
 
-  pub size_one : n ≤ 999 → n ≤ 99 → n ≤ 9 → 1 ≡ digit_count n
+  size_one : n ≤ 999 → n ≤ 99 → n ≤ 9 → 1 ≡ digit_count n
   unfolding digit_count
   size_one h k l = rw (le-ltb 999 n h, le-ltb 99 n k, le-ltb 9 n l)
 
-  pub digits_are : {a b c d e : ℕ} → a ≡ 48 + n / 100 / 10 → b ≡ 48 + n / 100 % 10 → c ≡ 48 + n % 100 / 10 → d ≡ 48 + n % 100 % 10 → e ≡ digit_count n
-      → record { a = a; b = b; c = c; d = d; count = e } ≡ digits_of n
-  digits_are p q r s t = λ i. record { a = (p ∙ first n) i; b = q i; c = (r ∙ third n) i; d = (s ∙ fourth n) i; count = t i }
-    where
-      first : (n : ℕ) → 48 + n / 100 / 10 ≡ 48 + n / 1000
-      first n = omega arith
+  pub count_is : n < 10000 → length (decimal n) ≡ digit_count n
+  count_is h =
+      ⊎_elim
+      (λ (l : n ≤ 999). ⊎_elim
+      (λ (k : n ≤ 99). ⊎_elim (λ (j : n ≤ 9). length_small n (omega (arith, j)) ∙ size_one l k j) (λ (j : 9 < n). decimal_length 1 n (omega (arith, j)) (omega (arith, k)) ∙ size_two l k j) (le_or_lt n 9))
+      (λ (k : 99 < n). decimal_length 2 n (omega (arith, k)) (omega (arith, l)) ∙ size_three l k) (le_or_lt n 99))
+      (λ (l : 999 < n). decimal_length 3 n (omega (arith, l)) (omega (arith, h)) ∙ size_four l) (le_or_lt n 999)
 
-      third : (n : ℕ) → 48 + n % 100 / 10 ≡ 48 + n / 10 % 10
+  pub digits_are : n < 10000 → {a b c d e : ℕ} → a ≡ 48 + n / 100 / 10 % 10 → b ≡ 48 + n / 100 % 10 → c ≡ 48 + n % 100 / 10 % 10 → d ≡ 48 + n % 100 % 10
+      → e ≡ digit_count n → record { a = a; b = b; c = c; d = d; count = e } ≡ digits_of n
+  digits_are h p q r s t = λ i. record { a = (p ∙ first n h) i; b = q i; c = (r ∙ third n) i; d = (s ∙ fourth n) i; count = t i }
+    where
+      first : (n : ℕ) → n < 10000 → 48 + n / 100 / 10 % 10 ≡ 48 + n / 1000
+      first n h = omega (arith, h)
+
+      third : (n : ℕ) → 48 + n % 100 / 10 % 10 ≡ 48 + n / 10 % 10
       third n = omega arith
 
       fourth : (n : ℕ) → 48 + n % 100 % 10 ≡ 48 + n % 10
@@ -57,21 +65,21 @@ module _ (n : ℕ) where
 -- ---- the text by the count of digits
 
 module _ (x : Digits) where
-  text_four : x.count ≡ 4 → x.a ∷ x.b ∷ x.c ∷ x.d ∷ 32 ∷ [] ≡ digits_text x
+  pub text_four : x.count ≡ 4 → x.a ∷ x.b ∷ x.c ∷ x.d ∷ 32 ∷ [] ≡ digits_text x
   unfolding digits_text
   text_four e = rw (eq-eqb x.count 4 e)
 
   module _ (f : x.count ≡ 4 → ⊥) where
-    text_three : x.count ≡ 3 → x.b ∷ x.c ∷ x.d ∷ 32 ∷ [] ≡ digits_text x
+    pub text_three : x.count ≡ 3 → x.b ∷ x.c ∷ x.d ∷ 32 ∷ [] ≡ digits_text x
     unfolding digits_text
     text_three e = rw (ne_eqb x.count 4 f, eq-eqb x.count 3 e)
 
     module _ (g : x.count ≡ 3 → ⊥) where
-      text_two : x.count ≡ 2 → x.c ∷ x.d ∷ 32 ∷ [] ≡ digits_text x
+      pub text_two : x.count ≡ 2 → x.c ∷ x.d ∷ 32 ∷ [] ≡ digits_text x
       unfolding digits_text
       text_two e = rw (ne_eqb x.count 4 f, ne_eqb x.count 3 g, eq-eqb x.count 2 e)
 
-      text_one : (x.count ≡ 2 → ⊥) → x.d ∷ 32 ∷ [] ≡ digits_text x
+      pub text_one : (x.count ≡ 2 → ⊥) → x.d ∷ 32 ∷ [] ≡ digits_text x
       unfolding digits_text
       text_one h = rw (ne_eqb x.count 4 f, ne_eqb x.count 3 g, ne_eqb x.count 2 h)
 
@@ -85,55 +93,6 @@ module _ (x : Digits) where
       go false true r = omega arith
       go false false true = omega arith
       go false false false = omega arith
-
-  -- ---- store by store
-
-  module _ (b : List ℕ) (r : length (digits_text x) ≤ length b) where
-    room : {t : List ℕ} → t ≡ digits_text x → length t ≤ length b
-    room e = subst (λ (t : List ℕ). length t ≤ length b) (sym e) r
-
-    pub four_room : x.count ≡ 4 → 5 ≤ length b
-    four_room e = room (text_four e)
-
-    pub four_stores : x.count ≡ 4 → Wrote (digits_text x) b (set (set (set (set (set b 0 x.a) 1 x.b) 2 x.c) 3 x.d) 4 32) 5
-    four_stores e =
-        wrote_as (text_four e)
-        (wrote_byte
-        (wrote_byte
-        (wrote_byte (wrote_byte (wrote_byte (wrote_none b) x.a (omega (arith, four_room e))) x.b (omega (arith, four_room e))) x.c (omega (arith, four_room e)))
-        x.d (omega (arith, four_room e)))
-        32 (omega (arith, four_room e)))
-
-    module _ (f : x.count ≡ 4 → ⊥) where
-      pub three_room : x.count ≡ 3 → 4 ≤ length b
-      three_room e = room (text_three f e)
-
-      pub three_stores : x.count ≡ 3 → Wrote (digits_text x) b (set (set (set (set b 0 x.b) 1 x.c) 2 x.d) 3 32) 4
-      three_stores e =
-          wrote_as (text_three f e)
-          (wrote_byte
-          (wrote_byte (wrote_byte (wrote_byte (wrote_none b) x.b (omega (arith, three_room e))) x.c (omega (arith, three_room e))) x.d (omega (arith, three_room e)))
-          32 (omega (arith, three_room e)))
-
-      module _ (g : x.count ≡ 3 → ⊥) where
-        pub two_room : x.count ≡ 2 → 3 ≤ length b
-        two_room e = room (text_two f g e)
-
-        pub two_stores : x.count ≡ 2 → Wrote (digits_text x) b (set (set (set b 0 x.c) 1 x.d) 2 32) 3
-        two_stores e =
-            wrote_as (text_two f g e)
-            (wrote_byte (wrote_byte (wrote_byte (wrote_none b) x.c (omega (arith, two_room e))) x.d (omega (arith, two_room e))) 32 (omega (arith, two_room e)))
-
-        pub one_room : (x.count ≡ 2 → ⊥) → 2 ≤ length b
-        one_room h = room (text_one f g h)
-
-        pub one_stores : (x.count ≡ 2 → ⊥) → Wrote (digits_text x) b (set (set b 0 x.d) 1 32) 2
-        one_stores h =
-            wrote_as (text_one f g h)
-            (wrote_byte (wrote_byte (wrote_none b) x.d (omega (arith, one_room h))) 32 (omega (arith, one_room h)))
-
-pub room_at : (k : ℕ) {m : ℕ} (b : List ℕ) → k < m → m ≤ length b → k < length b
-room_at k b l h = omega (arith, l, h)
 
 -- ---- the number's text
 
@@ -166,6 +125,27 @@ four_digits n l h =
 
     hundreds : (n : ℕ) → 48 + n / 10 / 10 % 10 ≡ 48 + n / 100 % 10
     hundreds n = omega arith
+
+-- the digits as code finds them
+module _ (n : ℕ) where
+  pub decimal_one : n < 10 → {a : ℕ} → a ≡ 48 + n % 10 → a ∷ [] ≡ decimal n
+  decimal_one h p = ap (λ (v : ℕ). v ∷ []) (p ∙ last n h) ∙ sym (decimal_small n h)
+    where
+      last : (n : ℕ) → n < 10 → 48 + n % 10 ≡ 48 + n
+      last n h = omega (arith, h)
+
+  pub decimal_two : 9 < n → n ≤ 99 → {a b : ℕ} → a ≡ 48 + n / 10 % 10 → b ≡ 48 + n % 10 → a ∷ b ∷ [] ≡ decimal n
+  decimal_two l h p q = ap₂ (λ (u v : ℕ). u ∷ v ∷ []) p q ∙ sym (two_digits n l h)
+
+  pub decimal_three : 99 < n → n ≤ 999 → {a b c : ℕ} → a ≡ 48 + n / 100 % 10 → b ≡ 48 + n / 10 % 10 → c ≡ 48 + n % 10 → a ∷ b ∷ c ∷ [] ≡ decimal n
+  decimal_three l h p q r = (λ i. p i ∷ q i ∷ r i ∷ []) ∙ sym (three_digits n l h)
+
+  pub decimal_four : 999 < n → n < 10000 → {a b c d : ℕ} → a ≡ 48 + n / 1000 % 10 → b ≡ 48 + n / 100 % 10 → c ≡ 48 + n / 10 % 10 → d ≡ 48 + n % 10
+      → a ∷ b ∷ c ∷ d ∷ [] ≡ decimal n
+  decimal_four l h p q r s = (λ i. (p ∙ first n h) i ∷ q i ∷ r i ∷ s i ∷ []) ∙ sym (four_digits n l h)
+    where
+      first : (n : ℕ) → n < 10000 → 48 + n / 1000 % 10 ≡ 48 + n / 1000
+      first n h = omega (arith, h)
 
 pub digits_text_lem : (n : ℕ) → n < 10000 → digits_text (digits_of n) ≡ decimal n ++ (32 ∷ [])
 digits_text_lem n h = ⊎_elim (λ (l : n ≤ 999). ⊎_elim (λ (k : n ≤ 99). ⊎_elim (one l k) (two l k) (le_or_lt n 9)) (three l) (le_or_lt n 99)) four (le_or_lt n 999)

@@ -1,12 +1,10 @@
--- The digits of a number in a buffer b, store by store, and the text of a literal by its sign.
---   first_digit    the only digit of a number below 10, at place 0
+-- The last digit of a number in a buffer b, and the text of a literal by its sign.
 --   next_digit     the last digit of a number n, after those of m, a tenth of n
---   digits_room    there is room for the digits of a number from 10 ^ k on
 --   text_positive, text_negative    a literal by its sign and magnitude; word_positive, word_negative: with one space
 --   lead_room, lead_start, lead_tail, lead_sum, lead_put, lead_kept    a text t of a byte u and a text x: the byte, and x after it
 --   any_start, any_tail, any_put, any_kept    the same with a byte v in the place of u, which must be u for the text alone
 -- Assumes nothing.
-use Prim.Native.Nat.{ℕ, ◌+◌, ◌-◌, ◌/◌, ◌%◌, ◌^◌, ◌≤◌, ◌<◌}
+use Prim.Native.Nat.{ℕ, ◌+◌, ◌-◌, ◌/◌, ◌%◌, ◌≤◌, ◌<◌}
 use native.Mathlib.Omega.{arith}
 use mathlib.Core.Path.{◌≡◌, refl, sym, ◌∙◌, ap}
 use mathlib.Core.Bool.{Bool, true, false, false≢true}
@@ -15,22 +13,12 @@ use lib.IntN.{ℤ, pos, negsuc, nat_abs}
 use lib.ListN.{length, take, drop, set}
 use borrow.Rule.Slice.PartMut.{put_mid}
 use Rattle.text.specs.Decimal.{decimal}
-use Rattle.text.proofs.Decimals.{decimal_small, decimal_large}
+use Rattle.text.proofs.Decimals.{decimal_large}
 use Rattle.clause_literals.specs.Signed.{is_negative}
 use Rattle.digits.specs.Bytes.{literal_text, Room, Wrote}
-use Rattle.digits.proofs.Lengths.{decimal_reaches}
 use Rattle.digits.proofs.Wrote.{wrote_none, room_as, wrote_as, wrote_byte, wrote_after, after_start, after_room, after_sum, after_kept}
 
 module _ (b : List ℕ) where
-  pub digits_room : (k n : ℕ) → 10 ^ k ≤ n → Room (decimal n) b → k < length b
-  digits_room k n h l = omega (arith, decimal_reaches k n h, l)
-
-  pub first_digit : (n : ℕ) {v : ℕ} → n < 10 → v ≡ 48 + n % 10 → 0 < length b → Wrote (decimal n) b (set b 0 v) 1
-  first_digit n {v} h e l = wrote_as (rw (decimal_small n h, digit_is)) (wrote_byte (wrote_none b) v l)
-    where
-      digit_is : v ≡ 48 + n
-      digit_is = omega (arith, e, h)
-
   pub next_digit : (n : ℕ) {m k v : ℕ} {e : List ℕ} → 10 ≤ n → m ≡ n / 10 → v ≡ 48 + n % 10 → k < length b → Wrote (decimal m) b e k
       → Wrote (decimal n) b (set e k v) (k + 1)
   next_digit n {v = v} h q d l W = wrote_as (rw (q, d, decimal_large n h)) (wrote_byte W v l)

@@ -9,7 +9,6 @@
 --   wrote_byte                a byte after p; byte_room: there is room for it
 --   wrote_row, row_start, row_room, row_sum, rows_whole    the same for text k + 1 of n texts after the first k, and all of them
 --   wrote_end, end_room       0 and byte 10 after the literals of a clause, and that there is room for them
---   wrote_copy, wrote_word    a byte of a word, copied after those before it; all of them
 -- Assumes nothing.
 use Prim.Native.Nat.{ℕ, zero, suc, ◌+◌, ◌-◌, ◌≤◌, ◌<◌}
 use native.Mathlib.Nat.{le_antisymm, le_trans, le_refl}
@@ -18,8 +17,8 @@ use native.Mathlib.Omega.{arith}
 use mathlib.Core.Path.{◌≡◌, refl, sym, ◌∙◌, ap, ap₂, subst}
 use mathlib.Core.Logic.{⊎_elim}
 use mathlib.Core.List.{List, [], ◌∷◌, ◌++◌, append_assoc}
-use lib.ListN.{length, get_or, take, drop, set, length-append, length-drop}
-use lib.Seq.{set_at, drop-cons, take-suc, take_all}
+use lib.ListN.{length, take, drop, set, length-append, length-drop}
+use lib.Seq.{set_at, drop-cons}
 use borrow.Rule.Slice.PartMut.{put_mid}
 use Rattle.lists.specs.Lists.{each}
 use Rattle.lists.proofs.Tests.{le_or_lt}
@@ -129,12 +128,3 @@ module _ (c : Clause) {b e : List ℕ} {to : ℕ} (f : Room (line_text c) b) (W 
 
       line_is : (literals_text c ++ (u ∷ [])) ++ (v ∷ []) ≡ line_text c
       line_is = append_assoc (literals_text c) (u ∷ []) (v ∷ []) ∙ ap₂ (λ (u v : ℕ). literals_text c ++ (u ∷ v ∷ [])) p q
-
--- ---- a word, copied byte by byte
-
-pub wrote_copy : (w : List ℕ) {b e : List ℕ} {i : ℕ} → i < length w → Room w b → Wrote (take i w) b e i → Wrote (take (i + 1) w) b (set e i (get_or w i 0)) (i + 1)
-wrote_copy w {i = i} h f W =
-    wrote_as (sym (take-suc w i 0 h) ∙ ap (λ (k : ℕ). take k w) (sym (add-one i))) (wrote_byte W (get_or w i 0) (omega (arith, h, f)))
-
-pub wrote_word : (w : List ℕ) {b e : List ℕ} {i : ℕ} → length w ≤ i → Wrote (take i w) b e i → Wrote w b e i
-wrote_word w {i = i} l W = wrote_as (take_all i w l) W

@@ -24,49 +24,36 @@ mod replies;
 mod sum;
 
 use clause_file::say_program;
-use fields::line_end;
-use files::{ends_with, read_file};
+use files::read_file;
 use lines::{say_line, say_run};
-use models::say_model;
+use models::{say_checked, say_filled, say_model};
 use reads::say_read;
-use replies::print_bad_case;
 use std::env::{Env, FillError};
 
-// Prints what a line of the file of that name gives.
-fn say_call(name: &[u8], line: &[u8]) {
-    if ends_with(name, b".read") {
-        say_read(line);
-        return;
+// Prints what a line of the file of that name gives, nothing for one that is not of its form.
+fn say_call(name: &[u8], line: &[u8]) -> Option<()> {
+    if name.ends_with(b".read") {
+        say_read(line)
+    } else if name.ends_with(b".line") {
+        say_line(line)
+    } else if name.ends_with(b".run") {
+        say_run(line)
+    } else if name.ends_with(b".check") {
+        say_model(line, say_checked)
+    } else if name.ends_with(b".fill") {
+        say_model(line, say_filled)
+    } else {
+        None
     }
-    if ends_with(name, b".line") {
-        say_line(line);
-        return;
-    }
-    if ends_with(name, b".run") {
-        say_run(line);
-        return;
-    }
-    if ends_with(name, b".check") {
-        say_model(false, line);
-        return;
-    }
-    if ends_with(name, b".fill") {
-        say_model(true, line);
-        return;
-    }
-    print_bad_case();
 }
 
 // Prints what each line of the file of that name gives.
 fn say_calls(name: &[u8], file: &[u8]) {
-    let mut i: usize = 0;
-    while i < file.len() {
-        let e = line_end(file, i);
-        say_call(name, &file[i..e]);
-        if e == file.len() {
-            return;
+    for line in file.split_inclusive(|b| *b == b'\n') {
+        let line = line.strip_suffix(b"\n").unwrap_or(line);
+        if say_call(name, line).is_none() {
+            io::write_all(1, b"bad case\n");
         }
-        i = e + 1;
     }
 }
 
@@ -74,11 +61,11 @@ fn say_calls(name: &[u8], file: &[u8]) {
 fn say_file(rt: &HostRuntime, name: &[u8]) {
     let mut file = [0u8; 262144];
     let n = read_file(rt, name, &mut file);
-    if ends_with(name, b".lp") {
+    if name.ends_with(b".lp") {
         say_program(&file[..n]);
-        return;
+    } else {
+        say_calls(name, &file[..n]);
     }
-    say_calls(name, &file[..n]);
 }
 
 // Prints what the file that argument k names gives, and answers whether there is such an argument. A name that is too long reads as the empty one.

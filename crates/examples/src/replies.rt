@@ -1,27 +1,27 @@
 // Replies as they are printed.
-use crate::fields::print_number;
 use crate::hex::print_bytes;
+use refusals::Refusal;
 
-// Prints `ok` and two numbers.
-pub fn print_accepted(first: usize, second: usize) {
-    io::write_all(1, b"ok ");
-    print_number(first);
-    io::write_all(1, b" ");
-    print_number(second);
+// Prints a number in decimal.
+pub fn print_number(n: usize) {
+    io::print_decimal(1, n as u64);
 }
 
-// Prints a further number after a space.
-pub fn print_further(number: usize) {
-    io::write_all(1, b" ");
-    print_number(number);
+// Prints `ok` and the numbers that an accepted call gives.
+pub fn print_accepted(numbers: &[usize]) {
+    io::write_all(1, b"ok");
+    for n in numbers {
+        io::write_all(1, b" ");
+        print_number(*n);
+    }
 }
 
 // Prints a refusal's number and spot.
-pub fn print_refused(number: u8, spot: usize) {
+pub fn print_refused<R: Refusal>(r: R) {
     io::write_all(1, b"refused ");
-    print_number(number as usize);
+    print_number(usize::from(r.number()));
     io::write_all(1, b" ");
-    print_number(spot);
+    print_number(r.spot());
 }
 
 // Prints a buffer after a space.
@@ -30,17 +30,6 @@ pub fn print_buffer(buf: &[u8]) {
     print_bytes(buf);
 }
 
-// Prints two buffers and the line's end.
-pub fn print_buffers<'a>(first: &'a [u8], second: &'a [u8]) {
-    print_buffer(first);
-    print_buffer(second);
-    print_line_end();
-}
-
 pub fn print_line_end() {
     io::write_all(1, b"\n");
-}
-
-pub fn print_bad_case() {
-    io::write_all(1, b"bad case\n");
 }

@@ -7,35 +7,30 @@ use mathlib.Core.Logic.{◌↔◌}
 use mathlib.Core.List.{List}
 use Rattle.refusals.specs.declared.TextRefusal.{TextRefusal}
 use Rattle.refusals.specs.declared.TextRefusal.TheVariants.{Overlong, Malformed, TooManyAtoms, UnknownAtom, Unordered, TooManyRules, BodiesFull}
-use Rattle.reader.specs.declared.ReadVerdict.{ReadVerdict}
-use Rattle.reader.specs.declared.ReadVerdict.TheVariants.{Accepted, Refused as TextRefused}
 use Rattle.reader.specs.Verdict.{read_of}
 use Rattle.refusals.specs.Numbers.{text_number}
 use Rattle.meaning.specs.Program.{Program}
 use Rattle.program.specs.Arrays.{decoded}
 use Rattle.refusals.specs.declared.LineRefusal.{LineRefusal}
 use Rattle.refusals.specs.declared.LineRefusal.TheVariants.{Text, NoSuchClause, ShortBuffer}
-use Rattle.call_lines_rows.specs.declared.LineVerdict.{LineVerdict}
-use Rattle.call_lines_rows.specs.declared.LineVerdict.TheVariants.{Written, Refused as LineRefused}
-use Rattle.call_lines_rows.specs.declared.RunVerdict.{RunVerdict}
-use Rattle.call_lines_rows.specs.declared.RunVerdict.TheVariants.{WrittenRun, RefusedRun}
 use Rattle.refusals.specs.Numbers.{line_number}
 use Rattle.call_lines_rows.specs.Lines.{line_answer, run_answer}
 use Rattle.refusals.specs.declared.CheckRefusal.{CheckRefusal}
 use Rattle.refusals.specs.declared.CheckRefusal.TheVariants.{Text as CheckText, ShortBuffer as CheckShort, OverlongAnswer, MalformedAnswer, NoModelOffered, StrayVariable, RepeatedVariable, FalseClause}
-use Rattle.call_check_rows.specs.declared.CheckVerdict.{CheckVerdict}
-use Rattle.call_check_rows.specs.declared.CheckVerdict.TheVariants.{Model, Refused as CheckRefused}
 use Rattle.refusals.specs.Numbers.{check_number}
 use Rattle.call_check_rows.specs.Check.{check_answer}
 use Rattle.call_check_rows.specs.Rows.{Accepts}
 use Rattle.refusals.specs.declared.FillRefusal.{FillRefusal}
 use Rattle.refusals.specs.declared.FillRefusal.TheVariants.{Text as FillText, ShortBuffer as FillShort, BadSet, Unfounded}
-use Rattle.call_fill_rows.specs.declared.FillVerdict.{FillVerdict}
-use Rattle.call_fill_rows.specs.declared.FillVerdict.TheVariants.{Filled, Refused as FillRefused}
 use Rattle.refusals.specs.Numbers.{fill_number}
 use Rattle.call_fill_rows.specs.FillOut.{fill_answer}
 use Rattle.call_replies.specs.Replies.{of_reading, of_line, of_run, of_check, of_fill}
 use Rattle.exports.specs.Replies.{read_reply, line_reply, run_reply, check_reply, fill_reply}
+use Rattle.reader.specs.Verdict.{ReadVerdict}
+use Rattle.std.specs.Prelude.{Err, Ok}
+use Rattle.call_lines_rows.specs.Verdicts.{LineVerdict, RunVerdict, written_run}
+use Rattle.call_check_rows.specs.Verdict.{CheckVerdict, model_shown}
+use Rattle.call_fill_rows.specs.Verdict.{FillVerdict, filled_out}
 
 -- ---- no row has the number 0
 
@@ -71,38 +66,38 @@ fill_some (Unfounded a) e = omega (arith, e)
 
 -- ---- by the verdict
 
-of_reading_lem : (P : Program) (v : ReadVerdict) → (of_reading v P).number ≡ 0 → v ≡ Accepted
-of_reading_lem P Accepted e = refl
-of_reading_lem P (TextRefused r) e = absurd (text_some r e)
+of_reading_lem : (P : Program) (v : ReadVerdict) → (of_reading v P).number ≡ 0 → v ≡ Ok tt
+of_reading_lem P (Ok u) e = refl
+of_reading_lem P (Err r) e = absurd (text_some r e)
 
-of_line_lem : (v : LineVerdict) → (of_line v).number ≡ 0 → (n : ℕ) × (v ≡ Written n)
-of_line_lem (Written n) e = (n, refl)
-of_line_lem (LineRefused r) e = absurd (line_some r e)
+of_line_lem : (v : LineVerdict) → (of_line v).number ≡ 0 → (n : ℕ) × (v ≡ Ok n)
+of_line_lem (Ok n) e = (n, refl)
+of_line_lem (Err r) e = absurd (line_some r e)
 
-of_run_lem : (v : RunVerdict) → (of_run v).number ≡ 0 → (m : ℕ) × (n : ℕ) × (v ≡ WrittenRun m n)
-of_run_lem (WrittenRun m n) e = (m, n, refl)
-of_run_lem (RefusedRun r) e = absurd (line_some r e)
+of_run_lem : (v : RunVerdict) → (of_run v).number ≡ 0 → (m : ℕ) × (n : ℕ) × (v ≡ written_run m n)
+of_run_lem (Ok x) e = (x.lines, x.bytes, refl)
+of_run_lem (Err r) e = absurd (line_some r e)
 
-of_check_lem : (v : CheckVerdict) → (of_check v).number ≡ 0 → (k : ℕ) × (h : ℕ) × (c : ℕ) × (v ≡ Model k h c)
-of_check_lem (Model k h c) e = (k, h, c, refl)
-of_check_lem (CheckRefused r) e = absurd (check_some r e)
+of_check_lem : (v : CheckVerdict) → (of_check v).number ≡ 0 → (k : ℕ) × (h : ℕ) × (c : ℕ) × (v ≡ model_shown k h c)
+of_check_lem (Ok x) e = (x.atoms, x.highest, x.assumed, refl)
+of_check_lem (Err r) e = absurd (check_some r e)
 
-of_fill_lem : (v : FillVerdict) → (of_fill v).number ≡ 0 → (k : ℕ) × (h : ℕ) × (v ≡ Filled k h)
-of_fill_lem (Filled k h) e = (k, h, refl)
-of_fill_lem (FillRefused r) e = absurd (fill_some r e)
+of_fill_lem : (v : FillVerdict) → (of_fill v).number ≡ 0 → (k : ℕ) × (h : ℕ) × (v ≡ filled_out k h)
+of_fill_lem (Ok x) e = (x.atoms, x.highest, refl)
+of_fill_lem (Err r) e = absurd (fill_some r e)
 
 -- ---- of the calls
 
-pub read_zero : (t : List ℕ) → ((read_reply t).number ≡ 0) ↔ ((read_of t).verdict ≡ Accepted)
+pub read_zero : (t : List ℕ) → ((read_reply t).number ≡ 0) ↔ ((read_of t).verdict ≡ Ok tt)
 unfolding read_reply
 read_zero t =
     (of_reading_lem (decoded (read_of t).program) (read_of t).verdict, λ e. ap (λ (v : ReadVerdict). (of_reading v (decoded (read_of t).program)).number) e)
 
-pub line_zero : (t : List ℕ) (j k n : ℕ) → ((line_reply t j k n).number ≡ 0) ↔ ((m : ℕ) × (line_answer t j k n ≡ Written m))
+pub line_zero : (t : List ℕ) (j k n : ℕ) → ((line_reply t j k n).number ≡ 0) ↔ ((m : ℕ) × (line_answer t j k n ≡ Ok m))
 unfolding line_reply
 line_zero t j k n = (of_line_lem (line_answer t j k n), λ e. ap (λ (v : LineVerdict). (of_line v).number) e.1)
 
-pub run_zero : (t : List ℕ) (j n : ℕ) → ((run_reply t j n).number ≡ 0) ↔ ((m : ℕ) × (x : ℕ) × (run_answer t j n ≡ WrittenRun m x))
+pub run_zero : (t : List ℕ) (j n : ℕ) → ((run_reply t j n).number ≡ 0) ↔ ((m : ℕ) × (x : ℕ) × (run_answer t j n ≡ written_run m x))
 unfolding run_reply
 run_zero t j n = (of_run_lem (run_answer t j n), λ e. ap (λ (v : RunVerdict). (of_run v).number) e.2)
 
@@ -110,6 +105,6 @@ pub check_zero : (t u : List ℕ) (a l : ℕ) → ((check_reply t u a l).number 
 unfolding check_reply
 check_zero t u a l = (of_check_lem (check_answer t u a l), λ e. ap (λ (v : CheckVerdict). (of_check v).number) e.3)
 
-pub fill_zero : (t s : List ℕ) (a l : ℕ) → ((fill_reply t s a l).number ≡ 0) ↔ ((k : ℕ) × (h : ℕ) × (fill_answer t s a l ≡ Filled k h))
+pub fill_zero : (t s : List ℕ) (a l : ℕ) → ((fill_reply t s a l).number ≡ 0) ↔ ((k : ℕ) × (h : ℕ) × (fill_answer t s a l ≡ filled_out k h))
 unfolding fill_reply
 fill_zero t s a l = (of_fill_lem (fill_answer t s a l), λ e. ap (λ (v : FillVerdict). (of_fill v).number) e.2)

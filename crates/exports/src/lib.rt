@@ -9,37 +9,28 @@ ghost use Rattle.exports.specs.Replies.{read_reply, line_replied, run_replied, c
 use call_check::check;
 use call_fill::fill_out;
 use call_lines::{line, run};
-use call_replies::{Reply, accepted, of_check, of_fill, of_line, of_run, refused};
+use call_replies::{Reply, reply_to};
 use call_table::read_totals;
-use reader::ReadVerdict;
-use refusals::{text_number, text_spot};
 
 // Reads a program text: V and C.
 pub fn qs_read(text: &[u8]) -> Reply
     ensures { result ≡ read_reply text.now }
 {
-    let x = read_totals(text);
-    let v = x.verdict;
-    match v {
-        ReadVerdict::Accepted => accepted(x.totals.vars, x.totals.clauses, 0),
-        ReadVerdict::Refused(r) => refused(text_number(r), text_spot(r)),
-    }
+    reply_to(read_totals(text))
 }
 
 // Line j of the text's clause file, written into the buffer from `place` on: its length.
 pub fn qs_line(text: &[u8], j: usize, place: usize, buf: &mut [u8]) -> Reply
     ensures { answered result buf.new ≡ line_replied text.now j place buf.old }
 {
-    let v = line(text, j, place, &mut *buf);
-    of_line(v)
+    reply_to(line(text, j, place, &mut *buf))
 }
 
 // As many whole lines as fit the buffer, from line j on: how many lines, and how many bytes.
 pub fn qs_run(text: &[u8], j: usize, buf: &mut [u8]) -> Reply
     ensures { answered result buf.new ≡ run_replied text.now j buf.old }
 {
-    let v = run(text, j, &mut *buf);
-    of_run(v)
+    reply_to(run(text, j, &mut *buf))
 }
 
 // The check of a solver answer: how many atoms are true, the highest level, and how many variables the answer left out.
@@ -47,8 +38,7 @@ pub fn qs_check(text: &[u8], answer: &[u8], assignment: &mut [u8], levels: &mut 
     ensures { called result assignment.new levels.new
         ≡ check_replied text.now answer.now assignment.old levels.old }
 {
-    let v = check(text, answer, &mut *assignment, &mut *levels);
-    of_check(v)
+    reply_to(check(text, answer, &mut *assignment, &mut *levels))
 }
 
 // Filling out a proposed set of atoms: how many atoms are true, and the highest level.
@@ -56,6 +46,5 @@ pub fn qs_fill(text: &[u8], set: &[u8], assignment: &mut [u8], levels: &mut [u8]
     ensures { called result assignment.new levels.new
         ≡ fill_replied text.now set.now assignment.old levels.old }
 {
-    let v = fill_out(text, set, &mut *assignment, &mut *levels);
-    of_fill(v)
+    reply_to(fill_out(text, set, &mut *assignment, &mut *levels))
 }

@@ -9,7 +9,11 @@ use std::env::{Env, FillError};
 use std::fs::File;
 use std::os::fd::AsRawFd;
 
+// A read that begins past so many bytes is taken for the end.
+const MOST_COUNTED: usize = 65536 * 1_000_000_000_000;
+
 // How many bytes of an input were kept, how many were read in all, and whether its end was met.
+// Kept with a flag: the counts are those of the reads so far, whether or not the end was met.
 #[derive(Clone, Copy)]
 pub struct Front {
     pub kept: usize,
@@ -18,28 +22,19 @@ pub struct Front {
 }
 
 // The front of an input after one read more, which gave n bytes. A read that gives none is the end of the input.
+#[tactic(auto, unfolding(crate::specs::Count::read_on))]
 pub fn read_on(f: Front, n: usize) -> Front
     requires { n ≤ 65536 }
     ensures { result ≡ read_on f n }
 {
-    if n == 0 {
-        return Front {
-            kept: f.kept,
-            total: f.total,
-            ended: true,
-        };
-    }
-    if 65536000000000000 < f.total {
-        return Front {
-            kept: f.kept,
-            total: f.total,
-            ended: true,
-        };
-    }
-    Front {
-        kept: f.kept,
-        total: f.total + n,
-        ended: false,
+    if n == 0 || MOST_COUNTED < f.total {
+        Front { ended: true, ..f }
+    } else {
+        Front {
+            total: f.total + n,
+            ended: false,
+            ..f
+        }
     }
 }
 
@@ -82,7 +77,7 @@ pub fn read_file(rt: &HostRuntime, path: &[u8], buf: &mut [u8]) -> Front
         return no_bytes();
     };
     match File::open(rt, name) {
-        Ok(file) => read_open(file.as_raw_fd(), &mut *buf),
+        Ok(file) => read_open(file.as_raw_fd(), buf),
         Err(_) => no_bytes(),
     }
 }
@@ -91,7 +86,7 @@ pub fn read_file(rt: &HostRuntime, path: &[u8], buf: &mut [u8]) -> Front
 pub fn argument(rt: &HostRuntime, k: usize, buf: &mut [u8]) -> Option<usize>
     ensures { IfSome result (λ n. IsPrefixLen n buf.new) }
 {
-    match rt.arg(k, &mut *buf) {
+    match rt.arg(k, buf) {
         Ok(n) => Some(n),
         Err(FillError::TooLong) => Some(0),
         Err(FillError::NotPresent) => None,

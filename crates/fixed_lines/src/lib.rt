@@ -7,20 +7,8 @@ ghost use Rattle.text.specs.Decimal.{decimal};
 ghost use Rattle.digits.specs.Bytes.{Room, Wrote};
 ghost use Rattle.fixed_lines.specs.Lines.{header_text, refused_text};
 
+pub use digits::put_word;
 use digits::{decimal_length, put_decimal, put_number};
-
-// Writes the bytes `word` at the front of the buffer and returns how many they are.
-pub fn put_word(word: &[u8], buf: &mut [u8]) -> usize
-    requires { Room word.now buf.old }
-    ensures { Wrote word.now buf.old buf.new result }
-{
-    let mut i = 0;
-    while i < word.len() {
-        buf[i] = word[i];
-        i += 1;
-    }
-    i
-}
 
 // Writes the bytes `word`, n in decimal and the byte `end` at the front of the buffer and returns how many bytes they are.
 fn put_named(word: &[u8], n: usize, end: u8, buf: &mut [u8]) -> usize
@@ -32,6 +20,7 @@ fn put_named(word: &[u8], n: usize, end: u8, buf: &mut [u8]) -> usize
 }
 
 // Writes n in decimal, ")" and byte 10 at the front of the buffer and returns how many bytes they are.
+#[tactic(auto, unfolding(lists::specs::Ascii::ascii))]
 pub fn put_closing(n: usize, buf: &mut [u8]) -> usize
     requires { Room (decimal n ++ ascii ")\n") buf.old }
     ensures { Wrote (decimal n ++ ascii ")\n") buf.old buf.new result }
@@ -41,11 +30,12 @@ pub fn put_closing(n: usize, buf: &mut [u8]) -> usize
 }
 
 // Writes "(refused NUMBER SPOT)" and byte 10 at the front of the buffer and returns how many bytes they are.
+#[tactic(auto, unfolding(crate::specs::Lines::refused_text, lists::specs::Ascii::ascii))]
 pub fn put_refusal(number: u8, spot: usize, buf: &mut [u8]) -> usize
     requires { Room (refused_text number spot) buf.old }
     ensures { Wrote (refused_text number spot) buf.old buf.new result }
 {
-    let to = put_named(b"(refused ", number as usize, 32, &mut *buf);
+    let to = put_named(b"(refused ", usize::from(number), b' ', &mut *buf);
     to + put_closing(spot, &mut buf[to..])
 }
 
@@ -58,10 +48,11 @@ pub fn header_length(v: usize, c: usize) -> usize
 }
 
 // Writes the first line at the front of the buffer and returns how many bytes it has.
+#[tactic(auto, unfolding(crate::specs::Lines::header_text, lists::specs::Ascii::ascii))]
 pub fn put_header(v: usize, c: usize, buf: &mut [u8]) -> usize
     requires { (v < 2 ^ 32) × (c < 2 ^ 32) × (Room (header_text v c) buf.old) }
     ensures { Wrote (header_text v c) buf.old buf.new result }
 {
-    let to = put_named(b"p cnf ", v, 32, &mut *buf);
-    to + put_number(c, 10, &mut buf[to..])
+    let to = put_named(b"p cnf ", v, b' ', &mut *buf);
+    to + put_number(c, b'\n', &mut buf[to..])
 }

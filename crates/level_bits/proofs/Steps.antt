@@ -1,6 +1,7 @@
 -- Bits and comparisons, one bit after the other.
 --   rest_start, rest_next, bit_is      what is left of a number, and its lowest bit
---   less_start, less_next, less_goes              whether the lowest bits of x are below those of y
+--   bits_equal, bits_differ            a bit that decides, and one that does not
+--   less_start, less_next, less_goes   whether the lowest bits of x are below those of y
 -- Assumes nothing.
 use Prim.Native.Nat.{ℕ, zero, suc, ◌+◌, ◌*◌, ◌^◌, ◌/◌, ◌%◌, ◌<◌}
 use native.Mathlib.Nat.{mod-lt, mod-one, div-one}
@@ -10,7 +11,7 @@ use mathlib.Core.Path.{◌≡◌, refl, sym, ◌∙◌, ap, ap₂}
 use mathlib.Core.Bool.{Bool, true, false, cond}
 use lib.Dec.{eqb, ltb}
 use lib.Pow.{pow_pos, shr-shr, mod-pow-add}
-use borrow.Author.Tests.{lt-ltb, le-ltb, ltb-true, ltb-false}
+use borrow.Author.Tests.{eq-eqb, ne_eqb, lt-ltb, le-ltb, ltb-true, ltb-false}
 use Rattle.encoding.specs.Counter.{bit}
 use Rattle.encoding.specs.Fill.{less_at}
 use Rattle.level_bits.specs.Bits.{byte_of}
@@ -51,6 +52,14 @@ above (suc zero) (suc (suc d)) u v s g h k l = absurd (omega arith)
 
 low_bits : (x i : ℕ) → x % 2 ^ suc i ≡ x / 2 ^ i % 2 * 2 ^ i + x % 2 ^ i
 low_bits x i = ap (λ (k : ℕ). x % 2 ^ k) (sym (one-add i)) ∙ mod-pow-add x 1 i
+
+-- the lower bits decide where the bits a and b are equal, else b does
+module _ {a b : ℕ} (x y : ℕ) where
+  pub bits_equal : a ≡ b → x ≡ cond (eqb a b) x y
+  bits_equal e = sym (ap (λ (d : Bool). cond d x y) (eq-eqb a b e))
+
+  pub bits_differ : (a ≡ b → ⊥) → y ≡ cond (eqb a b) x y
+  bits_differ f = sym (ap (λ (d : Bool). cond d x y) (ne_eqb a b f))
 
 pub less_next : (x y i : ℕ) {p q b r : ℕ} → p ≡ x / 2 ^ i → q ≡ y / 2 ^ i → b ≡ byte_of (less_at x y i) → r ≡ cond (eqb (p % 2) (q % 2)) b (q % 2)
     → r ≡ byte_of (less_at x y (suc i))

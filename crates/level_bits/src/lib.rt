@@ -1,7 +1,7 @@
 // The bits of levels and the chains that compare them, into a lent buffer (document 01, "Check and filling out").
 #![tactic(auto)]
 
-ghost use Rattle.std.specs.Prelude.{◌≤◌, ◌<◌, ◌≡◌, cond, eqb, length};
+ghost use Rattle.std.specs.Prelude.{◌≤◌, ◌<◌, length};
 ghost use Rattle.digits.specs.Bytes.{Room, Wrote};
 ghost use Rattle.clause_tables.specs.Tables.{Ready, totals_in, code_in, atoms_in};
 ghost use Rattle.level_lists.specs.Bytes.{level_byte};
@@ -11,14 +11,6 @@ use clause_cells::{pair_body, pair_head, totals};
 use level_lists::byte_of;
 use numbers::{Atom, Pair};
 
-// The level of atom a.
-fn level_of(levels: &[u8], a: Atom) -> u16
-    requires { (0 < a.0) × (a.0 ≤ length levels.now) }
-    ensures { (result ≡ level_byte levels.now a.0) × (result < 256) }
-{
-    byte_of(levels, a) as u16
-}
-
 // Each function below writes its bytes at the front of the buffer and returns how many they are.
 
 // The w lowest bits of x.
@@ -27,24 +19,11 @@ fn put_bits(w: usize, x: u16, buf: &mut [u8]) -> usize
     ensures { Wrote (bit_bytes w x) buf.old buf.new result }
 {
     let mut rest = x;
-    let mut i: usize = 0;
-    while i < w {
+    for i in 0..w {
         buf[i] = (rest % 2) as u8;
-        rest = rest / 2;
-        i += 1;
+        rest /= 2;
     }
-    i
-}
-
-// Whether x is below y, with the bits p and q put above those for which `less` says it.
-fn less_with(p: u16, q: u16, less: u8) -> u8
-    requires { q < 2 }
-    ensures { result ≡ cond (eqb p q) less q }
-{
-    if p == q {
-        return less;
-    }
-    q as u8
+    w
 }
 
 // For i from 1 to w, whether the lowest i bits of x are below those of y.
@@ -55,15 +34,15 @@ fn put_less(w: usize, x: u16, y: u16, buf: &mut [u8]) -> usize
     let mut p = x;
     let mut q = y;
     let mut less: u8 = 0;
-    let mut i: usize = 0;
-    while i < w {
-        less = less_with(p % 2, q % 2, less);
+    for i in 0..w {
+        if p % 2 != q % 2 {
+            less = (q % 2) as u8;
+        }
         buf[i] = less;
-        p = p / 2;
-        q = q / 2;
-        i += 1;
+        p /= 2;
+        q /= 2;
     }
-    i
+    w
 }
 
 // The two chains of a pair: x is the level of its body atom, y that of its head.
@@ -71,7 +50,7 @@ fn put_pair_values(w: usize, x: u16, y: u16, buf: &mut [u8]) -> usize
     requires { (x < 256) × (Room (pair_bytes w x y) buf.old) }
     ensures { Wrote (pair_bytes w x y) buf.old buf.new result }
 {
-    let to = put_less(w, x, y, &mut *buf);
+    let to = put_less(w, x, y, buf);
     to + put_less(w, x + 1, y, &mut buf[to..])
 }
 
@@ -81,11 +60,9 @@ pub fn put_level_values(n: u16, w: usize, d: u16, levels: &[u8], buf: &mut [u8])
     ensures { Wrote (level_bytes n w d (level_byte levels.now)) buf.old buf.new result }
 {
     let mut to: usize = 0;
-    let mut a: u16 = 0;
-    while a < n {
-        let x = level_of(levels, Atom(a + 1));
+    for a in 0..n {
+        let x = u16::from(byte_of(levels, Atom(a + 1)));
         to += put_bits(w, x + d, &mut buf[to..]);
-        a += 1;
     }
     to
 }
@@ -97,9 +74,9 @@ fn put_pair_at<'a>(table: &'a [u16], w: usize, k: Pair, levels: &'a [u8], buf: &
     ensures { Wrote (pair_at_bytes (code_in table.now) w (level_byte levels.now) k.0)
         buf.old buf.new result }
 {
-    let x = level_of(levels, pair_body(table, k));
-    let y = level_of(levels, pair_head(table, k));
-    put_pair_values(w, x, y, &mut *buf)
+    let x = u16::from(byte_of(levels, pair_body(table, k)));
+    let y = u16::from(byte_of(levels, pair_head(table, k)));
+    put_pair_values(w, x, y, buf)
 }
 
 // The two chains of each pair.
@@ -108,12 +85,9 @@ pub fn put_chains<'a>(table: &'a [u16], w: usize, levels: &'a [u8], buf: &mut [u
         × (Room (chain_bytes (code_in table.now) w (level_byte levels.now)) buf.old) }
     ensures { Wrote (chain_bytes (code_in table.now) w (level_byte levels.now)) buf.old buf.new result }
 {
-    let t = totals(table);
     let mut to: usize = 0;
-    let mut k: u16 = 0;
-    while k < t.pairs {
+    for k in 0..totals(table).pairs {
         to += put_pair_at(table, w, Pair(k + 1), levels, &mut buf[to..]);
-        k += 1;
     }
     to
 }

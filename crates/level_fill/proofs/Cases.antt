@@ -1,26 +1,14 @@
--- The six families of the filled-out values, by the tests that code makes.
+-- The six families of the filled-out values.
 --   family_atoms .. family_chains    what each of the six functions writes is family k
---   only_six                         none of the first five
 -- Assumes nothing.
-use Prim.Native.Nat.{ℕ, zero, suc, ◌≤◌, ◌<◌}
-use native.Mathlib.Omega.{arith}
-use mathlib.Core.Path.{◌≡◌, refl, sym, ◌∙◌, ap, ap₂}
+use Prim.Native.Nat.{ℕ}
+use mathlib.Core.Path.{◌≡◌, sym, ◌∙◌, ap, ap₂}
 use mathlib.Core.List.{List}
 use Rattle.clause_tables.specs.declared.Totals.{Totals}
 use Rattle.clause_tables.specs.Tables.{totals_in, atoms_in, code_in}
 use Rattle.level_lists.specs.Bytes.{set_in, level_byte}
 use Rattle.level_bits.specs.Bits.{level_bytes, chain_bytes}
 use Rattle.level_fill.specs.Values.{atom_bytes, body_bytes, founds_bytes, family_in}
-
-pub only_six : (k : ℕ) → 0 < k → k ≤ 6 → (k ≡ 1 → ⊥) → (k ≡ 2 → ⊥) → (k ≡ 3 → ⊥) → (k ≡ 4 → ⊥) → (k ≡ 5 → ⊥) → k ≡ 6
-only_six zero p h a b c d e = absurd (omega (arith, p))
-only_six (suc zero) p h a b c d e = absurd (a refl)
-only_six (suc (suc zero)) p h a b c d e = absurd (b refl)
-only_six (suc (suc (suc zero))) p h a b c d e = absurd (c refl)
-only_six (suc (suc (suc (suc zero)))) p h a b c d e = absurd (d refl)
-only_six (suc (suc (suc (suc (suc zero))))) p h a b c d e = absurd (e refl)
-only_six (suc (suc (suc (suc (suc (suc zero)))))) p h a b c d e = refl
-only_six (suc (suc (suc (suc (suc (suc (suc k))))))) p h a b c d e = absurd (omega (arith, h))
 
 module _ (tb s ls : List ℕ) where
   pub family_bodies : {k : ℕ} → k ≡ 2 → body_bytes (code_in tb) (set_in (atoms_in tb) s) ≡ family_in tb s ls k

@@ -1,6 +1,7 @@
 -- What each family asks and writes, for a code in its tables (Tabled G ..); s are the bytes of the set, ls those of the levels.
 --   body_unmet, body_is           the body of a rule, list by list
 --   founds_unmet, founds_is       whether a rule founds its head
+--   is_byte                       a truth value as a byte
 --   rule_asks, rule_inside, rule_row, rules_in_lem, rules_done  one rule of many
 --   atom_row                      one atom of many
 --   families_room, families_written, values_written    the families one after the other
@@ -9,9 +10,10 @@
 use Prim.Native.Nat.{ℕ, suc, ◌+◌, ◌≤◌, ◌<◌}
 use native.Mathlib.Numerals.{add-one}
 use native.Mathlib.Omega.{arith}
-use mathlib.Core.Path.{◌≡◌, sym, ◌∙◌, ap, ap₂, subst}
+use mathlib.Core.Path.{◌≡◌, refl, sym, ◌∙◌, ap, ap₂, subst}
 use mathlib.Core.Bool.{Bool, true, false, not, ◌&&◌, So}
 use mathlib.Core.List.{List, ◌++◌}
+use mir.Val.{bool_byte}
 use lib.Dec.{eqb, ltb}
 use lib.ListN.{length, get_or, drop, length-append}
 use Rattle.lists.specs.Lists.{all, tab, each}
@@ -53,6 +55,11 @@ module _ {G : Code} {t : Totals} {hs ss bs ks xs ys : List ℕ} (T : Tabled G t 
   founds_is z q l f =
       f ∙ ap₂ (λ (y : ℕ) (cs : List ℕ). all (λ b. ltb (level_byte ls b) y) cs) (l ∙ ap (level_byte ls) q) (sym (inner_all G T.limits r))
       ∙ sym (ap (λ (b : Bool). b && all (λ b. ltb (level_byte ls b) (level_byte ls (rl G r).head)) (inner G r)) (sym e ∙ z))
+
+-- a truth value as a byte
+pub is_byte : (b : Bool) → bool_byte b ≡ byte_of b
+is_byte true = refl
+is_byte false = refl
 
 -- rule k + 1, whose test is x and its byte v
 pub rule_row : (p : ℕ → Bool) (k : ℕ) {x : Bool} {v : ℕ} → x ≡ p (k + 1) → v ≡ byte_of x → v ≡ byte_of (p (suc k))

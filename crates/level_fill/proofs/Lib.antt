@@ -2,7 +2,7 @@
 pub mod Whole
 -- Families: what each family asks and writes
 pub mod Families
--- Cases: the six families, by the tests that code makes
+-- Cases: what each function writes is a family
 pub mod Cases
 -- Computed: facts that compute
 pub mod Computed

@@ -8,24 +8,24 @@ ghost use Rattle.meaning.specs.Program.{is_atom, none_in};
 ghost use Rattle.encoding.specs.Code.{rl};
 ghost use Rattle.clause_tables.specs.Tables.{Ready, code_in, atoms_in, rules_in};
 ghost use Rattle.truth_clauses.specs.Truth.{value_in};
-ghost use Rattle.level_lists.specs.Bytes.{set_in, level_byte, is_within, list_of, enters};
+ghost use Rattle.level_lists.specs.Bytes.{set_in, level_byte, is_within, enters};
 
 use clause_cells::{body, list_start};
-use numbers::{Atom, Rule, wide};
+use numbers::{Atom, Rule};
 
 // The byte of atom a.
 pub fn byte_of(bytes: &[u8], a: Atom) -> u8
     requires { (0 < a.0) × (a.0 ≤ length bytes.now) }
     ensures { result ≡ level_byte bytes.now a.0 }
 {
-    bytes[wide(a.0) - 1]
+    bytes[usize::from(a.0) - 1]
 }
 
 pub fn put_byte(bytes: &mut [u8], a: Atom, x: u8)
     requires { (0 < a.0) × (a.0 ≤ length bytes.old) }
     ensures { bytes.new ≡ put bytes.old (pred a.0) x }
 {
-    let i = wide(a.0) - 1;
+    let i = usize::from(a.0) - 1;
     bytes[i] = x;
 }
 
@@ -34,28 +34,32 @@ fn all_within<'a>(atoms: &'a [u16], bytes: &'a [u8], lo: u16, hi: u16) -> bool
     requires { So (all (is_atom (length bytes.now)) atoms.now) }
     ensures { result ≡ all (is_within bytes.now lo hi) atoms.now }
 {
-    let mut j: usize = 0;
-    while j < atoms.len() {
-        let x = byte_of(bytes, Atom(atoms[j])) as u16;
-        if x < lo {
+    for a in atoms {
+        let x = u16::from(byte_of(bytes, Atom(*a)));
+        if x < lo || hi <= x {
             return false;
         }
-        if hi <= x {
-            return false;
-        }
-        j += 1;
     }
     true
 }
 
-// The same of list k of rule r: its B where k is 0, its C where k is 1.
-fn list_within<'a>(table: &'a [u16], r: Rule, k: u16, bytes: &'a [u8], lo: u16, hi: u16) -> bool
-    requires { (Ready table.now) × (0 < r.0) × (r.0 ≤ rules_in table.now) × (k ≤ 1) × (atoms_in table.now ≤ length bytes.now) }
-    ensures { result ≡ all (is_within bytes.now lo hi) (list_of (rl (code_in table.now) r.0) k) }
+// The B atoms of rule r, and its C atoms.
+fn positives(table: &[u16], r: Rule) -> &[u16]
+    requires { (Ready table.now) × (0 < r.0) × (r.0 ≤ rules_in table.now) }
+    ensures { result.now ≡ (rl (code_in table.now) r.0).positive }
 {
-    let first = list_start(table, r, k);
-    let end = list_start(table, r, k + 1);
-    all_within(body(table, first, end), bytes, lo, hi)
+    let first = list_start(table, r, 0);
+    let end = list_start(table, r, 1);
+    body(table, first, end)
+}
+
+fn negatives(table: &[u16], r: Rule) -> &[u16]
+    requires { (Ready table.now) × (0 < r.0) × (r.0 ≤ rules_in table.now) }
+    ensures { result.now ≡ (rl (code_in table.now) r.0).negative }
+{
+    let first = list_start(table, r, 1);
+    let end = list_start(table, r, 2);
+    body(table, first, end)
 }
 
 // Of rule r: whether each C atom has byte 0, whether no B atom has, and whether each B atom has a byte below y.
@@ -63,21 +67,21 @@ pub fn negatives_out<'a>(table: &'a [u16], r: Rule, bytes: &'a [u8]) -> bool
     requires { (Ready table.now) × (0 < r.0) × (r.0 ≤ rules_in table.now) × (atoms_in table.now ≤ length bytes.now) }
     ensures { result ≡ none_in (value_in bytes.now) (rl (code_in table.now) r.0).negative }
 {
-    list_within(table, r, 1, bytes, 0, 1)
+    all_within(negatives(table, r), bytes, 0, 1)
 }
 
 pub fn positives_in<'a>(table: &'a [u16], r: Rule, bytes: &'a [u8]) -> bool
     requires { (Ready table.now) × (0 < r.0) × (r.0 ≤ rules_in table.now) × (atoms_in table.now ≤ length bytes.now) }
     ensures { result ≡ all (value_in bytes.now) (rl (code_in table.now) r.0).positive }
 {
-    list_within(table, r, 0, bytes, 1, 256)
+    all_within(positives(table, r), bytes, 1, 256)
 }
 
 pub fn positives_below<'a>(table: &'a [u16], r: Rule, bytes: &'a [u8], y: u8) -> bool
     requires { (Ready table.now) × (0 < r.0) × (r.0 ≤ rules_in table.now) × (atoms_in table.now ≤ length bytes.now) }
     ensures { result ≡ all (λ b. ltb (level_byte bytes.now b) y) (rl (code_in table.now) r.0).positive }
 {
-    list_within(table, r, 0, bytes, 0, y as u16)
+    all_within(positives(table, r), bytes, 0, u16::from(y))
 }
 
 // Whether rule r is kept and each of its B has a level below i.
@@ -87,8 +91,5 @@ pub fn rule_enters<'a>(table: &'a [u16], r: Rule, i: u8, set: &'a [u8], levels: 
     ensures { result ≡ enters (set_in (atoms_in table.now) set.now) levels.now i
         (rl (code_in table.now) r.0) }
 {
-    if !negatives_out(table, r, set) {
-        return false;
-    }
-    list_within(table, r, 0, levels, 1, i as u16)
+    negatives_out(table, r, set) && all_within(positives(table, r), levels, 1, u16::from(i))
 }

@@ -1,7 +1,7 @@
 -- Bytes read and written one after the other, as the loops do.
---   unlike_zero, unlike_some    one of two bytes alone is 0
+--   unlike_is                   one of two bytes alone is 0 exactly if one alone is not 0
 --   Alike, alike_more, unlike_here, unlike_nowhere    the first atom at which bytes differ so
---   zeros_more                  zeros, one more
+--   filled_front, front_long    the first bytes filled with zeros
 -- Assumes nothing.
 use Prim.Native.Nat.{ℕ, zero, suc, ◌+◌, ◌≤◌, ◌<◌}
 use native.Mathlib.Nat.{le_antisymm}
@@ -10,14 +10,12 @@ use native.Mathlib.Omega.{arith}
 use mathlib.Core.Path.{◌≡◌, refl, sym, ◌∙◌, ap, subst}
 use mathlib.Core.Logic.{⊎_elim}
 use mathlib.Core.Bool.{Bool, true, false, not, So, beq}
-use mathlib.Core.List.{List, [], ◌∷◌, ◌++◌, append_assoc}
-use lib.Dec.{eqb}
-use lib.ListN.{length, get_or, drop, set}
-use lib.Seq.{set_at, drop-cons}
-use borrow.Author.Tests.{eq-eqb, ne_eqb}
+use mathlib.Core.List.{List, [], ◌∷◌, ◌++◌}
+use lib.ListN.{length, take, drop, replicate, length-append}
 use Rattle.lists.specs.Lists.{tab, first}
 use Rattle.lists.proofs.Bools.{not_So}
 use Rattle.lists.proofs.Tests.{le_or_lt, up_to_lem}
+use Rattle.std.proofs.lemmas.List.{length-take-le}
 use Rattle.lists.proofs.Tables.{length_tab}
 use Rattle.lists.proofs.First.{first_is, first_le, first_pos, first_none}
 use Rattle.truth_clauses.specs.Truth.{value_in}
@@ -25,19 +23,11 @@ use Rattle.level_stages.specs.Levels.{first_difference}
 
 -- ---- the first atom at which bytes differ in being 0
 
-pub unlike_zero : (x y : ℕ) → x ≡ 0 → not (eqb y 0) ≡ not (beq (not (eqb x 0)) (not (eqb y 0)))
-unlike_zero x y e = go (eqb y 0) ∙ sym (ap (λ (b : Bool). not (beq (not b) (not (eqb y 0)))) (eq-eqb x 0 e))
-  where
-    go : (b : Bool) → not b ≡ not (beq false (not b))
-    go true = refl
-    go false = refl
-
-pub unlike_some : (x y : ℕ) → (x ≡ 0 → ⊥) → eqb y 0 ≡ not (beq (not (eqb x 0)) (not (eqb y 0)))
-unlike_some x y f = go (eqb y 0) ∙ sym (ap (λ (b : Bool). not (beq (not b) (not (eqb y 0)))) (ne_eqb x 0 f))
-  where
-    go : (b : Bool) → b ≡ not (beq true (not b))
-    go true = refl
-    go false = refl
+pub unlike_is : (p q : Bool) → not (beq p q) ≡ not (beq (not p) (not q))
+unlike_is true true = refl
+unlike_is true false = refl
+unlike_is false true = refl
+unlike_is false false = refl
 
 module _ (s ls : List ℕ) where
   abbrev unlike_at : ℕ → Bool
@@ -72,12 +62,21 @@ module _ (s ls : List ℕ) where
 
 -- ---- zeros
 
-pub zeros_more : (bs e : List ℕ) (j : ℕ) → j < length bs → e ≡ tab j (λ a. 0) ++ drop j bs → set e j 0 ≡ tab (j + 1) (λ a. 0) ++ drop (j + 1) bs
-zeros_more bs e j h q =
-    ap (λ (l : List ℕ). set l j 0) (q ∙ ap (λ (l : List ℕ). tab j (λ a. 0) ++ l) (drop-cons bs j 0 h))
-    ∙ set_at (tab j (λ a. 0)) (get_or bs j 0) (drop (suc j) bs) 0 j (length_tab j (λ a. 0))
-    ∙ sym (append_assoc (tab j (λ a. 0)) (0 ∷ []) (drop (suc j) bs))
-    ∙ ap (λ (k : ℕ). tab k (λ a. 0) ++ drop k bs) (sym (add-one j))
+zeros_tab : (n : ℕ) → replicate {A = ℕ} n 0 ≡ tab n (λ a. 0)
+zeros_tab zero = refl
+zeros_tab (suc n) = last n ∙ ap (λ (l : List ℕ). l ++ (0 ∷ [])) (zeros_tab n)
+  where
+    last : (n : ℕ) → replicate {A = ℕ} (suc n) 0 ≡ replicate n 0 ++ (0 ∷ [])
+    last zero = refl
+    last (suc n) = ap (λ (l : List ℕ). 0 ∷ l) (last n)
 
-pub zeros_all : (bs e : List ℕ) (n j : ℕ) → j ≤ n → n ≤ j → e ≡ tab j (λ a. 0) ++ drop j bs → e ≡ tab n (λ a. 0) ++ drop n bs
-zeros_all bs e n j h l q = q ∙ ap (λ (k : ℕ). tab k (λ a. 0) ++ drop k bs) (le_antisymm h l)
+-- the first m bytes of ls filled with zeros, to zs
+pub filled_front : {zs : List ℕ} (ls : List ℕ) {m n : ℕ} → m ≡ n → n ≤ length ls → zs ≡ replicate (length (take m ls)) 0 → zs ++ drop m ls ≡ tab n (λ a. 0) ++ drop n ls
+filled_front {zs} ls {m} {n} e h q =
+    ap (λ (l : List ℕ). l ++ drop m ls) q
+    ∙ ap (λ (m : ℕ). replicate {A = ℕ} (length (take m ls)) 0 ++ drop m ls) e
+    ∙ ap (λ (k : ℕ). replicate {A = ℕ} k 0 ++ drop n ls) (length-take-le n ls h)
+    ∙ ap (λ (l : List ℕ). l ++ drop n ls) (zeros_tab n)
+
+pub front_long : (n : ℕ) {ds : List ℕ} (rest : List ℕ) → ds ≡ tab n (λ a. 0) ++ rest → n ≤ length ds
+front_long n {ds} rest q = let zs : List ℕ = tab n (λ a. 0) in omega (arith, ap length q, length-append zs rest, length_tab {A = ℕ} n (λ a. 0))

@@ -2,6 +2,7 @@
 #![tactic(auto)]
 
 ghost use Rattle.std.specs.Prelude.{◌≡◌};
+ghost use Rattle.numbers.specs.Nonzero.{nonzero};
 
 // The most atoms of a program (document 01, "Program text").
 pub const MAX_ATOMS: u16 = 126;
@@ -21,22 +22,41 @@ pub const STARTS: usize = 2 * MAX_RULES as usize + 1;
 // The length of the array of body atoms.
 pub const BODIES: usize = MAX_BODY_ATOMS as usize;
 
-#[derive(Clone, Copy)]
+#[derive(Clone, Copy, PartialEq, Eq)]
 pub struct Atom(pub u16);
 
 // A rule's place in text order.
-#[derive(Clone, Copy)]
+#[derive(Clone, Copy, PartialEq, Eq)]
 pub struct Rule(pub u16);
 
 // A pair's place in text order (document 01, "Variables").
-#[derive(Clone, Copy)]
+#[derive(Clone, Copy, PartialEq, Eq)]
 pub struct Pair(pub u16);
 
 // A variable of the clauses.
-#[derive(Clone, Copy)]
+#[derive(Clone, Copy, PartialEq, Eq)]
 pub struct Var(pub u16);
 
 // The variable of an atom (document 01, "Variables": variable a is atom a).
+impl From<Atom> for Var {
+    ghost from_gives = { λ a v. v.0 ≡ a.0 };
+
+    fn from(a: Atom) -> Var {
+        Var(a.0)
+    }
+}
+
+// The number k above 0; none for 0.
+pub fn nonzero(k: u16) -> Option<u16>
+    ensures { result ≡ nonzero k }
+{
+    match k {
+        0 => None,
+        _ => Some(k),
+    }
+}
+
+// The variable of an atom.
 pub fn atom_var(a: Atom) -> Var
     ensures { result.0 ≡ a.0 }
 {

@@ -4,7 +4,7 @@
 ghost use Rattle.std.specs.Prelude.{◌-◌, ◌≤◌, ◌<◌, ◌≡◌, length, get_or};
 ghost use Rattle.program.specs.Arrays.{empty_program};
 
-use numbers::{Atom, BODIES, HEADS, Rule, STARTS, wide};
+use numbers::{Atom, BODIES, HEADS, Rule, STARTS};
 
 // A program: n atoms, its rules in text order, and the body atoms of all rules, those of rule r (from 0) at starts[2r] to starts[2r + 1]
 // for its positive list and at starts[2r + 1] to starts[2r + 2] for its negative one. What lies past the counts is 0.
@@ -23,11 +23,11 @@ pub fn head(heads: &[u16], r: Rule) -> Atom
     requires { (0 < r.0) × (r.0 ≤ length heads.now) }
     ensures { result.0 ≡ get_or heads.now (r.0 - 1) 0 }
 {
-    let i = wide(r.0 - 1);
-    Atom(heads[i])
+    Atom(heads[usize::from(r.0) - 1])
 }
 
 // The program with no atom and no rule.
+#[tactic(auto, unfolding(crate::specs::Arrays::empty_program))]
 pub fn empty() -> Program
     ensures { result ≡ empty_program }
 {
@@ -35,8 +35,8 @@ pub fn empty() -> Program
         atoms: 0,
         rules: 0,
         held: 0,
-        heads: [0u16; HEADS],
-        starts: [0u16; STARTS],
-        bodies: [0u16; BODIES],
+        heads: [0; HEADS],
+        starts: [0; STARTS],
+        bodies: [0; BODIES],
     }
 }

@@ -20,7 +20,6 @@ use Rattle.theory.proofs.Whole.{reduct_whole, clauses_whole, variables_whole, fi
 use Rattle.theory.proofs.Widths.{width_some}
 use Rattle.text.specs.Limits.{Limits}
 use Rattle.refusals.proofs as refusals
-use Rattle.reader.specs.declared.ReadResult.{ReadResult}
 use Rattle.reader.proofs as reader
 use Rattle.clause_walk.specs.Walk.{walked}
 use Rattle.clause_walk.proofs.Walked.{walked_clauses}
@@ -32,7 +31,8 @@ use Rattle.call_lines.proofs as call-lines
 use Rattle.call_lines_rows.proofs.File as File
 use Rattle.answer_form.specs.Answer.{Status, AnswerMalformed, OfStatus}
 use Rattle.answer_form.specs.Pieces.{OffersModel}
-use Rattle.answer_reader.specs.declared.Formed.TheVariants.{Model, NoModel, Malformed as LeftForm}
+use Rattle.answer_reader.specs.declared.AnswerFault.TheVariants.{NoModel, Malformed as LeftForm}
+use Rattle.std.specs.Prelude.{Ok, Err}
 use Rattle.answer_reader.specs.Results.{form_of}
 use Rattle.answer_reader.proofs.Promised as Form
 use Rattle.answer_bytes.specs.Bytes.{Outcome, unset_count, completed, overwritten}
@@ -52,6 +52,7 @@ use Rattle.files.proofs as files
 use Rattle.writer_output.proofs as writer_output_lem
 use Rattle.checker_output.proofs as checker_output_lem
 use Rattle.exports.proofs as exports
+use Rattle.reader.specs.declared.ReadResult.{ReadResult}
 
 -- ---- the open calls
 
@@ -72,17 +73,17 @@ pub record Contracts (M : Type 1) : Type 2 where
   -- filling out any set for any text: `fill_call`, that is `fill_answer`, `fill_assignment` and `fill_levels`
   pub fill_out : call-fill.fill_out.Statement.statement M
   -- the number and the spot of a refusal of a text, `text_number` and `text_spot`
-  pub text_number_lem : refusals.text_number.Statement.statement M
-  pub text_spot_lem : refusals.text_spot.Statement.statement M
+  pub text_number_lem : refusals.TextRefusalRefusal.number.Statement.statement M
+  pub text_spot_lem : refusals.TextRefusalRefusal.spot.Statement.statement M
   -- of a call that writes lines, `line_number` and `line_spot`
-  pub line_number_lem : refusals.line_number.Statement.statement M
-  pub line_spot_lem : refusals.line_spot.Statement.statement M
+  pub line_number_lem : refusals.LineRefusalRefusal.number.Statement.statement M
+  pub line_spot_lem : refusals.LineRefusalRefusal.spot.Statement.statement M
   -- of the check, `check_number` and `check_spot`
-  pub check_number_lem : refusals.check_number.Statement.statement M
-  pub check_spot_lem : refusals.check_spot.Statement.statement M
+  pub check_number_lem : refusals.CheckRefusalRefusal.number.Statement.statement M
+  pub check_spot_lem : refusals.CheckRefusalRefusal.spot.Statement.statement M
   -- of filling out, `fill_number` and `fill_spot`
-  pub fill_number_lem : refusals.fill_number.Statement.statement M
-  pub fill_spot_lem : refusals.fill_spot.Statement.statement M
+  pub fill_number_lem : refusals.FillRefusalRefusal.number.Statement.statement M
+  pub fill_spot_lem : refusals.FillRefusalRefusal.spot.Statement.statement M
   -- what the checker prints, at the front of a buffer: `checker_output`; the bytes after it stay
   pub put_output : checker_output_lem.put_output.Statement.statement M
   -- the writer hands its output over part after part, and returns how many bytes that is: the length of `writer_output`
@@ -111,14 +112,14 @@ contracts M =
       clause_true_lem = truth-clauses.clause_true.Met.met;
       item_holds = truth-items.item_holds.Met.met;
       fill_out = call-fill.fill_out.Met.met;
-      text_number_lem = refusals.text_number.Met.met;
-      text_spot_lem = refusals.text_spot.Met.met;
-      line_number_lem = refusals.line_number.Met.met;
-      line_spot_lem = refusals.line_spot.Met.met;
-      check_number_lem = refusals.check_number.Met.met;
-      check_spot_lem = refusals.check_spot.Met.met;
-      fill_number_lem = refusals.fill_number.Met.met;
-      fill_spot_lem = refusals.fill_spot.Met.met;
+      text_number_lem = refusals.TextRefusalRefusal.number.Met.met;
+      text_spot_lem = refusals.TextRefusalRefusal.spot.Met.met;
+      line_number_lem = refusals.LineRefusalRefusal.number.Met.met;
+      line_spot_lem = refusals.LineRefusalRefusal.spot.Met.met;
+      check_number_lem = refusals.CheckRefusalRefusal.number.Met.met;
+      check_spot_lem = refusals.CheckRefusalRefusal.spot.Met.met;
+      fill_number_lem = refusals.FillRefusalRefusal.number.Met.met;
+      fill_spot_lem = refusals.FillRefusalRefusal.spot.Met.met;
       put_output = checker_output_lem.put_output.Met.met;
       say_output = writer_output_lem.say_output.Met.met;
       read_on_lem = files.read_on.Met.met;
@@ -144,11 +145,11 @@ pub record General (P : Program) (w : ℕ) : Type 0 where
 -- the form of an answer, as the check finds it
 pub record AnswerForm (t : List ℕ) : Type 0 where
   -- malformed at s exactly if it is so
-  pub malformed : (s : ℕ) → (form_of t ≡ LeftForm s) ↔ AnswerMalformed t s
+  pub malformed : (s : ℕ) → (form_of t ≡ Err (LeftForm s)) ↔ AnswerMalformed t s
   -- a model exactly if t prints a proper answer with the status SATISFIABLE, whose literals are read one by one from the end e of its status line on
-  pub a_model : (e : ℕ) → (form_of t ≡ Model e) ↔ OffersModel t e
+  pub a_model : (e : ℕ) → (form_of t ≡ Ok e) ↔ OffersModel t e
   -- no model exactly if it prints one with another status
-  pub no_model_lem : (form_of t ≡ NoModel) ↔ ((s : Status) × OfStatus t s)
+  pub no_model_lem : (form_of t ≡ Err NoModel) ↔ ((s : Status) × OfStatus t s)
 
 -- the literals of an answer from position p on, assigned one after the other to n variables without values
 pub record Assigning (t : List ℕ) (p n : ℕ) (b : List ℕ) : Type 0 where

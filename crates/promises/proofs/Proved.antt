@@ -29,8 +29,6 @@ use Rattle.theory.proofs.Base as Base
 use Rattle.text.specs.Limits.{Limits, Admitted}
 use Rattle.program.specs.Arrays.{decoded}
 use Rattle.program.proofs.Decode.{decoded_kept}
-use Rattle.reader.specs.declared.ReadResult.{ReadResult}
-use Rattle.reader.specs.declared.ReadVerdict.TheVariants.{Accepted}
 use Rattle.reader.specs.Verdict.{read_of}
 use Rattle.reader.proofs.Counted.{counted_whole}
 use Rattle.reader_laws.proofs.FirstBytes.{breach_at}
@@ -72,6 +70,8 @@ use Rattle.exports.proofs.Zero as Zero
 use Rattle.promises.specs.Promised.{LeastModel, Stability, LevelNumbers, HighestLevel, Width, GroupMeanings, ClauseList, Demand3, ProgramText, ClauseFile}
 use Rattle.promises.specs.Promised.{LineCall, RunCall, WriterOutput, WriterParts, AnswerText, CheckCall, CheckerOutput, FillCall, TextDemand3, ClauseTests, LeftOut}
 use Rattle.promises.specs.Promised.{LevelsWithoutGaps, ZeroAccepts, Promised}
+use Rattle.reader.specs.declared.ReadResult.{ReadResult}
+use Rattle.std.specs.Prelude.{Ok}
 
 -- ---- 1 Meaning
 
@@ -315,7 +315,7 @@ text_demand3 t P A =
       set_of_lem = Correspond.bytes_set t P A;
     }
 
-accepted_demand3 : (t : List ℕ) → (read_of t).verdict ≡ Accepted → (P : Program) × Admitted t P × TextDemand3 t P
+accepted_demand3 : (t : List ℕ) → (read_of t).verdict ≡ Ok tt → (P : Program) × Admitted t P × TextDemand3 t P
 accepted_demand3 t e = let a = accepted_admitted t e in (a.0, a.1, text_demand3 t a.0 a.1)
 
 -- ---- 10 The requests of document 02

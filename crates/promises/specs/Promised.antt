@@ -46,7 +46,6 @@ use Rattle.program.specs.Arrays.{decoded, kept, empty_program}
 use Rattle.refusals.specs.declared.TextRefusal.{TextRefusal}
 use Rattle.refusals.specs.declared.LineRefusal.{LineRefusal}
 use Rattle.refusals.specs.declared.FillRefusal.{FillRefusal}
-use Rattle.reader.specs.declared.ReadVerdict.TheVariants.{Accepted, Refused}
 use Rattle.reader.specs.Verdict.{read_of}
 use Rattle.reader.specs.Counted.{counted_of}
 use Rattle.reader_laws.specs.Breach.{Breach}
@@ -58,8 +57,6 @@ use Rattle.clause_walk.specs.Walk.{group_count, item_count}
 use Rattle.truth_literals.specs.Items.{item_true}
 use Rattle.truth_clauses.specs.Truth.{value_in, InItem, code_true}
 use Rattle.clause_runs.specs.Lines.{clause_total, lines_of, line_of, fitting, run_in}
-use Rattle.call_lines_rows.specs.declared.LineVerdict.TheVariants.{Written, Refused as LineRefused}
-use Rattle.call_lines_rows.specs.declared.RunVerdict.TheVariants.{WrittenRun, RefusedRun}
 use Rattle.call_lines_rows.specs.Lines.{line_answer, line_bytes, run_answer, run_bytes}
 use Rattle.call_lines_rows.specs.Parts.{parts_of}
 use Rattle.call_lines_rows.specs.Rows.{LineRow, FirstLineRow, LineAnswers, RunWritten}
@@ -68,11 +65,9 @@ use Rattle.answer_form.specs.Pieces.{Spotted, LiteralAt}
 use Rattle.answer_values.specs.Rows.{AllFit}
 use Rattle.answer_offers.specs.Offered.{values_of, Completes, offered_text}
 use Rattle.call_results.specs.Results.{level_byte, var_total}
-use Rattle.call_check_rows.specs.declared.CheckVerdict.TheVariants.{Model}
 use Rattle.call_check_rows.specs.Check.{check_answer, check_assignment, check_levels}
 use Rattle.call_check_rows.specs.Rows.{Offers, clause_of, CheckRow, FirstCheckRow, CheckAnswers, Accepts, Shows, ModelWritten}
 use Rattle.level_lists.specs.Bytes.{set_in}
-use Rattle.call_fill_rows.specs.declared.FillVerdict.TheVariants.{Filled, Refused as FillRefused}
 use Rattle.call_fill_rows.specs.FillOut.{fill_answer, fill_assignment, fill_levels}
 use Rattle.call_fill_rows.specs.Rows.{FillRow, FirstFillRow, FillAnswers, FillAccepts, Fills}
 use Rattle.correspondence.specs.Accepted.{AcceptedAssignment, Room, CheckWrites, set_bytes, SetOf}
@@ -80,6 +75,10 @@ use Rattle.files.specs.Count.{most_counted, counted, first_read, read_all, bytes
 use Rattle.writer_output.specs.Output.{clause_file, file_before, writer_output, writer_text}
 use Rattle.checker_output.specs.Output.{checker_output, checker_text, PrintsModel}
 use Rattle.exports.specs.Replies.{read_reply, line_reply, run_reply, check_reply, fill_reply}
+use Rattle.std.specs.Prelude.{Err, Ok}
+use Rattle.call_lines_rows.specs.Verdicts.{written_run}
+use Rattle.call_check_rows.specs.Verdict.{model_shown}
+use Rattle.call_fill_rows.specs.Verdict.{filled_out}
 
 -- ---- 1 Meaning
 
@@ -214,15 +213,15 @@ pub record ProgramText (t : List ℕ) : Type 0 where
   -- and what the row names stands at that spot in the text: the number, or rule 501, from its first byte on
   pub breach_at : (P : Program) → t ≡ text_of P → (k s : ℕ) → Breach P k s → BreachAt P k s
   -- the reader accepts exactly if no row is met
-  pub accepted : ((read_of t).verdict ≡ Accepted) ↔ ((k s : ℕ) → Row t k s → ⊥)
+  pub accepted : ((read_of t).verdict ≡ Ok tt) ↔ ((k s : ℕ) → Row t k s → ⊥)
   -- and exactly if the text is at most 65,536 bytes long, of the form and within the limits
-  pub admitted : ((read_of t).verdict ≡ Accepted) ↔ ((P : Program) × Admitted t P)
+  pub admitted : ((read_of t).verdict ≡ Ok tt) ↔ ((P : Program) × Admitted t P)
   -- then it keeps the printed program: its atoms, rules, lists and order
   pub kept_whole : (P : Program) → Admitted t P → (read_of t).program ≡ kept P
   -- and the arrays hold that program
   pub decoded_whole : (P : Program) → Admitted t P → decoded (read_of t).program ≡ P
   -- of a refused text it keeps nothing
-  pub kept_nothing : (r : TextRefusal) → (read_of t).verdict ≡ Refused r → (read_of t).program ≡ empty_program
+  pub kept_nothing : (r : TextRefusal) → (read_of t).verdict ≡ Err r → (read_of t).program ≡ empty_program
 
 -- ---- 5 The clause file: the bytes t are any, j is any number, k any place and b any buffer
 
@@ -248,20 +247,20 @@ pub record LineCall (t : List ℕ) (j k : ℕ) (b : List ℕ) : Type 0 where
   -- no two rows or spots are first
   pub one_row : (r s l u : ℕ) → FirstLineRow t j k (length b) r s → FirstLineRow t j k (length b) l u → (r ≡ l) × (s ≡ u)
   -- it accepts exactly if no row is met
-  pub accepted : ((x : ℕ) × (line_answer t j k (length b) ≡ Written x)) ↔ ((r s : ℕ) → LineRow t j k (length b) r s → ⊥)
+  pub accepted : ((x : ℕ) × (line_answer t j k (length b) ≡ Ok x)) ↔ ((r s : ℕ) → LineRow t j k (length b) r s → ⊥)
   -- then it returns the length of line j, which it has written from place k on; the other bytes stay
-  pub written : (x : ℕ) → line_answer t j k (length b) ≡ Written x → (P : Program) → Admitted t P
+  pub written : (x : ℕ) → line_answer t j k (length b) ≡ Ok x → (P : Program) → Admitted t P
       → (x ≡ length (line_of P j)) × (line_bytes t j k b ≡ take k b ++ (line_of P j ++ drop (k + x) b))
   -- refused, it writes nothing
-  pub stays : (r : LineRefusal) → line_answer t j k (length b) ≡ LineRefused r → line_bytes t j k b ≡ b
+  pub stays : (r : LineRefusal) → line_answer t j k (length b) ≡ Err r → line_bytes t j k b ≡ b
 
 pub record RunCall (t : List ℕ) (j : ℕ) (b : List ℕ) : Type 0 where
   -- a run is refused exactly as its first line is at place 0
-  pub refused : (r : LineRefusal) → (run_answer t j (length b) ≡ RefusedRun r) ↔ (line_answer t j 0 (length b) ≡ LineRefused r)
+  pub refused : (r : LineRefusal) → (run_answer t j (length b) ≡ Err r) ↔ (line_answer t j 0 (length b) ≡ Err r)
   -- then it writes nothing
-  pub stays : (r : LineRefusal) → run_answer t j (length b) ≡ RefusedRun r → run_bytes t j b ≡ b
+  pub stays : (r : LineRefusal) → run_answer t j (length b) ≡ Err r → run_bytes t j b ≡ b
   -- accepted, it writes m lines, those that the line call writes for j, j + 1, .., one after the other, and as many as fit; the other bytes stay
-  pub written : (m x : ℕ) → run_answer t j (length b) ≡ WrittenRun m x → (P : Program) → Admitted t P → RunWritten P j b m x (run_bytes t j b)
+  pub written : (m x : ℕ) → run_answer t j (length b) ≡ written_run m x → (P : Program) → Admitted t P → RunWritten P j b m x (run_bytes t j b)
 
 -- `writer_text t` is all that the writer program has to hand to its output for the program text t. Of the code three things are proved: what is put into its
 -- buffer is each time the next part (`WriterParts`) or the refusal's line, the loop ends with the last part, and the bytes that it counts as handed over are
@@ -319,7 +318,7 @@ pub record CheckCall (t u b l : List ℕ) : Type 0 where
   pub accepted : Accepts t u (length b) (length l) ↔ ((p r s : ℕ) → CheckRow t u (length b) (length l) p r s → ⊥)
   -- then the text is admitted, the answer names no variable above V and none twice, its values, completed, make every clause true, there is room; it returns
   -- how many atoms are true, the highest level and how many variables no literal names, and writes the values and the levels; the bytes after them stay
-  pub written : (k h c : ℕ) → check_answer t u (length b) (length l) ≡ Model k h c
+  pub written : (k h c : ℕ) → check_answer t u (length b) (length l) ≡ model_shown k h c
       → (P : Program) × (xs : List Spotted) × Shows t u (length b) (length l) P xs × ModelWritten t u b l P xs k h c
   -- refusals 13, 14 and 16 zero the assignment's first V bytes; row 15 does not occur (section 10, `LeftOut.never_15`)
   pub zeroed : (r s : ℕ) → CheckAnswers t u (length b) (length l) r s → 13 ≤ r
@@ -334,7 +333,7 @@ pub record CheckerOutput (t u : List ℕ) : Type 0 where
   pub refused : (r s : ℕ) → CheckAnswers t u 9890 126 r s → checker_text t u ≡ refused_text r s
   -- where it accepts, "(assumed c)" on a line unless c is 0, then "(model (atoms) (levels))" with the true atoms of the answer, ascending, which are a stable
   -- model, and their level numbers
-  pub shown : (k h c : ℕ) → check_answer t u 9890 126 ≡ Model k h c → PrintsModel t u c
+  pub shown : (k h c : ℕ) → check_answer t u 9890 126 ≡ model_shown k h c → PrintsModel t u c
   -- the first 65,537 bytes of each and its length give the same
   pub front : checker_output (take 65537 t) (length t) (take 65537 u) (length u) ≡ checker_text t u
 
@@ -349,9 +348,9 @@ pub record FillCall (t s b l : List ℕ) : Type 0 where
   pub accepted : FillAccepts t s (length b) (length l) ↔ ((k r u : ℕ) → FillRow t s (length b) (length l) k r u → ⊥)
   -- then the text is admitted, the set has n bytes, each 0 or 1, and is a stable model; it returns how many atoms are true and the highest of their level
   -- numbers, and writes the filled-out list and the level numbers; the bytes after them stay
-  pub written : (k h : ℕ) → fill_answer t s (length b) (length l) ≡ Filled k h → (P : Program) × Fills t s b l k h P
+  pub written : (k h : ℕ) → fill_answer t s (length b) (length l) ≡ filled_out k h → (P : Program) × Fills t s b l k h P
   -- refused, it writes nothing
-  pub stays : (r : FillRefusal) → fill_answer t s (length b) (length l) ≡ FillRefused r
+  pub stays : (r : FillRefusal) → fill_answer t s (length b) (length l) ≡ Err r
       → (fill_assignment t s b (length l) ≡ b) × (fill_levels t s (length b) l ≡ l)
   -- with room, a set of n bytes, each 0 or 1, is accepted exactly if it is a stable model: the least model of its own reduct
   pub exactly : (P : Program) → Admitted t P → Room P b l → length s ≡ P.atoms → ((i : ℕ) → i < length s → get_or s i 0 ≤ 1)
@@ -389,7 +388,7 @@ pub record TextDemand3 (t : List ℕ) (P : Program) : Type 0 where
   -- filling out the set of its true atoms returns the first two of these numbers and writes the same bytes into both buffers
   pub fill_gives : (bs : List Bool) (X : AcceptedAssignment t P bs) (s b l : List ℕ) → SetOf P.atoms s (true_atoms P bs) → Room P b l
       → (fill_answer t s (length b) (length l)
-      ≡ Filled (sum P.atoms (λ a. cond (true_atoms P bs a) 1 0)) (highest P.atoms (level P (true_atoms P bs))))
+      ≡ filled_out (sum P.atoms (λ a. cond (true_atoms P bs a) 1 0)) (highest P.atoms (level P (true_atoms P bs))))
       × (fill_assignment t s b (length l) ≡ check_assignment t X.answer b (length l))
       × (fill_levels t s (length b) l ≡ check_levels t X.answer (length b) l)
   -- and each stable model is such a set
@@ -418,7 +417,7 @@ pub record LeftOut : Type 0 where
   -- and one alone
   pub one_completion : (u : List ℕ) (xs : List Spotted) → Offers u xs → (n : ℕ) → AllFit n xs → (bs : List Bool) → Completes n xs bs → bs ≡ values_of n xs
   -- the count c that an accepting check returns is V less the number of literals of the answer
-  pub of_check_lem : (t u b l : List ℕ) (k h c : ℕ) → check_answer t u (length b) (length l) ≡ Model k h c
+  pub of_check_lem : (t u b l : List ℕ) (k h c : ℕ) → check_answer t u (length b) (length l) ≡ model_shown k h c
       → (P : Program) × (xs : List Spotted) × Admitted t P × Offers u xs × (c + length xs ≡ var_total P)
   -- no check refuses with row 15
   pub never_15 : (t u : List ℕ) (a l s : ℕ) → CheckAnswers t u a l 15 s → ⊥
@@ -430,23 +429,23 @@ pub record LevelsWithoutGaps : Type 0 where
       → WithoutGaps M (level P M) (sum P.atoms (λ a. cond (M a) 1 0)) (highest P.atoms (level P M))
   -- in the bytes that every accepting check writes, with the number k of true atoms and the highest level h that it returns: the true atoms are those of 1 to
   -- n whose byte of the assignment is not 0, and their levels are their level bytes
-  pub of_check_lem : (t u b l : List ℕ) (k h c : ℕ) → check_answer t u (length b) (length l) ≡ Model k h c
+  pub of_check_lem : (t u b l : List ℕ) (k h c : ℕ) → check_answer t u (length b) (length l) ≡ model_shown k h c
       → (P : Program) × Admitted t P × WithoutGaps (set_in P.atoms (check_assignment t u b (length l))) (level_byte (check_levels t u (length b) l)) k h
   -- in the bytes that every accepting filling out writes
-  pub of_fill_lem : (t s b l : List ℕ) (k h : ℕ) → fill_answer t s (length b) (length l) ≡ Filled k h
+  pub of_fill_lem : (t s b l : List ℕ) (k h : ℕ) → fill_answer t s (length b) (length l) ≡ filled_out k h
       → (P : Program) × Admitted t P × WithoutGaps (set_in P.atoms (fill_assignment t s b (length l))) (level_byte (fill_levels t s (length b) l)) k h
 
 -- ---- 11 The calls for other languages: a reply's number is 0 exactly if the call accepts
 
 pub record ZeroAccepts : Type 0 where
   -- the reader
-  pub of_read : (t : List ℕ) → ((read_reply t).number ≡ 0) ↔ ((read_of t).verdict ≡ Accepted)
+  pub of_read : (t : List ℕ) → ((read_reply t).number ≡ 0) ↔ ((read_of t).verdict ≡ Ok tt)
   -- the line call, the call for a run of lines
-  pub of_line_lem : (t : List ℕ) (j k n : ℕ) → ((line_reply t j k n).number ≡ 0) ↔ ((m : ℕ) × (line_answer t j k n ≡ Written m))
-  pub of_run_lem : (t : List ℕ) (j n : ℕ) → ((run_reply t j n).number ≡ 0) ↔ ((m : ℕ) × (x : ℕ) × (run_answer t j n ≡ WrittenRun m x))
+  pub of_line_lem : (t : List ℕ) (j k n : ℕ) → ((line_reply t j k n).number ≡ 0) ↔ ((m : ℕ) × (line_answer t j k n ≡ Ok m))
+  pub of_run_lem : (t : List ℕ) (j n : ℕ) → ((run_reply t j n).number ≡ 0) ↔ ((m : ℕ) × (x : ℕ) × (run_answer t j n ≡ written_run m x))
   -- the check, filling out
   pub of_check_lem : (t u : List ℕ) (a l : ℕ) → ((check_reply t u a l).number ≡ 0) ↔ Accepts t u a l
-  pub of_fill_lem : (t s : List ℕ) (a l : ℕ) → ((fill_reply t s a l).number ≡ 0) ↔ ((k : ℕ) × (h : ℕ) × (fill_answer t s a l ≡ Filled k h))
+  pub of_fill_lem : (t s : List ℕ) (a l : ℕ) → ((fill_reply t s a l).number ≡ 0) ↔ ((k : ℕ) × (h : ℕ) × (fill_answer t s a l ≡ filled_out k h))
 
 -- ---- all of it
 
@@ -509,7 +508,7 @@ pub record Promised : Type 1 where
   -- 9: stable models, accepted assignments and filled-out sets of every admitted text correspond
   pub text_demand3 : (t : List ℕ) (P : Program) → Admitted t P → TextDemand3 t P
   -- 9: and so of every text that the reader accepts
-  pub accepted_demand3 : (t : List ℕ) → (read_of t).verdict ≡ Accepted → (P : Program) × Admitted t P × TextDemand3 t P
+  pub accepted_demand3 : (t : List ℕ) → (read_of t).verdict ≡ Ok tt → (P : Program) × Admitted t P × TextDemand3 t P
   -- 10: the tests of clauses and of items of clauses, for every program within the limits
   pub clause_tests : (P : Program) → Limits P → ClauseTests P
   -- 10: solvers that leave variables out

@@ -6,17 +6,16 @@ use mathlib.Core.Path.{◌≡◌, refl}
 use mathlib.Core.List.{List, [], ◌∷◌, map}
 use Rattle.lists.specs.Ascii.{ascii}
 use Rattle.reader_form.specs.Automaton.{form_at, digit_test, literal_of, leave_of, digit_of, item_of, act_at, form_step}
-use Rattle.reader.specs.declared.ReadVerdict.{ReadVerdict}
-use Rattle.reader.specs.declared.ReadVerdict.TheVariants.{Accepted, Refused}
+use Rattle.std.specs.Prelude.{Ok, Err}
 use Rattle.reader_work.specs.Work as Work
 use Rattle.reader_work.specs.Fold.{ended, read_from}
 use Rattle.refusals.specs.Numbers.{text_number, text_spot}
-use Rattle.reader.specs.Verdict.{refusal_of, refuse_of, finished, read_of}
+use Rattle.reader.specs.Verdict.{ReadVerdict, refusal_of, refuse_of, finished, read_of}
 
 -- number and spot of a refusal
 abbrev pub row_of : ReadVerdict → List ℕ
-row_of Accepted = []
-row_of (Refused r) = text_number r ∷ text_spot r ∷ []
+row_of (Ok u) = []
+row_of (Err r) = text_number r ∷ text_spot r ∷ []
 
 pub record Case : Type 0 where
   pub text : String

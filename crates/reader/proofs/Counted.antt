@@ -11,9 +11,6 @@ use lib.Seq.{take_all}
 use borrow.Author.Tests.{lt-ltb, le-ltb}
 use Rattle.lists.proofs.Tests.{le_or_lt}
 use Rattle.refusals.specs.declared.TextRefusal.TheVariants.{Overlong}
-use Rattle.program.specs.declared.Program.{Program}
-use Rattle.reader.specs.declared.ReadVerdict.TheVariants.{Refused}
-use Rattle.program.specs.Arrays.{empty_program}
 use Rattle.reader.specs.Verdict.{refuse_of, read_of}
 use Rattle.reader.specs.Counted.{counted_of}
 
@@ -36,7 +33,3 @@ counted_whole t =
   where
     long : 65536 < length t → refuse_of (Overlong (length t)) ≡ read_of t
     long h = rw (lt-ltb 65536 (length t) h)
-
-pub refused_long : {p : Program} {total : ℕ} → p ≡ empty_program → record { verdict = Refused (Overlong total); program = p } ≡ refuse_of (Overlong total)
-unfolding refuse_of
-refused_long {p} {total} e = ap (λ (x : Program). record { verdict = Refused (Overlong total); program = x }) e

@@ -3,14 +3,15 @@
 
 ghost use Rattle.std.specs.Prelude.{◌≡◌};
 ghost use Rattle.reader_work.specs.Fold.{Ends, read_from, started};
+ghost use Rattle.reader_work.specs.Numbers.{tally};
 ghost use Rattle.reader_words.specs.Standing.{read_rest};
-ghost use Rattle.reader.specs.Verdict.{refusal_of, refuse_of, read_of};
+ghost use Rattle.program.specs.Arrays.{empty_program};
+ghost use Rattle.reader.specs.Verdict.{program_of, verdict_of, refuse_of, read_of, left_of};
 ghost use Rattle.reader.specs.Counted.{counted_of};
 
-use numbers::{BODIES, HEADS, STARTS};
 use program::{Program, empty};
 use reader_fast::take_lines;
-use reader_form::{AT_PLACE, DEAD, FORM_RULE, step};
+use reader_form::{FORM_RULE, Mode, step};
 use reader_words::Stand;
 use reader_work::{Counts, Token, refused, token_after, work};
 use refusals::TextRefusal;
@@ -18,30 +19,10 @@ use refusals::TextRefusal;
 // The most bytes of a program text, and of a solver answer (document 01, "Program text" and "Solver answer").
 pub const MAX_TEXT: usize = 65536;
 
-// Whether a text is a program.
-#[derive(Clone, Copy)]
-pub enum ReadVerdict {
-    Accepted,
-    Refused(TextRefusal),
-}
-
-// The verdict, and the program: the empty one where the text is refused.
-#[derive(Drop)]
-pub struct ReadResult {
-    pub verdict: ReadVerdict,
-    pub program: Program,
-}
-
-// Reads on to the end of the text, byte by byte: counts and arrays at the end.
-fn finish(
-    text: &[u8],
-    s: Stand,
-    heads: &mut [u16; HEADS],
-    starts: &mut [u16; STARTS],
-    bodies: &mut [u16; BODIES],
-) -> Counts
-    ensures { Ends result heads.new starts.new bodies.new
-        (read_rest s heads.old starts.old bodies.old text.now) }
+// Reads on to the end of the text, byte by byte: counts and arrays at the end. The counts of the program are left as they are.
+fn finish(text: &[u8], s: Stand, program: &mut Program) -> Counts
+    ensures { Ends (tally result) program.new.heads program.new.starts program.new.bodies
+        (read_rest s program.old.heads program.old.starts program.old.bodies text.now) }
 {
     let mut x = Token {
         k: s.k,
@@ -50,88 +31,80 @@ fn finish(
     };
     let mut mode = s.mode;
     let mut c = Counts {
-        atoms: s.atoms as u16,
+        atoms: u16::from(s.atoms),
         rules: s.rules,
         held: s.held,
         prev: s.prev,
-        number: 0,
-        spot: 0,
+        refusal: None,
     };
-    let mut i = s.at;
-    while i < text.len() {
+    for i in s.at..text.len() {
         let b = text[i];
         let p = step(x.k, mode, b);
-        let act = p.act;
-        if p.mode == DEAD {
-            return refused(c, 2, i);
+        if p.mode == Mode::Dead {
+            return refused(c, TextRefusal::Malformed(i));
         }
-        c = work(act, x, i, c, &mut *heads, &mut *starts, &mut *bodies);
-        x = token_after(act, x, p.k, b, i);
+        c = work(p.act, x, i, c, &mut *program);
+        x = token_after(p.act, x, p.k, b, i);
         mode = p.mode;
-        i += 1;
     }
-    if x.k != FORM_RULE {
-        return refused(c, 2, i);
-    }
-    if mode != AT_PLACE {
-        return refused(c, 2, i);
+    if x.k != FORM_RULE || mode != Mode::AtPlace {
+        return refused(c, TextRefusal::Malformed(text.len().max(s.at)));
     }
     c
 }
 
-// Reads the text into the three arrays, which hold zeros. Its length is not looked at.
-pub fn read_into(
-    text: &[u8],
-    heads: &mut [u16; HEADS],
-    starts: &mut [u16; STARTS],
-    bodies: &mut [u16; BODIES],
-) -> Counts
-    ensures { Ends result heads.new starts.new bodies.new
-        (read_from (started heads.old starts.old bodies.old) 0 text.now) }
+// Reads the text into the program, whose arrays hold zeros. Its length is not looked at.
+pub fn read_into(text: &[u8], program: &mut Program) -> Result<(), TextRefusal>
+    ensures verdict { result ≡ verdict_of (read_from (started program.old.heads program.old.starts program.old.bodies) 0 text.now) }
+    ensures program { program.new ≡ program_of (read_from (started program.old.heads program.old.starts program.old.bodies) 0 text.now) }
 {
     let s = Stand {
         k: 0,
-        mode: AT_PLACE,
+        mode: Mode::AtPlace,
         at: 0,
         atoms: 0,
         rules: 0,
         held: 0,
         prev: 0,
     };
-    let p = take_lines(text, s, &mut *heads, &mut *starts, &mut *bodies);
-    finish(text, p, &mut *heads, &mut *starts, &mut *bodies)
+    let p = take_lines(text, s, &mut *program);
+    let c = finish(text, p, &mut *program);
+    program.atoms = c.atoms;
+    program.rules = c.rules;
+    program.held = c.held;
+    match c.refusal {
+        None => Ok(()),
+        Some(refusal) => Err(refusal),
+    }
 }
 
-// The refusal of row `number`, from 2 to 7.
-pub fn refusal(number: u8, spot: usize) -> TextRefusal
-    ensures { result ≡ refusal_of number spot }
+// A text's verdict, and its program: the empty one where the text is refused.
+// Kept beside one another: document 01 asks for verdict enums without arrays.
+#[derive(Drop)]
+pub struct ReadResult {
+    pub verdict: Result<(), TextRefusal>,
+    pub program: Program,
+}
+
+// Reads a text into the program, which is the empty one.
+pub fn read_program(text: &[u8], program: &mut Program) -> Result<(), TextRefusal>
+    requires { program.old ≡ empty_program }
+    ensures verdict { result ≡ (read_of text.now).verdict }
+    ensures program { program.new ≡ left_of text.now }
 {
-    if number == 2 {
-        return TextRefusal::Malformed(spot);
+    if MAX_TEXT < text.len() {
+        return Err(TextRefusal::Overlong(text.len()));
     }
-    if number == 3 {
-        return TextRefusal::TooManyAtoms(spot);
-    }
-    if number == 4 {
-        return TextRefusal::UnknownAtom(spot);
-    }
-    if number == 5 {
-        return TextRefusal::Unordered(spot);
-    }
-    if number == 6 {
-        return TextRefusal::TooManyRules(spot);
-    }
-    TextRefusal::BodiesFull(spot)
+    read_into(text, program)
 }
 
 // A text that is refused, and the empty program.
 fn refuse(refusal: TextRefusal) -> ReadResult
     ensures { result ≡ refuse_of refusal }
 {
-    let program = empty();
     ReadResult {
-        verdict: ReadVerdict::Refused(refusal),
-        program: program,
+        verdict: Err(refusal),
+        program: empty(),
     }
 }
 
@@ -139,27 +112,13 @@ fn refuse(refusal: TextRefusal) -> ReadResult
 pub fn read(text: &[u8]) -> ReadResult
     ensures { result ≡ read_of text.now }
 {
-    if MAX_TEXT < text.len() {
-        return refuse(TextRefusal::Overlong(text.len()));
-    }
-    let mut heads = [0u16; HEADS];
-    let mut starts = [0u16; STARTS];
-    let mut bodies = [0u16; BODIES];
-    let c = read_into(text, &mut heads, &mut starts, &mut bodies);
-    if c.number != 0 {
-        return refuse(refusal(c.number, c.spot));
-    }
-    let program = Program {
-        atoms: c.atoms,
-        rules: c.rules,
-        held: c.held,
-        heads: heads,
-        starts: starts,
-        bodies: bodies,
-    };
-    ReadResult {
-        verdict: ReadVerdict::Accepted,
-        program: program,
+    let mut program = empty();
+    match read_program(text, &mut program) {
+        Ok(()) => ReadResult {
+            verdict: Ok(()),
+            program,
+        },
+        Err(refusal) => refuse(refusal),
     }
 }
 
@@ -168,10 +127,7 @@ pub fn read_counted(front: &[u8], total: usize) -> ReadResult
     ensures { result ≡ counted_of front.now total }
 {
     if MAX_TEXT < total {
-        return ReadResult {
-            verdict: ReadVerdict::Refused(TextRefusal::Overlong(total)),
-            program: empty(),
-        };
+        return refuse(TextRefusal::Overlong(total));
     }
     read(front)
 }

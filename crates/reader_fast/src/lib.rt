@@ -7,10 +7,10 @@
 ghost use Rattle.std.specs.Prelude.{◌≡◌};
 ghost use Rattle.reader_words.specs.Standing.{read_rest, Goes, GoesHeads, GoesStarts, GoesBodies};
 
-use numbers::{Atom, BODIES, HEADS, MAX_ATOMS, Rule, STARTS, wide};
+use numbers::{Atom, BODIES, HEADS, MAX_ATOMS, Rule, STARTS};
+use program::Program;
 use reader_form::{
-    AT_PLACE, AT_SPACE, FORM_BETWEEN, FORM_CLOSE, FORM_HEAD, FORM_NEGATIVE, FORM_POSITIVE,
-    FORM_RULE,
+    FORM_BETWEEN, FORM_CLOSE, FORM_HEAD, FORM_NEGATIVE, FORM_POSITIVE, FORM_RULE, Mode,
 };
 use reader_words::{Stand, added, fits, has, is_list, listing, ready, short_number_at};
 use reader_work::{put_body, put_head};
@@ -19,32 +19,22 @@ use reader_work::{put_body, put_head};
 fn take_atoms_line(text: &[u8], s: Stand) -> Stand
     ensures { Goes s result text.now }
 {
-    if !ready(s, 0) {
+    if !ready(s, 0) || !has(text, s.at, b"(atoms ") {
         return s;
     }
-    let at = s.at;
-    if !has(text, at, b"(atoms ") {
+    let Some(n) = short_number_at(text, s.at + 7) else {
         return s;
-    }
-    let n = short_number_at(text, at + 7);
-    if n.count == 0 {
-        return s;
-    }
-    if MAX_ATOMS < n.value {
-        return s;
-    }
-    let to = at + 7 + n.count;
-    if !has(text, to, b")\n") {
+    };
+    let to = s.at + 7 + n.count;
+    if MAX_ATOMS < n.value || !has(text, to, b")\n") {
         return s;
     }
     Stand {
         k: FORM_RULE,
         at: to + 2,
-        rules: s.rules,
-        held: s.held,
-        prev: s.prev,
         atoms: n.value as u8,
-        mode: AT_PLACE,
+        mode: Mode::AtPlace,
+        ..s
     }
 }
 
@@ -52,21 +42,14 @@ fn take_atoms_line(text: &[u8], s: Stand) -> Stand
 fn take_rule_word(text: &[u8], s: Stand) -> Stand
     ensures { Goes s result text.now }
 {
-    if !ready(s, FORM_RULE) {
-        return s;
-    }
-    let at = s.at;
-    if !has(text, at, b"(rule ") {
+    if !ready(s, FORM_RULE) || !has(text, s.at, b"(rule ") {
         return s;
     }
     Stand {
         k: FORM_HEAD,
-        at: at + 6,
-        rules: s.rules,
-        held: s.held,
-        prev: s.prev,
-        atoms: s.atoms,
-        mode: AT_PLACE,
+        at: s.at + 6,
+        mode: Mode::AtPlace,
+        ..s
     }
 }
 
@@ -77,27 +60,20 @@ fn take_head(text: &[u8], s: Stand, heads: &mut [u16; HEADS]) -> Stand
     if !ready(s, FORM_HEAD) {
         return s;
     }
-    let at = s.at;
-    let n = short_number_at(text, at);
-    if n.count == 0 {
+    let Some(n) = short_number_at(text, s.at) else {
         return s;
-    }
-    if (s.atoms as u16) < n.value {
-        return s;
-    }
-    let to = at + n.count;
-    if !has(text, to, b" (") {
+    };
+    let to = s.at + n.count;
+    if u16::from(s.atoms) < n.value || !has(text, to, b" (") {
         return s;
     }
     put_head(&mut *heads, Rule(s.rules + 1), Atom(n.value));
     Stand {
         k: FORM_POSITIVE,
         at: to + 2,
-        rules: s.rules,
-        held: s.held,
         prev: 0,
-        atoms: s.atoms,
-        mode: AT_PLACE,
+        mode: Mode::AtPlace,
+        ..s
     }
 }
 
@@ -105,24 +81,13 @@ fn take_head(text: &[u8], s: Stand, heads: &mut [u16; HEADS]) -> Stand
 fn take_empty_list(text: &[u8], s: Stand) -> Stand
     ensures { Goes s result text.now }
 {
-    if !is_list(s.k) {
-        return s;
-    }
-    if s.mode != AT_PLACE {
-        return s;
-    }
-    let at = s.at;
-    if !has(text, at, b")") {
+    if !is_list(s.k) || s.mode != Mode::AtPlace || !has(text, s.at, b")") {
         return s;
     }
     Stand {
         k: s.k + 2,
-        at: at + 1,
-        rules: s.rules,
-        held: s.held,
-        prev: s.prev,
-        atoms: s.atoms,
-        mode: AT_PLACE,
+        at: s.at + 1,
+        ..s
     }
 }
 
@@ -133,24 +98,21 @@ fn take_body_atom(text: &[u8], s: Stand, bodies: &mut [u16; BODIES]) -> Stand
     if !listing(s) {
         return s;
     }
-    let n = short_number_at(text, s.at);
-    if n.count == 0 {
+    let Some(n) = short_number_at(text, s.at) else {
         return s;
-    }
-    if !fits(s, Atom(n.value)) {
+    };
+    let a = Atom(n.value);
+    if !fits(s, a) {
         return s;
     }
     let to = s.at + n.count;
-    let b = text[to];
-    if b == 32 {
-        put_body(&mut *bodies, wide(s.held), Atom(n.value));
-        return added(s, Atom(n.value), s.k, AT_SPACE, to + 1);
-    }
-    if b == 41 {
-        put_body(&mut *bodies, wide(s.held), Atom(n.value));
-        return added(s, Atom(n.value), s.k + 2, AT_PLACE, to + 1);
-    }
-    s
+    let (k, mode) = match text[to] {
+        b' ' => (s.k, Mode::AtSpace),
+        b')' => (s.k + 2, Mode::AtPlace),
+        _ => return s,
+    };
+    put_body(&mut *bodies, usize::from(s.held), a);
+    added(s, a, k, mode, to + 1)
 }
 
 // Takes the atoms of a list, and its closing bracket.
@@ -172,22 +134,16 @@ fn take_body_atoms(text: &[u8], s: Stand, bodies: &mut [u16; BODIES]) -> Stand
 fn take_separator(text: &[u8], s: Stand, starts: &mut [u16; STARTS]) -> Stand
     ensures { GoesStarts s starts.old result starts.new text.now }
 {
-    if !ready(s, FORM_BETWEEN) {
+    if !ready(s, FORM_BETWEEN) || !has(text, s.at, b" (") {
         return s;
     }
-    let at = s.at;
-    if !has(text, at, b" (") {
-        return s;
-    }
-    starts[2 * wide(s.rules) + 1] = s.held;
+    starts[2 * usize::from(s.rules) + 1] = s.held;
     Stand {
         k: FORM_NEGATIVE,
-        at: at + 2,
-        rules: s.rules,
-        held: s.held,
+        at: s.at + 2,
         prev: 0,
-        atoms: s.atoms,
-        mode: AT_PLACE,
+        mode: Mode::AtPlace,
+        ..s
     }
 }
 
@@ -195,72 +151,55 @@ fn take_separator(text: &[u8], s: Stand, starts: &mut [u16; STARTS]) -> Stand
 fn take_line_end(text: &[u8], s: Stand, starts: &mut [u16; STARTS]) -> Stand
     ensures { GoesStarts s starts.old result starts.new text.now }
 {
-    if !ready(s, FORM_CLOSE) {
+    if !ready(s, FORM_CLOSE) || !has(text, s.at, b")\n") {
         return s;
     }
-    let at = s.at;
-    if !has(text, at, b")\n") {
-        return s;
-    }
-    starts[2 * wide(s.rules) + 2] = s.held;
+    starts[2 * usize::from(s.rules) + 2] = s.held;
     Stand {
         k: FORM_RULE,
-        at: at + 2,
+        at: s.at + 2,
         rules: s.rules + 1,
-        held: s.held,
         prev: 0,
-        atoms: s.atoms,
-        mode: AT_PLACE,
+        mode: Mode::AtPlace,
+        ..s
     }
 }
 
 // Takes a rule line, or the front of one.
-fn take_rule(
-    text: &[u8],
-    s: Stand,
-    heads: &mut [u16; HEADS],
-    starts: &mut [u16; STARTS],
-    bodies: &mut [u16; BODIES],
-) -> Stand
-    ensures { read_rest result heads.new starts.new bodies.new text.now
-        ≡ read_rest s heads.old starts.old bodies.old text.now }
+fn take_rule(text: &[u8], s: Stand, program: &mut Program) -> Stand
+    ensures { read_rest result program.new.heads program.new.starts program.new.bodies text.now
+        ≡ read_rest s program.old.heads program.old.starts program.old.bodies text.now }
 {
     let a = take_rule_word(text, s);
     if a.k != FORM_HEAD {
         return a;
     }
-    let b = take_head(text, a, &mut *heads);
+    let b = take_head(text, a, &mut program.heads);
     if b.k != FORM_POSITIVE {
         return b;
     }
     let c = take_empty_list(text, b);
-    let d = take_body_atoms(text, c, &mut *bodies);
+    let d = take_body_atoms(text, c, &mut program.bodies);
     if d.k != FORM_BETWEEN {
         return d;
     }
-    let e = take_separator(text, d, &mut *starts);
+    let e = take_separator(text, d, &mut program.starts);
     if e.k != FORM_NEGATIVE {
         return e;
     }
     let f = take_empty_list(text, e);
-    let g = take_body_atoms(text, f, &mut *bodies);
-    take_line_end(text, g, &mut *starts)
+    let g = take_body_atoms(text, f, &mut program.bodies);
+    take_line_end(text, g, &mut program.starts)
 }
 
 // Takes the first line and the rule lines, up to what is not of the expected form.
-pub fn take_lines(
-    text: &[u8],
-    s: Stand,
-    heads: &mut [u16; HEADS],
-    starts: &mut [u16; STARTS],
-    bodies: &mut [u16; BODIES],
-) -> Stand
-    ensures { read_rest result heads.new starts.new bodies.new text.now
-        ≡ read_rest s heads.old starts.old bodies.old text.now }
+pub fn take_lines(text: &[u8], s: Stand, program: &mut Program) -> Stand
+    ensures { read_rest result program.new.heads program.new.starts program.new.bodies text.now
+        ≡ read_rest s program.old.heads program.old.starts program.old.bodies text.now }
 {
     let mut p = take_atoms_line(text, s);
     while p.at < text.len() {
-        let q = take_rule(text, p, &mut *heads, &mut *starts, &mut *bodies);
+        let q = take_rule(text, p, &mut *program);
         if q.at <= p.at {
             return q;
         }

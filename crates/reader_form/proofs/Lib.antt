@@ -4,3 +4,5 @@ pub mod Bounds
 pub mod Digits
 -- Written: the form as a text
 pub mod Written
+-- Modes: two modes are one where their numbers are
+pub mod Modes

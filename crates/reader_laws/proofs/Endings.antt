@@ -20,12 +20,12 @@ use Rattle.lists.specs.Lists.{all_to}
 use Rattle.lists.proofs.Bools.{and_in, and_left, and_right, or_left, or_right}
 use Rattle.lists.proofs.Tests.{all_to_at}
 use Rattle.text.specs.Bytes.{are_bytes}
-use Rattle.reader_form.specs.declared.FormState.{FormState}
+use Rattle.reader_form.specs.Automaton.{Step}
 use Rattle.reader_form.specs.Automaton.{placed, form_at, digit_test, literal_of, leave_of, digit_of, act_at, item_of, form_step}
 use Rattle.reader_laws.specs.Scan.{text_accepts, text_leaves, takes_numbers, live, text_end}
 
 -- the place after a byte: past the form, or live
-data Alive (p : FormState) : Type 0 where
+data Alive (p : Step) : Type 0 where
   died : eqb p.mode 4 ≡ true → Alive p
   lives : live p.k p.mode ≡ true → Alive p
 
@@ -166,7 +166,7 @@ unfolding text_accepts text_leaves
 left [] k m l e = record { within = omega arith; before = ends k m l; dead = λ h. absurd (not-suc-le-zero h) }
 left (b ∷ t) k m l e = go (eqb p.mode 4) refl e (left t p.k p.mode)
   where
-    p : FormState
+    p : Step
     p = form_step k m b
 
     go : (d : Bool) → eqb p.mode 4 ≡ d → cond d false (text_accepts p.k p.mode t) ≡ false

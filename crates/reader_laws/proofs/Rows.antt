@@ -14,9 +14,6 @@ use Rattle.meaning.specs.Program.{Program}
 use Rattle.text.specs.Text.{text_of, Malformed}
 use Rattle.refusals.specs.declared.TextRefusal.{TextRefusal}
 use Rattle.refusals.specs.declared.TextRefusal.TheVariants as Refusal
-use Rattle.reader.specs.declared.ReadVerdict.{ReadVerdict}
-use Rattle.reader.specs.declared.ReadVerdict.TheVariants.{Accepted, Refused}
-use Rattle.reader.specs.declared.ReadResult.{ReadResult}
 use Rattle.reader_work.specs.Fold.{State, read_from}
 use Rattle.refusals.specs.Numbers.{text_number, text_spot}
 use Rattle.reader.specs.Verdict.{refusal_of, refuse_of, finished, read_of}
@@ -34,13 +31,16 @@ use Rattle.reader_laws.proofs.Unique.{text_unique}
 use Rattle.reader_laws.proofs.Outcomes.{Out, passed, stopped, Stopped}
 use Rattle.reader_laws.proofs.Judged.{start, whole, judged_out}
 use Rattle.reader_laws.proofs.Order.{Before, first_hit, hit_event, no_hit, span_events, breached_meets, meets_breached}
+use Rattle.std.specs.Prelude.{Ok, Err}
+use Rattle.reader.specs.Verdict.{ReadVerdict}
+use Rattle.reader.specs.declared.ReadResult.{ReadResult}
 
 -- the reader's answer, with why it gives it
 pub data Outcome (t : List ℕ) : Type 0 where
   too_long : 65536 < length t → read_of t ≡ refuse_of (Refusal.Overlong (length t)) → Outcome t
   left_form : (s : ℕ) → length t ≤ 65536 → Malformed t s → read_of t ≡ refuse_of (Refusal.Malformed s) → Outcome t
   breached : (P : Program) (h : Hit) (rest : List Hit) → length t ≤ 65536 → t ≡ text_of P → hits P ≡ h ∷ rest → read_of t ≡ refuse_of (refusal_of h.row h.spot) → Outcome t
-  fine : (P : Program) → length t ≤ 65536 → t ≡ text_of P → hits P ≡ [] → read_of t ≡ record { verdict = Accepted; program = kept P } → Outcome t
+  fine : (P : Program) → length t ≤ 65536 → t ≡ text_of P → hits P ≡ [] → read_of t ≡ record { verdict = Ok tt; program = kept P } → Outcome t
 
 read_short : (t : List ℕ) → length t ≤ 65536 → read_of t ≡ finished (read_from Verdict.start 0 t)
 unfolding read_of
@@ -63,7 +63,7 @@ read_form : (P : Program) → read_from Verdict.start 0 (text_of P) ≡ state_of
 unfolding start
 read_form P = read_text P start
 
-finish_passed : (P : Program) → finished (state_of 10 0 0 0 (whole P)) ≡ record { verdict = Accepted; program = kept P }
+finish_passed : (P : Program) → finished (state_of 10 0 0 0 (whole P)) ≡ record { verdict = Ok tt; program = kept P }
 unfolding finished kept
 finish_passed P = refl
 
@@ -188,7 +188,7 @@ answers t r k s e a b = record { refusal = r; verdict_is = ap (λ (x : ReadResul
 -- the two ways of the reader
 data Told (t : List ℕ) : Type 0 where
   at_row : (k s : ℕ) → FirstRow t k s → Answers t k s → Told t
-  no_row : ((k s : ℕ) → Row t k s → ⊥) → (read_of t).verdict ≡ Accepted → Told t
+  no_row : ((k s : ℕ) → Row t k s → ⊥) → (read_of t).verdict ≡ Ok tt → Told t
 
 told : (t : List ℕ) → Told t
 told t = go (outcome t)
@@ -207,14 +207,14 @@ told t = go (outcome t)
 
 -- the refusal of a verdict, if it is one
 abbrev refusal_in_lem : ReadVerdict → TextRefusal → TextRefusal
-refusal_in_lem Accepted r = r
-refusal_in_lem (Refused q) r = q
+refusal_in_lem (Ok u) r = r
+refusal_in_lem (Err q) r = q
 
 abbrev is_refused_lem : ReadVerdict → Bool
-is_refused_lem Accepted = false
-is_refused_lem (Refused r) = true
+is_refused_lem (Ok u) = false
+is_refused_lem (Err r) = true
 
-pub not_both : {v : ReadVerdict} {r : TextRefusal} → v ≡ Accepted → v ≡ Refused r → ⊥
+pub not_both : {v : ReadVerdict} {r : TextRefusal} → v ≡ Ok tt → v ≡ Err r → ⊥
 not_both a b = false≢true (ap is_refused_lem (sym a ∙ b))
 
 answers_unique : (t : List ℕ) (k s l u : ℕ) → Answers t k s → Answers t l u → (k ≡ l) × (s ≡ u)
@@ -236,17 +236,17 @@ first_answers t k s f = go (told t)
     go (at_row l u g b) = let q = first_unique t l u k s g f in subst (Answers t k) q.1 (subst (λ (x : ℕ). Answers t x u) q.0 b)
     go (no_row n e) = absurd (n k s f.met)
 
-pub accepted_none : (t : List ℕ) → (read_of t).verdict ≡ Accepted → (k s : ℕ) → Row t k s → ⊥
+pub accepted_none : (t : List ℕ) → (read_of t).verdict ≡ Ok tt → (k s : ℕ) → Row t k s → ⊥
 accepted_none t e k s r = go (told t)
   where
     go : Told t → ⊥
     go (at_row l u f a) = not_both e a.verdict_is
     go (no_row n x) = n k s r
 
-pub none_accepted : (t : List ℕ) → ((k s : ℕ) → Row t k s → ⊥) → (read_of t).verdict ≡ Accepted
+pub none_accepted : (t : List ℕ) → ((k s : ℕ) → Row t k s → ⊥) → (read_of t).verdict ≡ Ok tt
 none_accepted t n = go (told t)
   where
-    go : Told t → (read_of t).verdict ≡ Accepted
+    go : Told t → (read_of t).verdict ≡ Ok tt
     go (at_row k s f a) = absurd (n k s f.met)
     go (no_row m e) = e
 

@@ -11,7 +11,7 @@ use lib.Dec.{eqb}
 use Rattle.lists.proofs.Bools.{So-or-not}
 use Rattle.text.specs.Text.{HasForm}
 use Rattle.reader_form.specs.Automaton.{form_step}
-use Rattle.reader_work.specs.declared.Counts.{Counts}
+use Rattle.reader_work.specs.Work.{Tally}
 use Rattle.reader_work.specs.Fold.{State, advance, malformed, ended, read_from}
 use Rattle.reader_laws.specs.Judge.{Work}
 use Rattle.reader_laws.specs.Scan.{text_accepts, text_leaves}
@@ -19,7 +19,7 @@ use Rattle.reader_laws.proofs.Values.{state_of, read_text}
 use Rattle.reader_laws.proofs.Frozen.{judged_frozen}
 
 -- the counts of a text refused with 2 at s
-pub record MalformedAt (c : Counts) (s : ℕ) : Type 0 where
+pub record MalformedAt (c : Tally) (s : ℕ) : Type 0 where
   pub row : c.number ≡ 2
   pub spot : c.spot ≡ s
 

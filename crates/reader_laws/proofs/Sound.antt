@@ -15,7 +15,7 @@ use Rattle.meaning.specs.Program.{Rule}
 use Rattle.text.specs.Decimal.{decimal}
 use Rattle.text.specs.Text.{more_text, list_text, rule_text, rules_text, text_of, HasForm}
 use Rattle.text.proofs.Decimals.{decimal_small, decimal_snoc}
-use Rattle.reader_form.specs.declared.FormState.{FormState}
+use Rattle.reader_form.specs.Automaton.{Step}
 use Rattle.reader_form.specs.Automaton.{placed, form_at, digit_test, literal_of, leave_of, digit_of, act_at, item_of, form_step}
 use Rattle.reader_form.proofs.Digits.{digit_of_lem}
 use Rattle.reader_laws.specs.Scan.{text_accepts}
@@ -24,18 +24,18 @@ use Rattle.reader_laws.proofs.Values.{Item, atoms, head, Fresh, now, after, in_n
 -- ---- one byte
 
 -- a byte that leads to place p leaves the rest to be accepted from there
-took : (k m b : ℕ) (p : FormState) (t : List ℕ) → form_step k m b ≡ p → text_accepts k m (b ∷ t) ≡ true → text_accepts p.k p.mode t ≡ true
+took : (k m b : ℕ) (p : Step) (t : List ℕ) → form_step k m b ≡ p → text_accepts k m (b ∷ t) ≡ true → text_accepts p.k p.mode t ≡ true
 unfolding text_accepts
-took k m b p t e a = go (eqb p.mode 4) (subst (λ (q : FormState). cond (eqb q.mode 4) false (text_accepts q.k q.mode t) ≡ true) e a)
+took k m b p t e a = go (eqb p.mode 4) (subst (λ (q : Step). cond (eqb q.mode 4) false (text_accepts q.k q.mode t) ≡ true) e a)
   where
     go : (d : Bool) → cond d false (text_accepts p.k p.mode t) ≡ true → text_accepts p.k p.mode t ≡ true
     go true e = absurd (false≢true e)
     go false e = e
 
 -- no byte leads past the form
-not_dead : (k m b : ℕ) (p : FormState) (t : List ℕ) → form_step k m b ≡ p → eqb p.mode 4 ≡ true → text_accepts k m (b ∷ t) ≡ true → ⊥
+not_dead : (k m b : ℕ) (p : Step) (t : List ℕ) → form_step k m b ≡ p → eqb p.mode 4 ≡ true → text_accepts k m (b ∷ t) ≡ true → ⊥
 unfolding text_accepts
-not_dead k m b p t e d a = false≢true (sym (ap (λ (q : FormState). cond (eqb q.mode 4) false (text_accepts q.k q.mode t)) e ∙ rw d) ∙ a)
+not_dead k m b p t e d a = false≢true (sym (ap (λ (q : Step). cond (eqb q.mode 4) false (text_accepts q.k q.mode t)) e ∙ rw d) ∙ a)
 
 -- where the text may not end, there is a byte
 not_ended : (k m : ℕ) → (eqb k 10 && eqb m 0) ≡ false → text_accepts k m [] ≡ true → ⊥

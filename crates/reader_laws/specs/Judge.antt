@@ -8,11 +8,11 @@ use Rattle.std.specs.Prelude.{ℕ, ◌+◌, cond, List, [], ◌∷◌, ltb, leng
 use Rattle.meaning.specs.Program.{Rule, Program}
 use Rattle.text.specs.Decimal.{decimal}
 use Rattle.text.specs.Text.{list_text}
-use Rattle.reader_work.specs.declared.Counts.{Counts}
+use Rattle.reader_work.specs.Work.{Tally}
 use Rattle.reader_work.specs.Work.{work_of, work_heads, work_starts, work_bodies}
 
 pub record Work : Type 0 where
-  pub counts : Counts
+  pub counts : Tally
   pub heads : List ℕ
   pub starts : List ℕ
   pub bodies : List ℕ

@@ -9,10 +9,10 @@ use Rattle.meaning.specs.Program.{Program}
 use Rattle.text.specs.Text.{text_of, Malformed}
 use Rattle.text.specs.Limits.{max_text}
 use Rattle.refusals.specs.declared.TextRefusal.{TextRefusal}
-use Rattle.reader.specs.declared.ReadVerdict.TheVariants.{Refused}
 use Rattle.reader.specs.Verdict.{read_of}
 use Rattle.refusals.specs.Numbers.{text_number, text_spot}
 use Rattle.reader_laws.specs.Breach.{Breach}
+use Rattle.std.specs.Prelude.{Err}
 
 pub data Row (t : List ℕ) : ℕ → ℕ → Type 0 where
   overlong : max_text < length t → Row t 1 (length t)
@@ -38,6 +38,6 @@ pub record FirstRow (t : List ℕ) (k s : ℕ) : Type 0 where
 
 pub record Answers (t : List ℕ) (k s : ℕ) : Type 0 where
   pub refusal : TextRefusal
-  pub verdict_is : (read_of t).verdict ≡ Refused refusal
+  pub verdict_is : (read_of t).verdict ≡ Err refusal
   pub row_is : text_number refusal ≡ k
   pub spot_is : text_spot refusal ≡ s

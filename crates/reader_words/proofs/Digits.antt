@@ -14,12 +14,12 @@ use lib.Dec.{eqb, ltb}
 use lib.ListN.{length, get_or, drop}
 use lib.Seq.{drop-cons}
 use borrow.Author.Tests.{ltb-true, ltb-false, le-ltb}
-use Rattle.reader_form.specs.declared.FormState.{FormState}
-use Rattle.reader_form.specs.Automaton.{placed, digit_test, form_step}
+use Rattle.std.specs.Prelude.{Option, Some, None}
+use Rattle.reader_form.specs.Automaton.{Step, placed, digit_test, form_step}
 use Rattle.reader_words.specs.declared.ShortNumber.{ShortNumber}
 use Rattle.reader_work.specs.Work.{grown_of, value_after, begin_after, work_of, work_heads, work_starts, work_bodies}
 use Rattle.reader_work.specs.Fold.{State, read_from}
-use Rattle.reader_words.specs.Standing.{short_number, short_number_of, short_number_at}
+use Rattle.reader_words.specs.Standing.{short_number_of, short_number_at}
 
 -- ---- digits
 
@@ -41,7 +41,7 @@ grown_digit v b h l u = rw (le-ltb 999 v (omega arith), le-ltb b 48 l, le-ltb 10
 -- ---- one byte of the text, at i
 
 -- the state after a byte that the automaton takes to place p
-abbrev pub moved : State → ℕ → ℕ → FormState → State
+abbrev pub moved : State → ℕ → ℕ → Step → State
 moved s i b p =
     record {
       k = p.k;
@@ -54,7 +54,7 @@ moved s i b p =
       bodies = work_bodies p.act s.k s.value s.counts s.bodies;
     }
 
-pub byte_read : (t : List ℕ) (i : ℕ) (s : State) (p : FormState) → i < length t → form_step s.k s.mode (get_or t i 0) ≡ p → eqb p.mode 4 ≡ false
+pub byte_read : (t : List ℕ) (i : ℕ) (s : State) (p : Step) → i < length t → form_step s.k s.mode (get_or t i 0) ≡ p → eqb p.mode 4 ≡ false
     → read_from s i (drop i t) ≡ read_from (moved s i (get_or t i 0) p) (i + 1) (drop (i + 1) t)
 unfolding read_from
 byte_read t i s p h e d = rw (drop-cons t i 0 h, add-one, e, d)
@@ -76,7 +76,7 @@ pub record Read (t : List ℕ) (i : ℕ) (s : State) (n : ShortNumber) : Type 0 
   pub some : 0 < n.value
   pub left : i + n.count < length t
 
-by_cond : (P : ShortNumber → Type 0) (b : Bool) (x y : ShortNumber) → (b ≡ true → P x) → (b ≡ false → P y) → P (cond b x y)
+by_cond : (P : Option ShortNumber → Type 0) (b : Bool) (x y : Option ShortNumber) → (b ≡ true → P x) → (b ≡ false → P y) → P (cond b x y)
 by_cond P true x y f g = f refl
 by_cond P false x y f g = g refl
 
@@ -97,11 +97,11 @@ module _ (t : List ℕ) (i : ℕ) (s : State) (m : Item s.k s.mode) where
 
   -- a number of one, two or three digits
   module _ (h : i + 4 ≤ length t) (l : 49 ≤ get_or t i 0) (u : get_or t i 0 < 58) where
-    one_digit : Read t i s (short_number (get_or t i 0 - 48) 1)
+    one_digit : Read t i s (record { value = get_or t i 0 - 48; count = 1 })
     one_digit = record { same = first_read_lem (omega arith) l u; some = omega arith; left = omega arith }
 
     module _ (d : digit_test (get_or t (i + 1) 0) ≡ true) where
-      two_digits : Read t i s (short_number ((get_or t i 0 - 48) * 10 + (get_or t (i + 1) 0 - 48)) 2)
+      two_digits : Read t i s (record { value = (get_or t i 0 - 48) * 10 + (get_or t (i + 1) 0 - 48); count = 2 })
       two_digits =
           record {
             same = first_read_lem (omega arith) l u ∙ next_read (get_or t i 0 - 48) (i + 1) (i + 2) (omega arith) (omega arith) d (omega arith);
@@ -110,7 +110,7 @@ module _ (t : List ℕ) (i : ℕ) (s : State) (m : Item s.k s.mode) where
           }
 
       three_digits : digit_test (get_or t (i + 2) 0) ≡ true
-          → Read t i s (short_number (((get_or t i 0 - 48) * 10 + (get_or t (i + 1) 0 - 48)) * 10 + (get_or t (i + 2) 0 - 48)) 3)
+          → Read t i s (record { value = ((get_or t i 0 - 48) * 10 + (get_or t (i + 1) 0 - 48)) * 10 + (get_or t (i + 2) 0 - 48); count = 3 })
       three_digits f =
           record {
             same =
@@ -120,55 +120,51 @@ module _ (t : List ℕ) (i : ℕ) (s : State) (m : Item s.k s.mode) where
             left = omega arith;
           }
 
-  short_number_whole : ((short_number_at t i).count ≡ 0 → ⊥) → Read t i s (short_number_at t i)
+  abbrev Found : Option ShortNumber → Type 0
+  Found None = Unit {0}
+  Found (Some n) = Read t i s n
+
+  short_number_whole : Found (short_number_at t i)
   unfolding short_number_at short_number_of
   short_number_whole =
-      by_cond Found (ltb (length t) 4) _ _ (λ e. none)
+      by_cond Found (ltb (length t) 4) _ _ (λ e. tt)
       (λ e.
-      by_cond Found (ltb (length t - 4) i) _ _ (λ f. none)
+      by_cond Found (ltb (length t - 4) i) _ _ (λ f. tt)
       (λ f.
       let h : i + 4 ≤ length t = omega (arith, ltb-false (length t) 4 e, ltb-false (length t - 4) i f) in
-      by_cond Found (ltb (get_or t i 0) 49) _ _ (λ g. none)
+      by_cond Found (ltb (get_or t i 0) 49) _ _ (λ g. tt)
       (λ g.
       let l : 49 ≤ get_or t i 0 = ltb-false (get_or t i 0) 49 g in
-      by_cond Found (ltb 57 (get_or t i 0)) _ _ (λ p. none)
+      by_cond Found (ltb 57 (get_or t i 0)) _ _ (λ p. tt)
       (λ p.
       let u : get_or t i 0 < 58 = omega (arith, ltb-false 57 (get_or t i 0) p) in
       by_cond Found (digit_test (get_or t (i + 1) 0)) _ _
-      (λ d. by_cond Found (digit_test (get_or t (i + 2) 0)) _ _ (λ c z. three_digits h l u d c) (λ c z. two_digits h l u d))
-      (λ d z. one_digit h l u)))))
-    where
-      Found : ShortNumber → Type 0
-      Found n = (n.count ≡ 0 → ⊥) → Read t i s n
+      (λ d. by_cond Found (digit_test (get_or t (i + 2) 0)) _ _ (λ c. three_digits h l u d c) (λ c. two_digits h l u d))
+      (λ d. one_digit h l u)))))
 
-      none : Found (short_number 0 0)
-      none z = absurd (z refl)
-
-  pub short_number_read : (n : ShortNumber) → n ≡ short_number_at t i → (n.count ≡ 0 → ⊥) → Read t i s n
-  short_number_read n e z = subst (λ (n : ShortNumber). (n.count ≡ 0 → ⊥) → Read t i s n) (sym e) short_number_whole z
+  pub short_number_read : (n : ShortNumber) → Some n ≡ short_number_at t i → Read t i s n
+  short_number_read n e = subst Found (sym e) short_number_whole
 
 -- a byte is left after a number
-short_number_in_whole : (t : List ℕ) (i : ℕ) → ((short_number_at t i).count ≡ 0 → ⊥) → i + (short_number_at t i).count < length t
+abbrev Inside : List ℕ → ℕ → Option ShortNumber → Type 0
+Inside t i None = Unit {0}
+Inside t i (Some n) = i + n.count < length t
+
+short_number_in_whole : (t : List ℕ) (i : ℕ) → Inside t i (short_number_at t i)
 unfolding short_number_at short_number_of
 short_number_in_whole t i =
-    by_cond Inside (ltb (length t) 4) _ _ (λ e. none)
+    by_cond (Inside t i) (ltb (length t) 4) _ _ (λ e. tt)
     (λ e.
-    by_cond Inside (ltb (length t - 4) i) _ _ (λ f. none)
+    by_cond (Inside t i) (ltb (length t - 4) i) _ _ (λ f. tt)
     (λ f.
     let h : i + 4 ≤ length t = omega (arith, ltb-false (length t) 4 e, ltb-false (length t - 4) i f) in
-    by_cond Inside (ltb (get_or t i 0) 49) _ _ (λ g. none)
+    by_cond (Inside t i) (ltb (get_or t i 0) 49) _ _ (λ g. tt)
     (λ g.
-    by_cond Inside (ltb 57 (get_or t i 0)) _ _ (λ p. none)
+    by_cond (Inside t i) (ltb 57 (get_or t i 0)) _ _ (λ p. tt)
     (λ p.
-    by_cond Inside (digit_test (get_or t (i + 1) 0)) _ _
-    (λ d. by_cond Inside (digit_test (get_or t (i + 2) 0)) _ _ (λ c z. omega arith) (λ c z. omega arith))
-    (λ d z. omega arith)))))
-  where
-    Inside : ShortNumber → Type 0
-    Inside n = (n.count ≡ 0 → ⊥) → i + n.count < length t
+    by_cond (Inside t i) (digit_test (get_or t (i + 1) 0)) _ _
+    (λ d. by_cond (Inside t i) (digit_test (get_or t (i + 2) 0)) _ _ (λ c. omega arith) (λ c. omega arith))
+    (λ d. omega arith)))))
 
-    none : Inside (short_number 0 0)
-    none z = absurd (z refl)
-
-pub short_number_in : (t : List ℕ) (i : ℕ) (n : ShortNumber) → n ≡ short_number_at t i → (n.count ≡ 0 → ⊥) → i + n.count < length t
-short_number_in t i n e z = subst (λ (n : ShortNumber). (n.count ≡ 0 → ⊥) → i + n.count < length t) (sym e) (short_number_in_whole t i) z
+pub short_number_in : (t : List ℕ) (i : ℕ) (n : ShortNumber) → Some n ≡ short_number_at t i → i + n.count < length t
+short_number_in t i n e = subst (Inside t i) (sym e) (short_number_in_whole t i)

@@ -5,7 +5,7 @@ ghost use Rattle.std.specs.Prelude.{◌<◌, ◌≡◌};
 ghost use Rattle.reader_words.specs.Standing.{has_at, short_number_of, short_number_at, ready_at, list_at, listing_at, fits_at, added_to};
 
 use numbers::{Atom, MAX_BODY_ATOMS, MAX_RULES};
-use reader_form::{AT_PLACE, AT_SPACE, FORM_NEGATIVE, FORM_POSITIVE, is_digit};
+use reader_form::{FORM_NEGATIVE, FORM_POSITIVE, Mode, is_digit};
 
 // Where the reading stands, with no number begun and nothing refused: the place in the form and its mode, the next byte, what is counted,
 // and the list's last number. The fields leave no gap between them, so a copy moves whole words.
@@ -17,10 +17,10 @@ pub struct Stand {
     pub held: u16,
     pub prev: u16,
     pub atoms: u8,
-    pub mode: u8,
+    pub mode: Mode,
 }
 
-// A number, and how many digits it has: count 0 stands for no number.
+// A number, and how many digits it has.
 #[derive(Clone, Copy)]
 pub struct ShortNumber {
     pub value: u16,
@@ -30,58 +30,48 @@ pub struct ShortNumber {
 // ---- the text
 
 // Whether the bytes from `at` on begin with `word`.
+// Kept as a loop: std's `starts_with` and `==` of slices call a function for a word of more than a few bytes; this is unrolled at each word.
 pub fn has<'a>(text: &'a [u8], at: usize, word: &'a [u8]) -> bool
     ensures { result ≡ has_at text.now at word.now }
 {
-    if text.len() < word.len() {
+    if text.len() < word.len() || text.len() - word.len() < at {
         return false;
     }
-    if text.len() - word.len() < at {
-        return false;
-    }
-    let mut k: usize = 0;
-    while k < word.len() {
-        if text[at + k] != word[k] {
+    for (k, b) in word.iter().enumerate() {
+        if text[at + k] != *b {
             return false;
         }
-        k += 1;
     }
     true
 }
 
 // The number of one to three digits, the first not 0, that begins with the bytes a, b and c.
-pub fn short_number_of(a: u8, b: u8, c: u8) -> ShortNumber
+pub fn short_number_of(a: u8, b: u8, c: u8) -> Option<ShortNumber>
     ensures { result ≡ short_number_of a b c }
 {
-    if a < 49 {
-        return ShortNumber { value: 0, count: 0 };
+    if a < b'1' || b'9' < a {
+        return None;
     }
-    if 57 < a {
-        return ShortNumber { value: 0, count: 0 };
-    }
-    let x = (a - 48) as u16;
+    let x = u16::from(a - b'0');
     if !is_digit(b) {
-        return ShortNumber { value: x, count: 1 };
+        return Some(ShortNumber { value: x, count: 1 });
     }
-    let y = x * 10 + (b - 48) as u16;
+    let y = x * 10 + u16::from(b - b'0');
     if !is_digit(c) {
-        return ShortNumber { value: y, count: 2 };
+        return Some(ShortNumber { value: y, count: 2 });
     }
-    ShortNumber {
-        value: y * 10 + (c - 48) as u16,
+    Some(ShortNumber {
+        value: y * 10 + u16::from(c - b'0'),
         count: 3,
-    }
+    })
 }
 
 // The number of one to three digits at `at`, where four bytes are left.
-pub fn short_number_at(text: &[u8], at: usize) -> ShortNumber
+pub fn short_number_at(text: &[u8], at: usize) -> Option<ShortNumber>
     ensures { result ≡ short_number_at text.now at }
 {
-    if text.len() < 4 {
-        return ShortNumber { value: 0, count: 0 };
-    }
-    if text.len() - 4 < at {
-        return ShortNumber { value: 0, count: 0 };
+    if text.len() < 4 || text.len() - 4 < at {
+        return None;
     }
     short_number_of(text[at], text[at + 1], text[at + 2])
 }
@@ -92,63 +82,41 @@ pub fn short_number_at(text: &[u8], at: usize) -> ShortNumber
 pub fn ready(s: Stand, k: usize) -> bool
     ensures { result ≡ ready_at s k }
 {
-    if s.k != k {
-        return false;
-    }
-    if s.mode != AT_PLACE {
-        return false;
-    }
-    s.rules < MAX_RULES
+    s.k == k && s.mode == Mode::AtPlace && s.rules < MAX_RULES
 }
 
 // Whether place k has a list.
 pub fn is_list(k: usize) -> bool
     ensures { result ≡ list_at k }
 {
-    if k == FORM_POSITIVE {
-        return true;
-    }
-    k == FORM_NEGATIVE
+    k == FORM_POSITIVE || k == FORM_NEGATIVE
 }
 
 // Whether the reading stands in a list where a number may begin.
 pub fn listing(s: Stand) -> bool
     ensures { result ≡ listing_at s }
 {
-    if !is_list(s.k) {
-        return false;
-    }
-    if s.mode == AT_PLACE {
-        return true;
-    }
-    s.mode == AT_SPACE
+    is_list(s.k) && (s.mode == Mode::AtPlace || s.mode == Mode::AtSpace)
 }
 
 // Whether a is an atom of the program above the list's last one, and there is room for it.
 pub fn fits(s: Stand, a: Atom) -> bool
     ensures { result ≡ fits_at s a.0 }
 {
-    if (s.atoms as u16) < a.0 {
-        return false;
-    }
-    if a.0 <= s.prev {
-        return false;
-    }
-    s.held < MAX_BODY_ATOMS
+    a.0 <= u16::from(s.atoms) && s.prev < a.0 && s.held < MAX_BODY_ATOMS
 }
 
 // The stand with one body atom more, at place k, in `mode`, before byte `at`.
-pub fn added(s: Stand, a: Atom, k: usize, mode: u8, at: usize) -> Stand
+pub fn added(s: Stand, a: Atom, k: usize, mode: Mode, at: usize) -> Stand
     requires { s.held < 500 }
     ensures { result ≡ added_to s a.0 k mode at }
 {
     Stand {
-        k: k,
-        at: at,
-        rules: s.rules,
+        k,
+        at,
         held: s.held + 1,
         prev: a.0,
-        atoms: s.atoms,
-        mode: mode,
+        mode,
+        ..s
     }
 }

@@ -5,20 +5,19 @@
 -- Assumes nothing.
 use Rattle.std.specs.Prelude.{ℕ, ◌+◌, ◌≡◌, Bool, cond, List, [], ◌∷◌, eqb}
 use Rattle.reader_form.specs.Automaton.{form_rule, form_step}
-use Rattle.reader_work.specs.declared.Counts.{Counts}
-use Rattle.reader_work.specs.Work.{refused_of, value_after, begin_after, work_of, work_heads, work_starts, work_bodies}
+use Rattle.reader_work.specs.Work.{Tally, refused_of, value_after, begin_after, work_of, work_heads, work_starts, work_bodies}
 
 pub record State : Type 0 where
   pub k : ℕ
   pub mode : ℕ
   pub value : ℕ
   pub begin : ℕ
-  pub counts : Counts
+  pub counts : Tally
   pub heads : List ℕ
   pub starts : List ℕ
   pub bodies : List ℕ
 
-abbrev pub no_counts : Counts
+abbrev pub no_counts : Tally
 no_counts = record { atoms = 0; rules = 0; held = 0; prev = 0; number = 0; spot = 0 }
 
 abbrev pub started : List ℕ → List ℕ → List ℕ → State
@@ -54,7 +53,7 @@ read_from s i [] = ended s i
 read_from s i (b ∷ t) = cond (dead_at s b) (malformed s i) (read_from (advance s i b) (i + 1) t)
 
 -- counts and arrays are those of a state
-pub record Ends (c : Counts) (heads starts bodies : List ℕ) (s : State) : Type 0 where
+pub record Ends (c : Tally) (heads starts bodies : List ℕ) (s : State) : Type 0 where
   pub ends_counts : c ≡ s.counts
   pub ends_heads : heads ≡ s.heads
   pub ends_starts : starts ≡ s.starts

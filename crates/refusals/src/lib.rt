@@ -1,11 +1,11 @@
 // The refusals of each call, with their numbers and spots (docs/FORMATS.md, "Verdicts").
 #![tactic(auto)]
 
-ghost use Rattle.std.specs.Prelude.{◌≡◌};
+ghost use Rattle.std.specs.Prelude.{ℕ, ◌≡◌};
 ghost use Rattle.refusals.specs.Numbers.{text_number, text_spot, line_number, line_spot, check_number, check_spot, fill_number, fill_spot};
 
 // Why a program text is refused, rows 1 to 7, each with its spot.
-#[derive(Clone, Copy)]
+#[derive(Clone, Copy, PartialEq, Eq)]
 pub enum TextRefusal {
     Overlong(usize),
     Malformed(usize),
@@ -17,7 +17,7 @@ pub enum TextRefusal {
 }
 
 // Why no line is written: the text is refused, the buffer is short, or there is no such clause, each with its spot.
-#[derive(Clone, Copy)]
+#[derive(Clone, Copy, PartialEq, Eq)]
 pub enum LineRefusal {
     Text(TextRefusal),
     ShortBuffer(usize),
@@ -25,7 +25,7 @@ pub enum LineRefusal {
 }
 
 // Why no model is shown, each with its spot.
-#[derive(Clone, Copy)]
+#[derive(Clone, Copy, PartialEq, Eq)]
 pub enum CheckRefusal {
     Text(TextRefusal),
     ShortBuffer(usize),
@@ -38,7 +38,7 @@ pub enum CheckRefusal {
 }
 
 // Why a set is not filled out, each with its spot.
-#[derive(Clone, Copy)]
+#[derive(Clone, Copy, PartialEq, Eq)]
 pub enum FillRefusal {
     Text(TextRefusal),
     ShortBuffer(usize),
@@ -46,110 +46,152 @@ pub enum FillRefusal {
     Unfounded(usize),
 }
 
-// The number of a program text's refusal.
-pub fn text_number(r: TextRefusal) -> u8
-    ensures { result ≡ text_number r }
-{
-    match r {
-        TextRefusal::Overlong(_) => 1,
-        TextRefusal::Malformed(_) => 2,
-        TextRefusal::TooManyAtoms(_) => 3,
-        TextRefusal::UnknownAtom(_) => 4,
-        TextRefusal::Unordered(_) => 5,
-        TextRefusal::TooManyRules(_) => 6,
-        TextRefusal::BodiesFull(_) => 7,
+// A refusal's number and spot.
+pub trait Refusal: Copy {
+    ghost number_of: { Self → ℕ };
+
+    ghost spot_of: { Self → ℕ };
+
+    fn number(self) -> u8
+        ensures { result ≡ number_of self };
+
+    fn spot(self) -> usize
+        ensures { result ≡ spot_of self };
+}
+
+impl Refusal for TextRefusal {
+    ghost number_of = { text_number };
+
+    ghost spot_of = { text_spot };
+
+    fn number(self) -> u8 {
+        match self {
+            TextRefusal::Overlong(_) => 1,
+            TextRefusal::Malformed(_) => 2,
+            TextRefusal::TooManyAtoms(_) => 3,
+            TextRefusal::UnknownAtom(_) => 4,
+            TextRefusal::Unordered(_) => 5,
+            TextRefusal::TooManyRules(_) => 6,
+            TextRefusal::BodiesFull(_) => 7,
+        }
+    }
+
+    fn spot(self) -> usize {
+        match self {
+            TextRefusal::Overlong(spot)
+            | TextRefusal::Malformed(spot)
+            | TextRefusal::TooManyAtoms(spot)
+            | TextRefusal::UnknownAtom(spot)
+            | TextRefusal::Unordered(spot)
+            | TextRefusal::TooManyRules(spot)
+            | TextRefusal::BodiesFull(spot) => spot,
+        }
     }
 }
 
-// The spot of a program text's refusal.
-pub fn text_spot(r: TextRefusal) -> usize
-    ensures { result ≡ text_spot r }
-{
-    match r {
-        TextRefusal::Overlong(spot) => spot,
-        TextRefusal::Malformed(spot) => spot,
-        TextRefusal::TooManyAtoms(spot) => spot,
-        TextRefusal::UnknownAtom(spot) => spot,
-        TextRefusal::Unordered(spot) => spot,
-        TextRefusal::TooManyRules(spot) => spot,
-        TextRefusal::BodiesFull(spot) => spot,
+impl Refusal for LineRefusal {
+    ghost number_of = { line_number };
+
+    ghost spot_of = { line_spot };
+
+    fn number(self) -> u8 {
+        match self {
+            LineRefusal::Text(refusal) => refusal.number(),
+            LineRefusal::ShortBuffer(_) => 8,
+            LineRefusal::NoSuchClause(_) => 9,
+        }
+    }
+
+    fn spot(self) -> usize {
+        match self {
+            LineRefusal::Text(refusal) => refusal.spot(),
+            LineRefusal::ShortBuffer(spot) | LineRefusal::NoSuchClause(spot) => spot,
+        }
     }
 }
 
-// The number of a refusal to write lines.
-pub fn line_number(r: LineRefusal) -> u8
-    ensures { result ≡ line_number r }
-{
-    match r {
-        LineRefusal::Text(x) => text_number(x),
-        LineRefusal::ShortBuffer(s) => 8,
-        LineRefusal::NoSuchClause(s) => 9,
+impl Refusal for CheckRefusal {
+    ghost number_of = { check_number };
+
+    ghost spot_of = { check_spot };
+
+    fn number(self) -> u8 {
+        match self {
+            CheckRefusal::Text(refusal) => refusal.number(),
+            CheckRefusal::ShortBuffer(_) => 8,
+            CheckRefusal::OverlongAnswer(_) => 10,
+            CheckRefusal::MalformedAnswer(_) => 11,
+            CheckRefusal::NoModelOffered => 12,
+            CheckRefusal::StrayVariable(_) => 13,
+            CheckRefusal::RepeatedVariable(_) => 14,
+            CheckRefusal::FalseClause(_) => 16,
+        }
+    }
+
+    fn spot(self) -> usize {
+        match self {
+            CheckRefusal::Text(refusal) => refusal.spot(),
+            CheckRefusal::NoModelOffered => 0,
+            CheckRefusal::ShortBuffer(spot)
+            | CheckRefusal::OverlongAnswer(spot)
+            | CheckRefusal::MalformedAnswer(spot)
+            | CheckRefusal::StrayVariable(spot)
+            | CheckRefusal::RepeatedVariable(spot)
+            | CheckRefusal::FalseClause(spot) => spot,
+        }
     }
 }
 
-// The spot of a refusal to write lines.
-pub fn line_spot(r: LineRefusal) -> usize
-    ensures { result ≡ line_spot r }
-{
-    match r {
-        LineRefusal::Text(x) => text_spot(x),
-        LineRefusal::ShortBuffer(s) => s,
-        LineRefusal::NoSuchClause(s) => s,
+impl Refusal for FillRefusal {
+    ghost number_of = { fill_number };
+
+    ghost spot_of = { fill_spot };
+
+    fn number(self) -> u8 {
+        match self {
+            FillRefusal::Text(refusal) => refusal.number(),
+            FillRefusal::ShortBuffer(_) => 8,
+            FillRefusal::BadSet(_) => 17,
+            FillRefusal::Unfounded(_) => 18,
+        }
+    }
+
+    fn spot(self) -> usize {
+        match self {
+            FillRefusal::Text(refusal) => refusal.spot(),
+            FillRefusal::ShortBuffer(spot)
+            | FillRefusal::BadSet(spot)
+            | FillRefusal::Unfounded(spot) => spot,
+        }
     }
 }
 
-// The number of a refusal of the check.
-pub fn check_number(r: CheckRefusal) -> u8
-    ensures { result ≡ check_number r }
-{
-    match r {
-        CheckRefusal::Text(x) => text_number(x),
-        CheckRefusal::ShortBuffer(s) => 8,
-        CheckRefusal::OverlongAnswer(s) => 10,
-        CheckRefusal::MalformedAnswer(s) => 11,
-        CheckRefusal::NoModelOffered => 12,
-        CheckRefusal::StrayVariable(s) => 13,
-        CheckRefusal::RepeatedVariable(s) => 14,
-        CheckRefusal::FalseClause(j) => 16,
+impl From<TextRefusal> for LineRefusal {
+    ghost use Rattle.refusals.specs.declared.LineRefusal.TheVariants.{Text};
+
+    ghost from_gives = { λ refusal result. result ≡ Text refusal };
+
+    fn from(refusal: TextRefusal) -> LineRefusal {
+        LineRefusal::Text(refusal)
     }
 }
 
-// The spot of a refusal of the check.
-pub fn check_spot(r: CheckRefusal) -> usize
-    ensures { result ≡ check_spot r }
-{
-    match r {
-        CheckRefusal::Text(x) => text_spot(x),
-        CheckRefusal::ShortBuffer(s) => s,
-        CheckRefusal::OverlongAnswer(s) => s,
-        CheckRefusal::MalformedAnswer(s) => s,
-        CheckRefusal::NoModelOffered => 0,
-        CheckRefusal::StrayVariable(s) => s,
-        CheckRefusal::RepeatedVariable(s) => s,
-        CheckRefusal::FalseClause(j) => j,
+impl From<TextRefusal> for CheckRefusal {
+    ghost use Rattle.refusals.specs.declared.CheckRefusal.TheVariants.{Text};
+
+    ghost from_gives = { λ refusal result. result ≡ Text refusal };
+
+    fn from(refusal: TextRefusal) -> CheckRefusal {
+        CheckRefusal::Text(refusal)
     }
 }
 
-// The number of a refusal to fill out.
-pub fn fill_number(r: FillRefusal) -> u8
-    ensures { result ≡ fill_number r }
-{
-    match r {
-        FillRefusal::Text(x) => text_number(x),
-        FillRefusal::ShortBuffer(s) => 8,
-        FillRefusal::BadSet(s) => 17,
-        FillRefusal::Unfounded(a) => 18,
-    }
-}
+impl From<TextRefusal> for FillRefusal {
+    ghost use Rattle.refusals.specs.declared.FillRefusal.TheVariants.{Text};
 
-// The spot of a refusal to fill out.
-pub fn fill_spot(r: FillRefusal) -> usize
-    ensures { result ≡ fill_spot r }
-{
-    match r {
-        FillRefusal::Text(x) => text_spot(x),
-        FillRefusal::ShortBuffer(s) => s,
-        FillRefusal::BadSet(s) => s,
-        FillRefusal::Unfounded(a) => a,
+    ghost from_gives = { λ refusal result. result ≡ Text refusal };
+
+    fn from(refusal: TextRefusal) -> FillRefusal {
+        FillRefusal::Text(refusal)
     }
 }

@@ -3,6 +3,7 @@
 
 ghost use Rattle.std.specs.Prelude.{◌+◌, ◌^◌, ◌≤◌, ◌<◌, ◌≡◌, nat_abs, length};
 ghost use Rattle.lists.specs.Lists.{any};
+ghost use Rattle.numbers.specs.Nonzero.{nonzero};
 ghost use Rattle.encoding.specs.Literal.{literal_true, clause_true};
 ghost use Rattle.clause_walk.specs.Walk.{group_count, clause_at, At};
 ghost use Rattle.clause_places.specs.Places.{place_at};
@@ -25,10 +26,7 @@ fn slot_holds(x: i32, assignment: &[u8]) -> bool
     requires { (nat_abs x < 2 ^ 31) × (nat_abs x ≤ length assignment.now) }
     ensures { result ≡ any (literal_true (value_in assignment.now)) (literals_in x) }
 {
-    if x == 0 {
-        return false;
-    }
-    holds(x, assignment)
+    x != 0 && holds(x, assignment)
 }
 
 // Whether clause y of block i of item a of group g is true.
@@ -67,60 +65,54 @@ pub fn clause_true<'a>(table: &'a [u16], j: usize, assignment: &'a [u8]) -> bool
     holds_at(table, place_of(table, j), assignment)
 }
 
-// The first clause that is false, 0 if none is, from a place with all clauses before it true.
-fn false_from<'a>(table: &'a [u16], c: Place, assignment: &'a [u8]) -> usize
+// The first clause that is false, from a place with all clauses before it true.
+fn false_from<'a>(table: &'a [u16], c: Place, assignment: &'a [u8]) -> Option<usize>
     requires { (Ready table.now) × (Standing (code_in table.now) (totals_in table.now) assignment.now c)
         × (vars_in table.now ≤ length assignment.now) }
-    ensures { result ≡ code_first_false (code_in table.now) assignment.now }
+    ensures { result ≡ nonzero (code_first_false (code_in table.now) assignment.now) }
 {
     let t = totals(table);
     let mut at = c;
     while at.number <= t.clauses {
         if !holds_at(table, at, assignment) {
-            return at.number;
+            return Some(at.number);
         }
         at = next(table, at);
     }
-    0
+    None
 }
 
 // The first clause that is false: one of item a of group g, where all clauses before that item are true.
-fn false_in<'a>(table: &'a [u16], g: u16, a: u16, assignment: &'a [u8]) -> usize
+fn false_in<'a>(table: &'a [u16], g: u16, a: u16, assignment: &'a [u8]) -> Option<usize>
     requires { (Ready table.now) × (FalseItem (code_in table.now) (value_in assignment.now) g a) × (vars_in table.now ≤ length assignment.now) }
-    ensures { result ≡ code_first_false (code_in table.now) assignment.now }
+    ensures { result ≡ nonzero (code_first_false (code_in table.now) assignment.now) }
 {
     let j = clauses_before(table, g, a - 1) + 1;
     false_from(table, place_of(table, j), assignment)
 }
 
-// The first item of group g that has a false clause, 0 if none has.
-fn false_item<'a>(table: &'a [u16], g: u16, assignment: &'a [u8]) -> u16
+// The first item of group g that has a false clause.
+fn false_item<'a>(table: &'a [u16], g: u16, assignment: &'a [u8]) -> Option<u16>
     requires { (Ready table.now) × (0 < g) × (g ≤ group_count) × (vars_in table.now ≤ length assignment.now) }
-    ensures { result ≡ first_false_item (code_in table.now) (value_in assignment.now) g }
+    ensures { result ≡ nonzero (first_false_item (code_in table.now) (value_in assignment.now) g) }
 {
-    let n = items(totals(table), g);
-    let mut a: u16 = 0;
-    while a < n {
+    for a in 0..items(totals(table), g) {
         if !item_holds(table, g, a + 1, assignment) {
-            return a + 1;
+            return Some(a + 1);
         }
-        a += 1;
     }
-    0
+    None
 }
 
-// The first clause that is false, 0 if none is: item by item, each item's clauses together.
-pub fn first_false<'a>(table: &'a [u16], assignment: &'a [u8]) -> usize
+// The first clause that is false: item by item, each item's clauses together.
+pub fn first_false<'a>(table: &'a [u16], assignment: &'a [u8]) -> Option<usize>
     requires { (Ready table.now) × (vars_in table.now ≤ length assignment.now) }
-    ensures { result ≡ code_first_false (code_in table.now) assignment.now }
+    ensures { result ≡ nonzero (code_first_false (code_in table.now) assignment.now) }
 {
-    let mut g: u16 = 0;
-    while g < GROUPS {
-        let a = false_item(table, g + 1, assignment);
-        if 0 < a {
+    for g in 0..GROUPS {
+        if let Some(a) = false_item(table, g + 1, assignment) {
             return false_in(table, g + 1, a, assignment);
         }
-        g += 1;
     }
-    0
+    None
 }

@@ -1,5 +1,7 @@
 -- What the rules of an atom say, groups 2 and 7, as code goes from rule to rule.
 --   Visited A S hs a founds r e s    e and s are what the rules before r say, all rules where r is 0; r has the head a
+--   Visiting A S hs a founds rule e s    the same of the rule that is met next, if there is one; place rule is its number, else 0
+--   place_is, numbered_so, met, none_met, fewer, at_rule    the rule that is met, by its number
 --   heads_length                                as many heads as rules
 --   visited_first, visited_next, visited_all    at the first rule, from one rule to the next, and after the last one
 --   visited_less                                the loop ends
@@ -10,10 +12,11 @@
 --   rule_named                                  the variable of a rule, by the code's sizes
 --   from_none, from_rule                        the first rule and the next one follow
 -- Assumes nothing.
-use Prim.Native.Nat.{ℕ, suc, ◌-◌, ◌≤◌, ◌<◌}
-use native.Mathlib.Nat.{le_trans}
+use Prim.Native.Nat.{ℕ, zero, suc, ◌-◌, ◌≤◌, ◌<◌}
+use Rattle.std.specs.Prelude.{Option, Some, None}
+use native.Mathlib.Nat.{le_of_eq, le_trans}
 use native.Mathlib.Omega.{arith}
-use mathlib.Core.Path.{◌≡◌, sym, ◌∙◌, ap, ap₂, subst}
+use mathlib.Core.Path.{◌≡◌, refl, sym, ◌∙◌, ap, ap₂, subst}
 use mathlib.Core.Bool.{Bool, true, false, ◌&&◌, ◌||◌, cond, and-true, or-false}
 use mathlib.Core.List.{List}
 use lib.Dec.{eqb}
@@ -32,6 +35,9 @@ use Rattle.clause_table_laws.proofs.Cells.{told, arrays}
 use Rattle.clause_table_laws.proofs.Elements as elements
 use Rattle.clause_table_laws.proofs.Links.{rules_before, before_none, before_some, before_within, Follows, before_grows, unchanged, first_read_lem, next_read}
 use Rattle.clause_layout.proofs.Groups.{sizes_are, bounded}
+use Rattle.numbers.specs.Nonzero.{nonzero}
+use Rattle.numbers.specs.declared.Rule.{Rule}
+use Rattle.clause_cells.specs.Rules.{rule_number}
 use Rattle.truth_literals.specs.Clauses.{two_true}
 use Rattle.truth_literals.proofs.Variables.{atom_in as atom-has, body_in, founds_in}
 use Rattle.truth_heads.specs.declared.Support.{Support}
@@ -48,7 +54,46 @@ pub record Visited (A : Assignment) (S : Sizes) (hs : List ℕ) (a : ℕ) (found
   pub each_are : e ≡ all_to (rules_before (length hs) r) (implied_true A S hs a founds)
   pub some_are : s ≡ any_to (rules_before (length hs) r) (supports A S hs a founds)
 
+-- the number of a rule, 0 if there is none
+abbrev pub place : Option Rule → ℕ
+place None = 0
+place (Some r) = r.0
+
+-- where rule is the next one that is met
+pub record Visiting (A : Assignment) (S : Sizes) (hs : List ℕ) (a : ℕ) (founds : Bool) (rule : Option Rule) (e s : Bool) : Type 0 where
+  pub numbered : rule_number rule ≡ nonzero (place rule)
+  pub visited : Visited A S hs a founds (place rule) e s
+
+pub place_is : (rule : Option Rule) (k : ℕ) → rule_number rule ≡ nonzero k → place rule ≡ k
+place_is None zero e = refl
+place_is None (suc k) e = absurd (cc)
+place_is (Some r) zero e = absurd (cc)
+place_is (Some r) (suc k) e = cc
+
+pub numbered_so : (rule : Option Rule) (k : ℕ) → rule_number rule ≡ nonzero k → rule_number rule ≡ nonzero (place rule)
+numbered_so rule k e = e ∙ ap nonzero (sym (place_is rule k e))
+
+-- a rule that is there has a number above 0
+some_pos : (k : ℕ) → ◌≡◌ {A = Option ℕ} (Some k) (nonzero k) → 0 < k
+some_pos zero e = absurd (cc)
+some_pos (suc k) e = omega arith
+
+pub met : {rule : Option Rule} {r : Rule} → rule ≡ Some r → rule_number rule ≡ nonzero (place rule) → 0 < r.0
+met {rule} {r} e n = some_pos r.0 (subst (λ (x : Option Rule). rule_number x ≡ nonzero (place x)) e n)
+
+pub none_met : {rule : Option Rule} → rule ≡ None → place rule ≤ 0
+none_met e = le_of_eq (ap place e)
+
+-- what is left for the loop, at the rule that is met
+pub fewer : (hs : List ℕ) {rule : Option Rule} {r : Rule} {n : ℕ} → rule ≡ Some r → n < length hs - rules_before (length hs) r.0
+    → n < length hs - rules_before (length hs) (place rule)
+fewer hs {n = n} e h = subst (λ (x : Option Rule). n < length hs - rules_before (length hs) (place x)) (sym e) h
+
 module _ (A : Assignment) (S : Sizes) (hs : List ℕ) (a : ℕ) (founds : Bool) where
+  -- the rule that is met next
+  pub at_rule : {rule : Option Rule} {r : Rule} {e s : Bool} → rule ≡ Some r → Visited A S hs a founds (place rule) e s → Visited A S hs a founds r.0 e s
+  at_rule {e = e} {s = s} p v = subst (λ (x : Option Rule). Visited A S hs a founds (place x) e s) p v
+
   abbrev implied_by : ℕ → Bool → Bool
   implied_by r d = cond d (two_true A (var a) (− rule_var S founds r)) true
 

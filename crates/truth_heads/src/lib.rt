@@ -10,7 +10,7 @@ ghost use Rattle.truth_heads.specs.Heads.{support_of, head_true, founded_true};
 
 use clause_cells::{first_rule, next_rule, totals};
 use clause_slots::rule_var;
-use numbers::{Atom, atom_var};
+use numbers::{Atom, Var};
 use truth_literals::stands;
 
 // What the rules of an atom say: `each`, that each clause of the atom and such a rule is true; `some`, that some such rule's variable has 1.
@@ -29,17 +29,14 @@ fn support_of<'a>(table: &'a [u16], a: Atom, founds: bool, assignment: &'a [u8])
     let s = totals(table).sizes;
     let mut each = true;
     let mut some = false;
-    let mut r = first_rule(table, a);
-    while 0 < r.0 {
+    let mut rule = first_rule(table, a);
+    while let Some(r) = rule {
         let x = rule_var(s, founds, r);
-        each = each & (stands(true, atom_var(a), assignment) | stands(false, x, assignment));
-        some = some | stands(true, x, assignment);
-        r = next_rule(table, r);
+        each &= stands(true, Var::from(a), assignment) | stands(false, x, assignment);
+        some |= stands(true, x, assignment);
+        rule = next_rule(table, r);
     }
-    Support {
-        each: each,
-        some: some,
-    }
+    Support { each, some }
 }
 
 // Group 2, atom a: whether every clause is true.
@@ -48,7 +45,7 @@ pub fn head_holds<'a>(table: &'a [u16], a: Atom, assignment: &'a [u8]) -> bool
     ensures { result ≡ head_true (code_in table.now) (value_in assignment.now) a.0 }
 {
     let x = support_of(table, a, false, assignment);
-    x.each & (stands(false, atom_var(a), assignment) | x.some)
+    x.each & (stands(false, Var::from(a), assignment) | x.some)
 }
 
 // Group 7, atom a: whether its clause is true.
@@ -56,5 +53,5 @@ pub fn founded_holds<'a>(table: &'a [u16], a: Atom, assignment: &'a [u8]) -> boo
     requires { (Ready table.now) × (0 < a.0) × (a.0 ≤ atoms_in table.now) × (vars_in table.now ≤ length assignment.now) }
     ensures { result ≡ founded_true (code_in table.now) (value_in assignment.now) a.0 }
 {
-    stands(false, atom_var(a), assignment) | support_of(table, a, true, assignment).some
+    stands(false, Var::from(a), assignment) | support_of(table, a, true, assignment).some
 }

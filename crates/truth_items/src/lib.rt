@@ -10,7 +10,7 @@ ghost use Rattle.truth_literals.specs.Items.{item_true};
 use clause_cells::{body, head, list_start, pair_body, pair_head, pairs_before, totals};
 use clause_layout::span;
 use clause_literals::body_var;
-use numbers::{Atom, Pair, Rule, wide};
+use numbers::{Atom, Pair, Rule};
 use truth_heads::{founded_holds, head_holds};
 use truth_levels::{next_holds, pair_holds, zero_holds};
 use truth_rules::{body_holds, rule_holds};
@@ -24,7 +24,12 @@ fn body_item<'a>(table: &'a [u16], r: Rule, assignment: &'a [u8]) -> bool
     let middle = list_start(table, r, 1);
     let end = list_start(table, r, 2);
     let t = body_var(totals(table).sizes, r);
-    body_holds(t, body(table, first, end), wide(middle - first), assignment)
+    body_holds(
+        t,
+        body(table, first, end),
+        usize::from(middle - first),
+        assignment,
+    )
 }
 
 // Group 5, pair k: whether every clause is true.
@@ -54,23 +59,13 @@ pub fn item_holds<'a>(table: &'a [u16], g: u16, a: u16, assignment: &'a [u8]) ->
         × (vars_in table.now ≤ length assignment.now) }
     ensures { result ≡ item_true (code_in table.now) (value_in assignment.now) g a }
 {
-    if g == 5 {
-        return pair_item(table, Pair(a), assignment);
+    match g {
+        1 => body_item(table, Rule(a), assignment),
+        2 => head_holds(table, Atom(a), assignment),
+        3 => zero_holds(totals(table).sizes, Atom(a), assignment),
+        4 => next_holds(totals(table).sizes, Atom(a), assignment),
+        5 => pair_item(table, Pair(a), assignment),
+        6 => rule_item(table, Rule(a), assignment),
+        _ => founded_holds(table, Atom(a), assignment),
     }
-    if g == 4 {
-        return next_holds(totals(table).sizes, Atom(a), assignment);
-    }
-    if g == 3 {
-        return zero_holds(totals(table).sizes, Atom(a), assignment);
-    }
-    if g == 1 {
-        return body_item(table, Rule(a), assignment);
-    }
-    if g == 6 {
-        return rule_item(table, Rule(a), assignment);
-    }
-    if g == 2 {
-        return head_holds(table, Atom(a), assignment);
-    }
-    founded_holds(table, Atom(a), assignment)
 }

@@ -4,10 +4,11 @@
 --   body_after, head_after, next_after, below_after, next_below_after    those of a pair have bytes
 --   pair_is                               both chains of a pair
 -- Assumes nothing.
-use Prim.Native.Nat.{ℕ, suc, ◌+◌, ◌≤◌, ◌<◌}
-use native.Mathlib.Nat.{le_refl, le_trans, add-zero}
+use Prim.Native.Nat.{ℕ, suc, pred, ◌+◌, ◌≤◌, ◌<◌}
+use native.Mathlib.Nat.{le_refl, le_trans}
+use native.Mathlib.Numerals.{add-one}
 use native.Mathlib.Omega.{arith}
-use mathlib.Core.Path.{◌≡◌, refl, sym, ◌∙◌, ap, ap₂}
+use mathlib.Core.Path.{◌≡◌, refl, ◌∙◌, ap, ap₂}
 use mathlib.Core.Bool.{Bool, ◌&&◌}
 use mathlib.Core.List.{List}
 use lib.ListN.{length}
@@ -26,22 +27,19 @@ use Rattle.truth_literals.proofs.Variables.{count_grows, level_fits, next_fits, 
 use Rattle.truth_levels.specs.Levels.{After, ChainIn, PairIn, chain_bit_true, chain_true, pair_true}
 
 module _ (A : Assignment) (z x y : ℕ) {c : Chain} where
-  pub chain_first_lem : c.z.0 ≡ z + 1 → c.x.0 ≡ x + 1 → c.y.0 ≡ y + 1 → c.g.0 ≡ z → {r : Bool} → r ≡ bit_true A c 1 → r ≡ all_to 1 (chain_bit_true A z x y)
-  chain_first_lem p q s u e = e ∙ ap (λ (c : Chain). bit_true A c 1) (λ t. chain_with (p t) (q t) (s t) ((u ∙ sym (add-zero z)) t))
+  pub chain_first_lem : c ≡ chain_with (z + 1) (x + 1) (y + 1) (z + pred 1) → {r : Bool} → r ≡ bit_true A c 1 → r ≡ all_to 1 (chain_bit_true A z x y)
+  chain_first_lem q e = e ∙ ap (λ (c : Chain). bit_true A c 1) q
 
-  pub chain_more : (i : ℕ) → c.z.0 ≡ z + (i + 2) → c.x.0 ≡ x + (i + 2) → c.y.0 ≡ y + (i + 2) → c.g.0 ≡ z + (i + 1)
-      → {p r : Bool} → p ≡ all_to (i + 1) (chain_bit_true A z x y) → r ≡ bit_true A c 2 → (p && r) ≡ all_to (i + 1 + 1) (chain_bit_true A z x y)
-  chain_more i p q s u e d =
-      all_more (chain_bit_true A z x y) (i + 1) e
-      (further_bit A c {i = suc (i + 1)} (λ h. omega (arith, h)) d
-      ∙ ap (λ (c : Chain). bit_true A c (suc (i + 1))) (λ t. chain_with ((p ∙ two z) t) ((q ∙ two x) t) ((s ∙ two y) t) (u t)))
-    where
-      two : (o : ℕ) → o + (i + 2) ≡ o + suc (i + 1)
-      two o = omega arith
+  pub chain_more : (i : ℕ) → 0 < i → c ≡ chain_with (z + (i + 1)) (x + (i + 1)) (y + (i + 1)) (z + pred (i + 1))
+      → {p r : Bool} → p ≡ all_to i (chain_bit_true A z x y) → r ≡ bit_true A c 2 → (p && r) ≡ all_to (i + 1) (chain_bit_true A z x y)
+  chain_more i h q e d =
+      all_more (chain_bit_true A z x y) i e
+      (further_bit A c {i = suc i} (λ s. omega (arith, s, h)) d
+      ∙ ap (λ (c : Chain). bit_true A c (suc i)) (q ∙ ap (λ (k : ℕ). chain_with (z + k) (x + k) (y + k) (z + pred k)) (add-one i)))
 
-pub chain_all : (A : Assignment) (z x y i : ℕ) {w : ℕ} {p : Bool} → p ≡ all_to (i + 1) (chain_bit_true A z x y) → i < w → w ≤ i + 1 → p ≡ chain_true A w z x y
+pub chain_all : (A : Assignment) (z x y i : ℕ) {w : ℕ} {p : Bool} → p ≡ all_to i (chain_bit_true A z x y) → i ≤ w → w ≤ i → p ≡ chain_true A w z x y
 unfolding chain_true
-chain_all A z x y i e h l = all_done (chain_bit_true A z x y) (i + 1) e (omega (arith, h)) l
+chain_all A z x y i e h l = all_done (chain_bit_true A z x y) i e h l
 
 -- ---- variables that have bytes
 
@@ -53,11 +51,18 @@ module _ (bs : List ℕ) (w z x y : ℕ) (H : ChainIn bs w z x y) {c : Chain} wh
       has : (o : ℕ) {v : ℕ} → After bs w o → v ≡ o + j → Has bs v
       has o f e = (omega (arith, e, m), omega (arith, e, f, l))
 
-  pub bit_first : c.z.0 ≡ z + 1 → c.x.0 ≡ x + 1 → c.y.0 ≡ y + 1 → BitIn bs c 1
-  bit_first p q s = bit_in 1 1 (omega arith) (omega (arith, H.0)) p q s (λ n. absurd (n refl))
+  pub bit_first : c ≡ chain_with (z + 1) (x + 1) (y + 1) (z + pred 1) → BitIn bs c 1
+  bit_first q =
+      bit_in 1 1 (omega arith) (omega (arith, H.0)) (ap (λ (c : Chain). c.z.0) q) (ap (λ (c : Chain). c.x.0) q) (ap (λ (c : Chain). c.y.0) q)
+      (λ n. absurd (n refl))
 
-  pub bit_further : (i : ℕ) → i + 1 < w → c.z.0 ≡ z + (i + 2) → c.x.0 ≡ x + (i + 2) → c.y.0 ≡ y + (i + 2) → c.g.0 ≡ z + (i + 1) → BitIn bs c 2
-  bit_further i m p q s u = bit_in 2 (i + 2) (omega arith) (omega (arith, m)) p q s (λ n. (omega (arith, u), omega (arith, u, m, H.2.1)))
+  pub bit_further : (i : ℕ) → 0 < i → i < w → c ≡ chain_with (z + (i + 1)) (x + (i + 1)) (y + (i + 1)) (z + pred (i + 1)) → BitIn bs c 2
+  bit_further i h m q =
+      bit_in 2 (i + 1) (omega arith) (omega (arith, m)) (ap (λ (c : Chain). c.z.0) q) (ap (λ (c : Chain). c.x.0) q) (ap (λ (c : Chain). c.y.0) q)
+      (λ n. (omega (arith, before, h), omega (arith, before, m, H.2.1)))
+    where
+      before : c.g.0 ≡ z + i
+      before = ap (λ (c : Chain). c.g.0) q ∙ ap (λ (k : ℕ). z + pred k) (add-one i)
 
 -- those of a pair, of its body atom and of its head
 module _ {bs : List ℕ} {s : Held} {k b h : ℕ} (H : PairIn bs s k b h) where

@@ -1,34 +1,28 @@
 // Truth of whole items of groups 3, 4 and 5 under an assignment: counters and chains (document 01, "Check and filling out").
 #![tactic(auto)]
 
-ghost use Rattle.std.specs.Prelude.{◌+◌, ◌^◌, ◌<◌, ◌≡◌, ◌||◌, ◌&&◌};
+ghost use Rattle.std.specs.Prelude.{pred, ◌+◌, ◌^◌, ◌<◌, ◌≡◌, ◌||◌, ◌&&◌};
 ghost use Rattle.encoding.specs.Literal.{var, −◌};
 ghost use Rattle.clause_literals.specs.Sizes.{sizes_of};
+ghost use Rattle.clause_chains.specs.Chain.{chain_with};
 ghost use Rattle.truth_literals.specs.Values.{value_in};
 ghost use Rattle.truth_literals.specs.Clauses.{Has, two_true, three_true};
 ghost use Rattle.truth_levels.specs.Levels.{LevelIn, PairIn, ChainIn, zero_true, next_true, nexts_true, chain_true, pair_true};
 
 use clause_chains::Chain;
 use clause_literals::{Sizes, below_var, level_var, literal, negated, next_below_var, next_var};
-use numbers::{Atom, Pair, Var, atom_var};
-use truth_literals::{first_bit_holds, holds, next_bit_holds, three_hold, two_hold};
+use numbers::{Atom, Pair, Var};
+use truth_literals::{first_bit_holds, is_true, next_bit_holds, three_hold, two_hold};
 
 // Group 3, atom a: whether every clause is true.
 pub fn zero_holds(s: Sizes, a: Atom, assignment: &[u8]) -> bool
     requires { LevelIn assignment.now s a.0 }
     ensures { result ≡ zero_true (value_in assignment.now) (sizes_of s) a.0 }
 {
-    let w = s.w;
+    let x = literal(Var::from(a));
     let mut ok = true;
-    let mut y: u16 = 0;
-    while y < w {
-        let is_true = two_hold(
-            literal(atom_var(a)),
-            negated(level_var(s, a, y + 1)),
-            assignment,
-        );
-        ok = ok & is_true;
-        y += 1;
+    for y in 0..s.w {
+        ok &= two_hold(x, negated(level_var(s, a, y + 1)), assignment);
     }
     ok
 }
@@ -64,13 +58,10 @@ fn bit_of_next_holds(s: Sizes, a: Atom, i: u16, assignment: &[u8]) -> bool
     let v = level_var(s, a, i + 1);
     let mut ok = true;
     let mut low = false;
-    let mut j: u16 = 0;
-    while j < i {
+    for j in 0..i {
         let x = level_var(s, a, j + 1);
-        ok = ok & lower_holds(x, u, v, assignment);
-        let is_zero = holds(negated(x), assignment);
-        low = low | is_zero;
-        j += 1;
+        ok &= lower_holds(x, u, v, assignment);
+        low |= !is_true(assignment, x);
     }
     ok & long_hold(low, u, v, assignment)
 }
@@ -80,22 +71,24 @@ pub fn next_holds(s: Sizes, a: Atom, assignment: &[u8]) -> bool
     requires { LevelIn assignment.now s a.0 }
     ensures { result ≡ nexts_true (value_in assignment.now) (sizes_of s) a.0 }
 {
-    let w = s.w;
     let mut ok = true;
-    let mut i: u16 = 0;
-    while i < w {
-        ok = ok & bit_of_next_holds(s, a, i, assignment);
-        i += 1;
+    for i in 0..s.w {
+        ok &= bit_of_next_holds(s, a, i, assignment);
     }
     ok
 }
 
-// The variable i after variable o.
-fn at(o: Var, i: u16) -> Var
-    requires { o.0 + i < 2 ^ 16 }
-    ensures { result.0 ≡ o.0 + i }
+// Bit i, from 1, of a chain, where z, x and y are the variables before those of its first bit.
+fn chain_bit(z: Var, x: Var, y: Var, i: u16) -> Chain
+    requires { (0 < i) × (z.0 + i < 2 ^ 16) × (x.0 + i < 2 ^ 16) × (y.0 + i < 2 ^ 16) }
+    ensures { result ≡ chain_with (z.0 + i) (x.0 + i) (y.0 + i) (z.0 + pred i) }
 {
-    Var(o.0 + i)
+    Chain {
+        z: Var(z.0 + i),
+        x: Var(x.0 + i),
+        y: Var(y.0 + i),
+        g: Var(z.0 + (i - 1)),
+    }
 }
 
 // A chain of w bits, where z, x and y are the variables before those of its first bit: whether every clause is true.
@@ -103,28 +96,9 @@ fn chain_holds(w: u16, z: Var, x: Var, y: Var, assignment: &[u8]) -> bool
     requires { ChainIn assignment.now w z.0 x.0 y.0 }
     ensures { result ≡ chain_true (value_in assignment.now) w z.0 x.0 y.0 }
 {
-    let mut ok = first_bit_holds(
-        Chain {
-            z: at(z, 1),
-            x: at(x, 1),
-            y: at(y, 1),
-            g: z,
-        },
-        assignment,
-    );
-    let mut i: u16 = 0;
-    while i + 1 < w {
-        ok = ok
-            & next_bit_holds(
-                Chain {
-                    z: at(z, i + 2),
-                    x: at(x, i + 2),
-                    y: at(y, i + 2),
-                    g: at(z, i + 1),
-                },
-                assignment,
-            );
-        i += 1;
+    let mut ok = first_bit_holds(chain_bit(z, x, y, 1), assignment);
+    for i in 1..w {
+        ok &= next_bit_holds(chain_bit(z, x, y, i + 1), assignment);
     }
     ok
 }

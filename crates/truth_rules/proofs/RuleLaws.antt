@@ -72,10 +72,10 @@ module _ (A : Assignment) (S : Sizes) (r k b : ℕ) {t : ℕ} (q : t ≡ body_va
 
 module _ (A : Assignment) (S : Sizes) (h t j : ℕ) where
   pub fact_more : {v : ℕ} → v ≡ level_var S h (j + 1) → {y x : Bool} → y ≡ all_to j (fact_clause A S h t)
-      → x ≡ two_true A (− t) (signed (eqb (j + 1) 1) v) → (y && x) ≡ all_to (j + 1) (fact_clause A S h t)
+      → x ≡ two_true A (− t) (signed (eqb j 0) v) → (y && x) ≡ all_to (j + 1) (fact_clause A S h t)
   fact_more q e u =
       all_more (fact_clause A S h t) j e
-      (u ∙ ap (λ (v : ℕ). two_true A (− t) (signed (eqb (j + 1) 1) v)) q ∙ ap (fact_clause A S h t) (add-one j))
+      (u ∙ ap₂ (λ (d : Bool) (v : ℕ). two_true A (− t) (signed d v)) (sym (eqb-suc-suc j 0)) (q ∙ ap (level_var S h) (add-one j)))
 
   pub fact_all : (r : ℕ) → t ≡ body_var S r → j ≤ S.w → S.w ≤ j → {y : Bool} → y ≡ all_to j (fact_clause A S h t) → y ≡ fact_true A S r h
   unfolding fact_true

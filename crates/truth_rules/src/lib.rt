@@ -1,7 +1,7 @@
 // Truth of whole items of groups 1 and 6 under an assignment: the bodies of rules, and the rules (document 01, "Check and filling out").
 #![tactic(auto)]
 
-ghost use Rattle.std.specs.Prelude.{◌+◌, ◌≤◌, ◌<◌, ◌≡◌, length, get_or};
+ghost use Rattle.std.specs.Prelude.{◌+◌, ◌≤◌, ◌<◌, ◌≡◌, length};
 ghost use Rattle.encoding.specs.Variables.{var_count};
 ghost use Rattle.clause_literals.specs.Sizes.{sizes_of, Bounded};
 ghost use Rattle.truth_literals.specs.Values.{value_in};
@@ -9,16 +9,8 @@ ghost use Rattle.truth_literals.specs.Clauses.{Has};
 ghost use Rattle.truth_rules.specs.Rules.{AtomsIn, body_item_true, founds_true, fact_true, bound_true, rule_true};
 
 use clause_literals::{Sizes, below_var, body_var, founds_var, level_var, next_below_var};
-use numbers::{Atom, Pair, Rule, Var, atom_var};
+use numbers::{Atom, Pair, Rule, Var};
 use truth_literals::{implies, stands};
-
-// The variable of the body atom after j others.
-fn atom_after(atoms: &[u16], j: usize) -> Var
-    requires { j < length atoms.now }
-    ensures { result.0 ≡ get_or atoms.now j 0 }
-{
-    atom_var(Atom(atoms[j]))
-}
 
 // Group 1, a rule with the variable t of its body and the body atoms `atoms`, the first p of them positive: whether every clause is true.
 pub fn body_holds<'a>(t: Var, atoms: &'a [u16], p: usize, assignment: &'a [u8]) -> bool
@@ -27,12 +19,10 @@ pub fn body_holds<'a>(t: Var, atoms: &'a [u16], p: usize, assignment: &'a [u8]) 
 {
     let mut ok = true;
     let mut long = stands(true, t, assignment);
-    let mut j: usize = 0;
-    while j < atoms.len() {
-        let b = atom_after(atoms, j);
-        ok = ok & implies(t, j < p, b, assignment);
-        long = long | stands(p <= j, b, assignment);
-        j += 1;
+    for (j, a) in atoms.iter().enumerate() {
+        let b = Var::from(Atom(*a));
+        ok &= implies(t, j < p, b, assignment);
+        long |= stands(p <= j, b, assignment);
     }
     ok & long
 }
@@ -46,12 +36,10 @@ fn founds_hold(s: Sizes, r: Rule, k: u16, b: u16, assignment: &[u8]) -> bool
     let t = body_var(s, r);
     let mut ok = implies(f, true, t, assignment);
     let mut long = stands(true, f, assignment) | stands(false, t, assignment);
-    let mut j: u16 = 0;
-    while j < b {
+    for j in 0..b {
         let p = below_var(s, Pair(k + (j + 1)), s.w);
-        ok = ok & implies(f, true, p, assignment);
-        long = long | stands(false, p, assignment);
-        j += 1;
+        ok &= implies(f, true, p, assignment);
+        long |= stands(false, p, assignment);
     }
     ok & long
 }
@@ -62,13 +50,10 @@ fn fact_holds(s: Sizes, r: Rule, h: Atom, assignment: &[u8]) -> bool
     ensures { result ≡ fact_true (value_in assignment.now) (sizes_of s) r.0 h.0 }
 {
     let t = body_var(s, r);
-    let w = s.w;
     let mut ok = true;
-    let mut j: u16 = 0;
-    while j < w {
+    for j in 0..s.w {
         let v = level_var(s, h, j + 1);
-        ok = ok & implies(t, j + 1 == 1, v, assignment);
-        j += 1;
+        ok &= implies(t, j == 0, v, assignment);
     }
     ok
 }
@@ -79,11 +64,9 @@ fn bound_holds(s: Sizes, r: Rule, k: u16, b: u16, assignment: &[u8]) -> bool
     ensures { result ≡ bound_true (value_in assignment.now) (sizes_of s) r.0 k b }
 {
     let mut low = stands(false, body_var(s, r), assignment);
-    let mut j: u16 = 0;
-    while j < b {
+    for j in 0..b {
         let q = next_below_var(s, Pair(k + (j + 1)), s.w);
-        low = low | stands(false, q, assignment);
-        j += 1;
+        low |= stands(false, q, assignment);
     }
     low
 }
@@ -96,7 +79,8 @@ pub fn rule_holds(s: Sizes, r: Rule, h: Atom, k: u16, b: u16, assignment: &[u8])
 {
     let founds = founds_hold(s, r, k, b, assignment);
     if b == 0 {
-        return founds & fact_holds(s, r, h, assignment);
+        founds & fact_holds(s, r, h, assignment)
+    } else {
+        founds & bound_holds(s, r, k, b, assignment)
     }
-    founds & bound_holds(s, r, k, b, assignment)
 }

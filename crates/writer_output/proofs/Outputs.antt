@@ -12,25 +12,26 @@ use Rattle.meaning.specs.Program.{Program}
 use Rattle.text.specs.Limits.{Admitted}
 use Rattle.program.specs.Arrays.{decoded}
 use Rattle.program.proofs.Decode.{decoded_kept}
-use Rattle.reader.specs.declared.ReadVerdict.{ReadVerdict}
-use Rattle.reader.specs.declared.ReadVerdict.TheVariants.{Accepted, Refused}
 use Rattle.reader.specs.Verdict.{read_of}
 use Rattle.reader.specs.Counted.{counted_of}
 use Rattle.reader.proofs.Counted.{counted_whole}
 use Rattle.reader_laws.specs.Row.{Answers}
 use Rattle.reader_laws.proofs.Contents.{admitted_answer}
 use Rattle.fixed_lines.specs.Lines.{refused_text}
+use Rattle.refusals.specs.Numbers.{text_number, text_spot}
 use Rattle.writer_output.specs.Output.{clause_file, writer_refusal_line, writer_verdict_text, writer_output_of, writer_output, writer_text}
+use Rattle.reader.specs.Verdict.{ReadVerdict}
+use Rattle.std.specs.Prelude.{Err, Ok}
 
 module _ (f : List ℕ) (k : ℕ) {v : ReadVerdict} (e : v ≡ (counted_of f k).verdict) where
   by_verdict : {w : ReadVerdict} → v ≡ w → writer_verdict_text w (clause_file (decoded (counted_of f k).program)) ≡ writer_output f k
   unfolding writer_output writer_output_of
   by_verdict h = ap (λ (w : ReadVerdict). writer_verdict_text w (clause_file (decoded (counted_of f k).program))) (sym h ∙ e)
 
-  pub accepted_output : v ≡ Accepted → clause_file (decoded (counted_of f k).program) ≡ writer_output f k
+  pub accepted_output : v ≡ Ok tt → clause_file (decoded (counted_of f k).program) ≡ writer_output f k
   accepted_output h = by_verdict h
 
-  pub refused_output : {x : TextRefusal} → v ≡ Refused x → writer_refusal_line v ≡ writer_output f k
+  pub refused_output : {x : TextRefusal} → v ≡ Err x → writer_refusal_line v ≡ writer_output f k
   refused_output h = ap writer_refusal_line h ∙ by_verdict h
 
 pub front_output : (t : List ℕ) → writer_output (take 65537 t) (length t) ≡ writer_text t

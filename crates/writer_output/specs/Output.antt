@@ -14,9 +14,6 @@ use Rattle.meaning.specs.Program.{Program}
 use Rattle.encoding.specs.Code.{Code, clause_total_of}
 use Rattle.program.specs.Arrays.{decoded}
 use Rattle.refusals.specs.Numbers.{text_number, text_spot}
-use Rattle.reader.specs.declared.ReadResult.{ReadResult}
-use Rattle.reader.specs.declared.ReadVerdict.{ReadVerdict}
-use Rattle.reader.specs.declared.ReadVerdict.TheVariants.{Accepted, Refused}
 use Rattle.reader.specs.Verdict.{read_of}
 use Rattle.reader.specs.Counted.{counted_of}
 use Rattle.fixed_lines.specs.Lines.{refused_text}
@@ -25,6 +22,9 @@ use Rattle.clause_places.specs.Places.{place_at}
 use Rattle.io.specs.Counts.{IsPrefixLen}
 use Rattle.clause_runs.specs.declared.RunPart.{RunPart}
 use Rattle.clause_runs.specs.Lines.{lines_of, code_lines, code_part, code_run_bytes}
+use Rattle.reader.specs.Verdict.{ReadVerdict}
+use Rattle.reader.specs.declared.ReadResult.{ReadResult}
+use Rattle.std.specs.Prelude.{Err, Ok}
 
 abbrev pub clause_file : Program → List ℕ
 clause_file P = joined (lines_of P)
@@ -33,12 +33,12 @@ abbrev pub file_before : Program → ℕ → List ℕ
 file_before P j = joined (take j (lines_of P))
 
 abbrev pub writer_refusal_line : ReadVerdict → List ℕ
-writer_refusal_line Accepted = []
-writer_refusal_line (Refused r) = refused_text (text_number r) (text_spot r)
+writer_refusal_line (Ok u) = []
+writer_refusal_line (Err r) = refused_text (text_number r) (text_spot r)
 
 abbrev pub writer_verdict_text : ReadVerdict → List ℕ → List ℕ
-writer_verdict_text Accepted file = file
-writer_verdict_text (Refused r) file = writer_refusal_line (Refused r)
+writer_verdict_text (Ok u) file = file
+writer_verdict_text (Err r) file = writer_refusal_line (Err r)
 
 unfoldable pub writer_output_of : ReadResult → List ℕ
 writer_output_of r = writer_verdict_text r.verdict (clause_file (decoded r.program))

@@ -17,26 +17,25 @@ use clause_runs::{RunPart, put_lines};
 use clause_tables::CELLS;
 use files::read_open;
 use fixed_lines::put_refusal;
-use reader::ReadVerdict;
-use refusals::{TextRefusal, text_number, text_spot};
+use refusals::{Refusal, TextRefusal};
 
 // Hands over the line of a refusal.
 fn say_refusal(x: TextRefusal) -> usize
     ensures { result ≡ length (refused_text (text_number x) (text_spot x)) }
 {
     let mut out = [0u8; 64];
-    let n = put_refusal(text_number(x), text_spot(x), &mut out);
+    let n = put_refusal(x.number(), x.spot(), &mut out);
     io::write_all(1, &out[..n]);
     n
 }
 
 // Hands over the line of a refusal, and nothing for an accepted text.
-fn say_refused(v: ReadVerdict) -> usize
-    ensures { result ≡ length (writer_refusal_line v) }
+fn say_refused(verdict: Result<(), TextRefusal>) -> usize
+    ensures { result ≡ length (writer_refusal_line verdict) }
 {
-    match v {
-        ReadVerdict::Accepted => 0,
-        ReadVerdict::Refused(x) => say_refusal(x),
+    match verdict {
+        Ok(()) => 0,
+        Err(refusal) => say_refusal(refusal),
     }
 }
 
@@ -54,7 +53,7 @@ fn next_part(table: &[u16], c: Place, said: usize, out: &mut [u8]) -> RunPart
         × (length out.old ≤ 65536) }
     ensures { PartPut (code_in table.now) c said out.old result out.new }
 {
-    put_lines(table, c, &mut *out)
+    put_lines(table, c, out)
 }
 
 // Hands over all lines of the program of a table, part after part.
@@ -80,9 +79,9 @@ pub fn say_output(front: &[u8], total: usize) -> usize
     ensures { result ≡ length (writer_output front.now total) }
 {
     let mut table = [0u16; CELLS];
-    let v = load_counted(front, total, &mut table);
-    let ReadVerdict::Accepted = v else {
-        return say_refused(v);
+    let verdict = load_counted(front, total, &mut table);
+    let Ok(()) = verdict else {
+        return say_refused(verdict);
     };
     say_lines(&table)
 }

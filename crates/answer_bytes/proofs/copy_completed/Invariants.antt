@@ -2,11 +2,7 @@ use Rattle.answer_bytes.specs.Bytes.{completed}
 use lib.ListN.{length, take, drop}
 use mathlib.Core.List.{◌++◌}
 use mathlib.Core.Path.{◌≡◌}
-use Prim.Native.Nat.{◌-◌, ◌≤◌}
 use Rattle.answer_bytes.proofs.copy_completed.Given as goal
 
 abbrev pub invariant-loop-i : goal.invariant-loop-i
-invariant-loop-i l = (l.i ≤ l.n) × (length l.buf ≡ length l.initial.buf) × (l.buf ≡ completed (take l.i l.from) ++ drop l.i l.initial.buf)
-
-abbrev pub decreases-loop-i : goal.decreases-loop-i
-decreases-loop-i l = l.n - l.i
+invariant-loop-i l = (length l.buf ≡ length l.initial.buf) × (l.buf ≡ completed (take l.i l.from) ++ drop l.i l.initial.buf)

@@ -1,18 +1,11 @@
-use Rattle.answer_bytes.proofs.Turns.{fill_none, fill_goes, fill_all}
-use borrow.Author.Rules.{rules}
-use native.Mathlib.Omega.{arith}
-use lib.ListN.{length-set}
-use mathlib.Core.Path.{refl, ◌∙◌}
+use Rattle.answer_bytes.specs.Bytes.{overwritten}
+use lib.ListN.{drop, replicate}
+use lib.Seq.{length-take-le}
+use mathlib.Core.List.{List, ◌++◌}
+use mathlib.Core.Path.{◌∙◌, ap}
+use Prim.Native.Nat.{ℕ}
 use Rattle.answer_bytes.proofs.fill.Goals as goal
 
-pub loop-i-init : goal.loop-i-init
-loop-i-init c = (search rules, refl, fill_none _ _)
-
-pub loop-i-preserved : goal.loop-i-preserved
-loop-i-preserved c = (search rules, length-set c.loop-i.buf c.loop-i.i _ ∙ c.loop-i.invariant.1, fill_goes _ _ _ _ (omega (arith, c.requires, c.loop-i-test.true)) c.loop-i.invariant.2)
-
-pub shape_of-buf : goal.shape_of-buf
-shape_of-buf c = c.loop-i.invariant.1
-
 pub returns : goal.returns
-returns c = fill_all _ _ _ _ _ c.loop-i.invariant.0 c.loop-i-test.false c.loop-i.invariant.2
+unfolding overwritten
+returns c = ap (λ (u : List ℕ). u ++ drop c.args.n c.args.buf.now) (c.fill.ensures.after (λ y e. e) ∙ ap (λ (k : ℕ). replicate k c.args.value) (length-take-le c.args.n c.args.buf.now c.requires))

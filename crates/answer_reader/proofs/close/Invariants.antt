@@ -1,11 +1,8 @@
 use Rattle.answer_form.specs.Pieces.{close_from, close_of}
-use lib.ListN.{length, drop}
+use Rattle.answer_words.specs.Words.{tail_number}
+use lib.ListN.{drop}
 use mathlib.Core.Path.{◌≡◌}
-use Prim.Native.Nat.{◌-◌}
 use Rattle.answer_reader.proofs.close.Given as goal
 
 abbrev pub invariant-loop-i : goal.invariant-loop-i
-invariant-loop-i l = close_from l.q l.i (drop l.i l.answer) ≡ close_of l.answer l.at
-
-abbrev pub decreases-loop-i : goal.decreases-loop-i
-decreases-loop-i l = length l.answer - l.i
+invariant-loop-i l = close_from (tail_number l.tail) l.i (drop l.i l.answer) ≡ close_of l.answer l.at

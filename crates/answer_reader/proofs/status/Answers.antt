@@ -18,8 +18,8 @@ returns-then-unknown-eq10 c = found_unknown c.args.answer.now _ c.first_line-at.
 
 pub overflow_add-result-2 : goal.overflow_add-result-2
 unfolding ascii satisfiable_text status_text
-overflow_add-result-2 c = let s = spot_within c.args.answer.now _ c.first_line-at.ensures.0 _ c.common_bytes-yes.ensures c.if-yes-eq14.false _ c.common_bytes-no.ensures c.if-no-eq16.false _ c.common_bytes-unknown.ensures _ c.larger.ensures _ c.larger-2.ensures c.first_line-at.ensures.1 in omega (arith, s)
+overflow_add-result-2 c = let s = spot_within c.args.answer.now _ c.first_line-at.ensures.0 _ c.common_bytes-yes.ensures c.if-yes-eq14.false _ c.common_bytes-no.ensures c.if-no-eq16.false _ c.common_bytes-unknown.ensures _ c.max.ensures _ c.max-2.ensures c.first_line-at.ensures.1 in omega (arith, s)
 
 pub returns : goal.returns
 unfolding ascii satisfiable_text status_text
-returns c = found_left c.args.answer.now _ c.first_line-at.ensures.0 _ c.common_bytes-yes.ensures c.if-yes-eq14.false _ c.common_bytes-no.ensures c.if-no-eq16.false _ c.common_bytes-unknown.ensures _ c.larger.ensures _ c.larger-2.ensures c.if-unknown-eq10.false
+returns c = found_left c.args.answer.now _ c.first_line-at.ensures.0 _ c.common_bytes-yes.ensures c.if-yes-eq14.false _ c.common_bytes-no.ensures c.if-no-eq16.false _ c.common_bytes-unknown.ensures _ c.max.ensures _ c.max-2.ensures c.if-unknown-eq10.false

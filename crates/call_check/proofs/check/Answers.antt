@@ -1,3 +1,4 @@
+use Rattle.std.proofs.lemmas.Result.{err_from_is_err_and}
 use lib.ListN.{length}
 use mathlib.Core.Path.{refl}
 use Rattle.reader.specs.Verdict.{read_of}
@@ -7,16 +8,17 @@ use Rattle.call_laws.proofs.Tabled.{stored}
 use Rattle.call_check.proofs.check.Goals as goal
 
 pub slice_bounds-check_in-end : goal.slice_bounds-check_in-end
-slice_bounds-check_in-end c = loaded_cells (stored c.args.text.now) c.load-v.ensures c.in-Accepted.is
+slice_bounds-check_in-end c = loaded_cells (stored c.args.text.now) c.in_ok-load.ensures refl
 
 pub check_in-requires : goal.check_in-requires
-check_in-requires c = loaded_ready (stored c.args.text.now) c.load-v.ensures c.in-Accepted.is
+check_in-requires c = loaded_ready (stored c.args.text.now) c.in_ok-load.ensures refl
 
-pub returns-in-Accepted : goal.returns-in-Accepted
-returns-in-Accepted c = check_whole c.args.text.now c.args.answer.now c.args.assignment.now c.args.levels.now refl
-    (read_accepted c.args.answer.now (length c.args.answer.now) c.args.assignment.now c.args.levels.now (read_of c.args.text.now) (loaded_verdict c.load-v.ensures c.in-Accepted.is)
-    (same_code c.args.answer.now (length c.args.answer.now) c.args.assignment.now c.args.levels.now (loaded_code (stored c.args.text.now) c.load-v.ensures c.in-Accepted.is) c.check_in.ensures))
+pub returns : goal.returns
+returns c = check_whole c.args.text.now c.args.answer.now c.args.assignment.now c.args.levels.now refl
+    (read_accepted c.args.answer.now (length c.args.answer.now) c.args.assignment.now c.args.levels.now (read_of c.args.text.now) (loaded_verdict c.in_ok-load.ensures refl)
+    (same_code c.args.answer.now (length c.args.answer.now) c.args.assignment.now c.args.levels.now (loaded_code (stored c.args.text.now) c.in_ok-load.ensures refl) c.check_in.ensures))
 
-pub returns-in-Refused : goal.returns-in-Refused
-returns-in-Refused c = check_whole c.args.text.now c.args.answer.now c.args.assignment.now c.args.levels.now refl
-    (read_refused c.args.answer.now (length c.args.answer.now) c.args.assignment.now c.args.levels.now (read_of c.args.text.now) (loaded_verdict c.load-v.ensures c.in-Refused.is))
+pub returns-in_err-load : goal.returns-in_err-load
+returns-in_err-load c = let p = err_from_is_err_and c.from_residual.result c.from_residual.ensures.1 in rw (p.1, p.2)
+    (check_whole c.args.text.now c.args.answer.now c.args.assignment.now c.args.levels.now refl
+    (read_refused c.args.answer.now (length c.args.answer.now) c.args.assignment.now c.args.levels.now (read_of c.args.text.now) (loaded_verdict c.in_err-load.ensures refl)))

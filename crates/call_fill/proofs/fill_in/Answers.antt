@@ -14,11 +14,11 @@ returns-then-levels-n c = short_levels (told c.requires c.totals-t.ensures) c.ar
 pub returns-then-set-n : goal.returns-then-set-n
 returns-then-set-n c = wrong_size (told c.requires c.totals-t.ensures) c.args.set.now c.args.assignment.now c.args.levels.now c.if-assignment-t.false c.if-levels-n.false c.if-set-n.true
 
-pub returns-then-i-gt0 : goal.returns-then-i-gt0
-returns-then-i-gt0 c = bad_at (told c.requires c.totals-t.ensures) c.args.set.now c.args.assignment.now c.args.levels.now c.if-assignment-t.false c.if-levels-n.false c.if-set-n.false c.first_bad-i.ensures c.if-i-gt0.true
+pub returns-in-Some : goal.returns-in-Some
+returns-in-Some c = bad_at (told c.requires c.totals-t.ensures) c.args.set.now c.args.assignment.now c.args.levels.now c.if-assignment-t.false c.if-levels-n.false c.if-set-n.false c.in-Some.ensures
 
 pub fill_founded-requires : goal.fill_founded-requires
 fill_founded-requires c = (c.requires, omega (arith, c.if-set-n.false, ap (λ (t : Totals). t.sizes.n) c.totals-t.ensures), omega (arith, c.if-assignment-t.false, ap (λ (t : Totals). t.vars) c.totals-t.ensures), omega (arith, c.if-levels-n.false, ap (λ (t : Totals). t.sizes.n) c.totals-t.ensures))
 
-pub returns : goal.returns
-returns c = set_founded (arrays c.requires) c.args.set.now c.args.assignment.now c.args.levels.now (omega (arith, c.if-assignment-t.false, ap (λ (t : Totals). t.vars) c.totals-t.ensures)) (omega (arith, c.if-levels-n.false, ap (λ (t : Totals). t.sizes.n) c.totals-t.ensures)) (omega (arith, c.if-set-n.false, ap (λ (t : Totals). t.sizes.n) c.totals-t.ensures)) c.first_bad-i.ensures c.if-i-gt0.false c.fill_founded.ensures
+pub returns-in-None : goal.returns-in-None
+returns-in-None c = set_founded (arrays c.requires) c.args.set.now c.args.assignment.now c.args.levels.now (omega (arith, c.if-assignment-t.false, ap (λ (t : Totals). t.vars) c.totals-t.ensures)) (omega (arith, c.if-levels-n.false, ap (λ (t : Totals). t.sizes.n) c.totals-t.ensures)) (omega (arith, c.if-set-n.false, ap (λ (t : Totals). t.sizes.n) c.totals-t.ensures)) c.in-None.ensures c.fill_founded.ensures

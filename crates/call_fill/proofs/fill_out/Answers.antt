@@ -1,3 +1,4 @@
+use Rattle.std.proofs.lemmas.Result.{err_from_is_err_and}
 use mathlib.Core.Path.{refl}
 use Rattle.call_fill_rows.proofs.Steps.{same_code, read_accepted, read_refused}
 use Rattle.call_table.proofs.Reading.{loaded_verdict, loaded_cells, loaded_ready, loaded_code}
@@ -5,14 +6,15 @@ use Rattle.call_laws.proofs.Tabled.{stored}
 use Rattle.call_fill.proofs.fill_out.Goals as goal
 
 pub slice_bounds-fill_in-end : goal.slice_bounds-fill_in-end
-slice_bounds-fill_in-end c = loaded_cells (stored c.args.text.now) c.load-v.ensures c.in-Accepted.is
+slice_bounds-fill_in-end c = loaded_cells (stored c.args.text.now) c.in_ok-load.ensures refl
 
 pub fill_in-requires : goal.fill_in-requires
-fill_in-requires c = loaded_ready (stored c.args.text.now) c.load-v.ensures c.in-Accepted.is
+fill_in-requires c = loaded_ready (stored c.args.text.now) c.in_ok-load.ensures refl
 
-pub returns-in-Accepted : goal.returns-in-Accepted
-returns-in-Accepted c = read_accepted c.args.text.now c.args.set.now c.args.assignment.now c.args.levels.now refl (loaded_verdict c.load-v.ensures c.in-Accepted.is)
-    (same_code c.args.set.now c.args.assignment.now c.args.levels.now (loaded_code (stored c.args.text.now) c.load-v.ensures c.in-Accepted.is) c.fill_in.ensures)
+pub returns : goal.returns
+returns c = read_accepted c.args.text.now c.args.set.now c.args.assignment.now c.args.levels.now refl (loaded_verdict c.in_ok-load.ensures refl)
+    (same_code c.args.set.now c.args.assignment.now c.args.levels.now (loaded_code (stored c.args.text.now) c.in_ok-load.ensures refl) c.fill_in.ensures)
 
-pub returns-in-Refused : goal.returns-in-Refused
-returns-in-Refused c = read_refused c.args.text.now c.args.set.now c.args.assignment.now c.args.levels.now refl (loaded_verdict c.load-v.ensures c.in-Refused.is)
+pub returns-in_err-load : goal.returns-in_err-load
+returns-in_err-load c = let p = err_from_is_err_and c.from_residual.result c.from_residual.ensures.1 in rw (p.1, p.2)
+    (read_refused c.args.text.now c.args.set.now c.args.assignment.now c.args.levels.now refl (loaded_verdict c.in_err-load.ensures refl))

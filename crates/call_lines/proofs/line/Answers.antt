@@ -1,17 +1,20 @@
+use Rattle.std.proofs.lemmas.Result.{err_from_is_err_and}
 use Rattle.call_lines_rows.proofs.Open.{line_accepted, line_refused}
 use Rattle.call_table.proofs.Reading.{loaded_cells, loaded_ready, loaded_code}
 use Rattle.call_laws.proofs.Tabled.{stored}
+use mathlib.Core.Path.{refl}
 use Rattle.call_lines.proofs.line.Goals as goal
 
 pub slice_bounds-line_in-end : goal.slice_bounds-line_in-end
-slice_bounds-line_in-end c = loaded_cells (stored c.args.text.now) c.load-v.ensures c.in-Accepted.is
+slice_bounds-line_in-end c = loaded_cells (stored c.args.text.now) c.in_ok-load.ensures refl
 
 pub line_in-requires : goal.line_in-requires
-line_in-requires c = loaded_ready (stored c.args.text.now) c.load-v.ensures c.in-Accepted.is
+line_in-requires c = loaded_ready (stored c.args.text.now) c.in_ok-load.ensures refl
 
-pub returns-in-Accepted : goal.returns-in-Accepted
-returns-in-Accepted c = line_accepted c.args.text.now c.load-v.ensures.verdict_is c.args.j c.args.from c.args.buf.now c.in-Accepted.is
-    (loaded_code (stored c.args.text.now) c.load-v.ensures c.in-Accepted.is) c.line_in.ensures
+pub returns : goal.returns
+returns c = line_accepted c.args.text.now c.in_ok-load.ensures.verdict_is c.args.j c.args.from c.args.buf.now refl
+    (loaded_code (stored c.args.text.now) c.in_ok-load.ensures refl) c.line_in.ensures
 
-pub returns-in-Refused : goal.returns-in-Refused
-returns-in-Refused c = line_refused c.args.text.now c.load-v.ensures.verdict_is c.args.j c.args.from c.args.buf.now c.in-Refused.is
+pub returns-in_err-load : goal.returns-in_err-load
+returns-in_err-load c = let p = err_from_is_err_and c.from_residual.result c.from_residual.ensures.1 in rw (p.1, p.2)
+    (line_refused c.args.text.now c.in_err-load.ensures.verdict_is c.args.j c.args.from c.args.buf.now refl)

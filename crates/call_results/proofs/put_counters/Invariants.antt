@@ -1,5 +1,4 @@
-use Prim.Native.Nat.{◌-◌, ◌≤◌}
-use lib.ListN.{length, drop}
+use lib.ListN.{drop}
 use mathlib.Core.List.{◌++◌}
 use mathlib.Core.Path.{◌≡◌}
 use Rattle.truth_clauses.specs.Truth.{value_in}
@@ -9,7 +8,4 @@ use Rattle.encoding.specs.Fill.{counter}
 use Rattle.call_results.proofs.put_counters.Given as goal
 
 abbrev pub invariant-loop-a : goal.invariant-loop-a
-invariant-loop-a l = (l.a ≤ l.s.n) × (length l.levels ≡ length l.initial.levels) × (l.levels ≡ tab l.a (counter (sizes_of l.s) (value_in l.assignment)) ++ drop l.a l.initial.levels)
-
-abbrev pub decreases-loop-a : goal.decreases-loop-a
-decreases-loop-a l = l.s.n - l.a
+invariant-loop-a l = l.levels ≡ tab l.a (counter (sizes_of l.s) (value_in l.assignment)) ++ drop l.a l.initial.levels

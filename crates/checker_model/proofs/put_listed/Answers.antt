@@ -20,14 +20,11 @@ slice_bounds-put_decimal-count c = lead_start c.args.buf.now (next_some c.args.b
 pub slice_bounds-put_decimal-start : goal.slice_bounds-put_decimal-start
 slice_bounds-put_decimal-start c = lead_start c.args.buf.now (next_some c.args.before c.args.x c.if-before-eq0.false) c.requires
 
-pub put_decimal-requires-2 : goal.put_decimal-requires-2
-put_decimal-requires-2 c = lead_tail c.args.buf.now (next_some c.args.before c.args.x c.if-before-eq0.false) c.requires
+pub put_decimal-requires-else-before-eq0 : goal.put_decimal-requires-else-before-eq0
+put_decimal-requires-else-before-eq0 c = lead_tail c.args.buf.now (next_some c.args.before c.args.x c.if-before-eq0.false) c.requires
 
 pub overflow_add-result : goal.overflow_add-result
-overflow_add-result c = search (rules, lead_sum c.args.buf.now (next_some c.args.before c.args.x c.if-before-eq0.false) c.requires c.put_decimal-2.ensures.count)
+overflow_add-result c = search (rules, lead_sum c.args.buf.now (next_some c.args.before c.args.x c.if-before-eq0.false) c.requires c.put_decimal-else-before-eq0.ensures.count)
 
-pub shape_of-buf : goal.shape_of-buf
-shape_of-buf c = lead_kept c.args.buf.now (next_some c.args.before c.args.x c.if-before-eq0.false) c.requires c.put_decimal-2.ensures
-
-pub returns : goal.returns
-returns c = lead_put c.args.buf.now (next_some c.args.before c.args.x c.if-before-eq0.false) c.requires c.put_decimal-2.ensures
+pub returns-else-before-eq0 : goal.returns-else-before-eq0
+returns-else-before-eq0 c = lead_put c.args.buf.now (next_some c.args.before c.args.x c.if-before-eq0.false) c.requires c.put_decimal-else-before-eq0.ensures

@@ -8,5 +8,5 @@ put_listed-requires c = room_as (shown_is c.args.before c.args.x c.if-shown.true
 pub returns-then-shown : goal.returns-then-shown
 returns-then-shown c = wrote_as (shown_is c.args.before c.args.x c.if-shown.true) c.put_listed.ensures
 
-pub returns : goal.returns
-returns c = wrote_as (hidden_is c.args.before c.args.x c.if-shown.false) (wrote_none c.args.buf.now)
+pub returns-else-shown : goal.returns-else-shown
+returns-else-shown c = wrote_as (hidden_is c.args.before c.args.x c.if-shown.false) (wrote_none c.args.buf.now)

@@ -3,4 +3,4 @@ use mathlib.Core.Path.{◌∙◌, ap}
 use Rattle.checker_model.proofs.shows.Goals as goal
 
 pub returns : goal.returns
-returns c = c.is_true.ensures ∙ ap (value_in c.args.assignment.now) c.atom_var.ensures
+returns c = c.is_true.ensures ∙ ap (value_in c.args.assignment.now) c.from.ensures

@@ -16,7 +16,7 @@ pub level_numeral-v-requires : goal.level_numeral-v-requires
 level_numeral-v-requires c = (c.requires.0, c.requires.1, c.requires.2, c.requires.3, c.requires.4)
 
 pub put_pairs-at-requires : goal.put_pairs-at-requires
-put_pairs-at-requires c = (c.requires.0, c.requires.1, c.requires.2, omega (arith, c.requires.4), c.numeral_of-u.ensures.0, c.level_numeral-v.ensures.0, room_front (pairs_text (sizes_of c.args.s) c.args.a.0 (c.args.i - 1) (held c.numeral_of-u.result) (held c.level_numeral-v.result)) (longs_text (sizes_of c.args.s) c.args.a.0 (c.args.i - 1) (held c.numeral_of-u.result) (held c.level_numeral-v.result)) (room_as (block_is (sizes_of c.args.s) c.args.a.0 c.args.i (c.numeral_of-u.ensures.1 ∙ ap var c.next_var.ensures) c.level_numeral-v.ensures.1) c.requires.5))
+put_pairs-at-requires c = room_front (pairs_text (sizes_of c.args.s) c.args.a.0 (c.args.i - 1) (held c.numeral_of-u.result) (held c.level_numeral-v.result)) (longs_text (sizes_of c.args.s) c.args.a.0 (c.args.i - 1) (held c.numeral_of-u.result) (held c.level_numeral-v.result)) (room_as (block_is (sizes_of c.args.s) c.args.a.0 c.args.i (c.numeral_of-u.ensures.1 ∙ ap var c.next_var.ensures) c.level_numeral-v.ensures.1) c.requires.5)
 
 pub slice_bounds-put_longs-count : goal.slice_bounds-put_longs-count
 slice_bounds-put_longs-count c = after_start c.put_pairs-at.ensures (longs_text (sizes_of c.args.s) c.args.a.0 (c.args.i - 1) (held c.numeral_of-u.result) (held c.level_numeral-v.result)) (room_as (block_is (sizes_of c.args.s) c.args.a.0 c.args.i (c.numeral_of-u.ensures.1 ∙ ap var c.next_var.ensures) c.level_numeral-v.ensures.1) c.requires.5)
@@ -25,7 +25,7 @@ pub slice_bounds-put_longs-start : goal.slice_bounds-put_longs-start
 slice_bounds-put_longs-start c = after_start c.put_pairs-at.ensures (longs_text (sizes_of c.args.s) c.args.a.0 (c.args.i - 1) (held c.numeral_of-u.result) (held c.level_numeral-v.result)) (room_as (block_is (sizes_of c.args.s) c.args.a.0 c.args.i (c.numeral_of-u.ensures.1 ∙ ap var c.next_var.ensures) c.level_numeral-v.ensures.1) c.requires.5)
 
 pub put_longs-requires : goal.put_longs-requires
-put_longs-requires c = (c.requires.0, c.requires.1, c.requires.2, omega (arith, c.requires.4), c.numeral_of-u.ensures.0, c.level_numeral-v.ensures.0, after_room c.put_pairs-at.ensures (longs_text (sizes_of c.args.s) c.args.a.0 (c.args.i - 1) (held c.numeral_of-u.result) (held c.level_numeral-v.result)) (room_as (block_is (sizes_of c.args.s) c.args.a.0 c.args.i (c.numeral_of-u.ensures.1 ∙ ap var c.next_var.ensures) c.level_numeral-v.ensures.1) c.requires.5))
+put_longs-requires c = after_room c.put_pairs-at.ensures (longs_text (sizes_of c.args.s) c.args.a.0 (c.args.i - 1) (held c.numeral_of-u.result) (held c.level_numeral-v.result)) (room_as (block_is (sizes_of c.args.s) c.args.a.0 c.args.i (c.numeral_of-u.ensures.1 ∙ ap var c.next_var.ensures) c.level_numeral-v.ensures.1) c.requires.5)
 
 pub overflow_add-result : goal.overflow_add-result
 overflow_add-result c = omega (arith, c.well_formed.1.1.1.0, after_sum c.put_pairs-at.ensures (longs_text (sizes_of c.args.s) c.args.a.0 (c.args.i - 1) (held c.numeral_of-u.result) (held c.level_numeral-v.result)) (room_as (block_is (sizes_of c.args.s) c.args.a.0 c.args.i (c.numeral_of-u.ensures.1 ∙ ap var c.next_var.ensures) c.level_numeral-v.ensures.1) c.requires.5) c.put_longs.ensures.count)

@@ -1,27 +1,22 @@
 use Rattle.clause_counts.proofs.Before.{groups_more, groups_add, groups_done, groups_before_last, last_short}
 use Rattle.clause_table_laws.proofs.Cells.{arrays, told}
-use borrow.Author.Rules.{rules}
 use native.Mathlib.Omega.{arith}
-use mathlib.Core.Path.{refl}
 use Rattle.clause_counts.proofs.groups_size.Goals as goal
 
 pub overflow_sub-result : goal.overflow_sub-result
-overflow_sub-result c = last_short (told c.requires.0 c.totals-t.ensures) c.wide.ensures
+overflow_sub-result c = last_short (told c.requires.0 c.totals-t.ensures) c.from.ensures
 
 pub returns-then-g-eq-GROUPS : goal.returns-then-g-eq-GROUPS
-returns-then-g-eq-GROUPS c = groups_before_last (told c.requires.0 c.totals-t.ensures) c.wide.ensures c.if-g-eq-GROUPS.true
-
-pub loop-h-init : goal.loop-h-init
-loop-h-init c = (omega (arith, c.requires.1), refl)
+returns-then-g-eq-GROUPS c = groups_before_last (told c.requires.0 c.totals-t.ensures) c.from.ensures c.if-g-eq-GROUPS.true
 
 pub group_size-n-requires : goal.group_size-n-requires
-group_size-n-requires c = (c.requires.0, search rules, omega (arith, c.loop-h-test.true, c.requires.2, c.if-g-eq-GROUPS.false))
+group_size-n-requires c = (c.requires.0, c.loop-h.auto.h, omega (arith, c.loop-h-test.true, c.requires.2, c.if-g-eq-GROUPS.false))
 
 pub overflow_add-n : goal.overflow_add-n
-overflow_add-n c = omega (arith, groups_add (arrays c.requires.0) c.loop-h.h c.loop-h.invariant.1 c.group_size-n.ensures (omega (arith, c.loop-h-test.true, c.requires.2)))
+overflow_add-n c = omega (arith, groups_add (arrays c.requires.0) c.loop-h.auto.h c.loop-h.invariant c.group_size-n.ensures (omega (arith, c.loop-h-test.true, c.requires.2)))
 
 pub loop-h-preserved : goal.loop-h-preserved
-loop-h-preserved c = (search rules, groups_more (arrays c.requires.0) c.loop-h.h c.loop-h.invariant.1 c.group_size-n.ensures)
+loop-h-preserved c = groups_more (arrays c.requires.0) c.loop-h.auto.h c.loop-h.invariant c.group_size-n.ensures
 
 pub returns : goal.returns
-returns c = groups_done (arrays c.requires.0) c.args.g c.loop-h.h c.requires.1 c.loop-h.invariant.0 c.loop-h-test.false c.loop-h.invariant.1
+returns c = groups_done (arrays c.requires.0) (c.loop-h.auto.h-end c.requires.1) c.loop-h-test.false c.loop-h.invariant

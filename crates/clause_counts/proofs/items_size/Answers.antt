@@ -6,13 +6,13 @@ use mathlib.Core.Path.{sym, ◌∙◌}
 use Rattle.clause_counts.proofs.items_size.Goals as goal
 
 pub fixed_size-requires : goal.fixed_size-requires
-fixed_size-requires c = width_asks (told c.requires.0 c.totals-t.ensures) c.wide-then-is_fixed.ensures
+fixed_size-requires c = width_asks (told c.requires.0 c.totals-t.ensures) c.from-then-is_fixed.ensures
 
 pub overflow_mul-result : goal.overflow_mul-result
-overflow_mul-result c = let T = told c.requires.0 c.totals-t.ensures in omega (arith, fixed_short T c.args.g c.requires.1 c.requires.2 (sym c.is_fixed.ensures ∙ c.if-is_fixed.true) c.args.a c.requires.3 c.wide.ensures c.wide-then-is_fixed.ensures c.fixed_size.ensures)
+overflow_mul-result c = let T = told c.requires.0 c.totals-t.ensures in omega (arith, fixed_short T c.args.g c.requires.1 c.requires.2 (sym c.is_fixed.ensures ∙ c.if-is_fixed.true) c.args.a c.requires.3 c.from.ensures c.from-then-is_fixed.ensures c.fixed_size.ensures)
 
 pub returns-then-is_fixed : goal.returns-then-is_fixed
-returns-then-is_fixed c = let T = told c.requires.0 c.totals-t.ensures in fixed_front T c.args.g c.requires.1 c.requires.2 (sym c.is_fixed.ensures ∙ c.if-is_fixed.true) c.args.a c.requires.3 c.wide.ensures c.wide-then-is_fixed.ensures c.fixed_size.ensures
+returns-then-is_fixed c = let T = told c.requires.0 c.totals-t.ensures in fixed_front T c.args.g c.requires.1 c.requires.2 (sym c.is_fixed.ensures ∙ c.if-is_fixed.true) c.args.a c.requires.3 c.from.ensures c.from-then-is_fixed.ensures c.fixed_size.ensures
 
 pub atoms_size-requires : goal.atoms_size-requires
 atoms_size-requires c = (c.requires.0, (sizes_in (told c.requires.0 c.totals-t.ensures)).rules)

@@ -6,8 +6,8 @@ use Prim.Native.Nat.{suc, ◌-◌, ◌≤◌}
 use mathlib.Core.Path.{◌≡◌}
 use Rattle.clause_runs.proofs.put_lines.Given as goal
 
-abbrev pub invariant-loop-at : goal.invariant-loop-at
-invariant-loop-at l = (l.at ≡ place_at (code_in l.table) l.at.number) × (l.at.number ≤ suc l.t.clauses) × Going (code_lines (code_in l.table)) l.initial.at.number l.initial.buf l.at.number l.lines l.to l.buf
+abbrev pub invariant-loop-run : goal.invariant-loop-run
+invariant-loop-run l = (l.run.place ≡ place_at (code_in l.table) l.run.place.number) × (l.run.place.number ≤ suc l.t.clauses) × Going (code_lines (code_in l.table)) l.initial.run.place.number l.initial.buf l.run.place.number l.run.lines l.run.bytes l.buf
 
-abbrev pub decreases-loop-at : goal.decreases-loop-at
-decreases-loop-at l = suc l.t.clauses - l.at.number
+abbrev pub decreases-loop-run : goal.decreases-loop-run
+decreases-loop-run l = suc l.t.clauses - l.run.place.number

@@ -1,13 +1,5 @@
-use Prim.Native.Nat.{ℕ, ◌-◌, ◌≤◌}
-use mathlib.Core.Path.{◌≡◌}
-use mathlib.Core.List.{List}
-use Rattle.clause_tabling.specs.Stages.{arrays_of}
-use Rattle.clause_tables.specs.Tables.{Stored}
 use Rattle.clause_tabling.proofs.Sums.{Summed}
 use Rattle.clause_tabling.proofs.totals_of.Given as goal
 
 abbrev pub invariant-loop-r : goal.invariant-loop-r
-invariant-loop-r l = (l.r ≤ l.rules) × (l.rules ≡ l.m) × ((hs bs : List ℕ) → Stored (arrays_of l.n l.m l.held hs l.starts bs) → Summed (arrays_of l.n l.m l.held hs l.starts bs) l.r l.count l.empty)
-
-abbrev pub decreases-loop-r : goal.decreases-loop-r
-decreases-loop-r l = l.rules - l.r
+invariant-loop-r l = Summed l.p l.r l.all

@@ -1,17 +1,9 @@
-use borrow.Author.Rules.{rules}
 use Rattle.clause_layout.proofs.Groups.{bounded}
 use Rattle.clause_table_laws.proofs.Cells.{told}
 use native.Mathlib.Omega.{arith}
-use mathlib.Core.Path.{refl}
 use Rattle.clause_text.proofs.Clause.{slot_in, slot_small, past_within, past_less, length_next, length_fits, length_line, line_short}
 use Rattle.clause_literals.proofs.Signed.{read_back}
 use Rattle.clause_text.proofs.clause_length.Goals as goal
-
-pub slots-k-requires : goal.slots-k-requires
-slots-k-requires c = (c.requires.0, c.requires.1)
-
-pub loop-l-init : goal.loop-l-init
-loop-l-init c = (search rules, refl)
 
 pub slot-x-requires : goal.slot-x-requires
 slot-x-requires c = (c.requires.0, c.requires.1, omega arith, slot_in (told c.requires.0 c.totals-t.ensures) c.requires.1 c.slots-k.ensures c.loop-l-test.true)

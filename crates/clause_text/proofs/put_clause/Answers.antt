@@ -1,8 +1,7 @@
-use borrow.Author.Rules.{rules}
 use Rattle.clause_layout.proofs.Groups.{bounded}
 use Rattle.clause_table_laws.proofs.Cells.{told}
 use Rattle.clause_text.proofs.Clause.{slot_in, slot_small, past_within, past_less, part_fits, text_next, end_small, end_fits, line_text_lem, line_kept, length_fits}
-use Rattle.digits.proofs.Wrote.{wrote_none, wrote_after, after_start, after_room}
+use Rattle.digits.proofs.Wrote.{wrote_after, after_start, after_room}
 use Rattle.clause_text.specs.Lines.{literals_in}
 use Rattle.digits.specs.Bytes.{literals_text}
 use lib.Seq.{lt-length-set}
@@ -12,12 +11,6 @@ use Rattle.clause_literals.proofs.Signed.{read_back}
 use mir.Val.{to_z, of_z}
 use mir.Syntax.{w32}
 use Rattle.clause_text.proofs.put_clause.Goals as goal
-
-pub slots-k-requires : goal.slots-k-requires
-slots-k-requires c = (c.requires.0, c.requires.1)
-
-pub loop-l-init : goal.loop-l-init
-loop-l-init c = (search rules, wrote_none c.args.buf.now)
 
 pub slot-x-requires : goal.slot-x-requires
 slot-x-requires c = (c.requires.0, c.requires.1, omega arith, slot_in (told c.requires.0 c.totals-t.ensures) c.requires.1 c.slots-k.ensures c.loop-l-test.true)

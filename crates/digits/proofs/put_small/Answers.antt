@@ -1,67 +1,28 @@
-use Rattle.digits.proofs.Writing.{digits_room, first_digit, next_digit}
-use Rattle.digits.proofs.Lengths.{decimal_some}
-use mathlib.Core.Path.{refl}
-use Prim.Native.Nat.{◌/◌}
+use Rattle.digits.proofs.DigitLaws.{decimal_one, decimal_two, decimal_three, decimal_four}
+use Rattle.digits.proofs.Wrote.{room_as, wrote_as}
 use native.Mathlib.Omega.{arith}
-use borrow.Author.Rules.{rules}
 use Rattle.digits.proofs.put_small.Goals as goal
 
-pub bounds-buf-0 : goal.bounds-buf-0
-bounds-buf-0 c = omega (arith, decimal_some c.args.n, c.requires.1)
+pub put_word-requires : goal.put_word-requires
+put_word-requires c = room_as (decimal_one _ (omega arith) c.digit.ensures) c.requires.1
 
-pub returns-then-n-lt10 : goal.returns-then-n-lt10
-returns-then-n-lt10 c = first_digit c.args.buf.now c.args.n c.if-n-lt10.true c.digit.ensures (omega (arith, decimal_some c.args.n, c.requires.1))
+pub returns-in-0-to-9 : goal.returns-in-0-to-9
+returns-in-0-to-9 c = wrote_as (decimal_one _ (omega arith) c.digit.ensures) c.put_word.ensures
 
-pub bounds-buf-0-then-n-lt100 : goal.bounds-buf-0-then-n-lt100
-bounds-buf-0-then-n-lt100 c = omega (arith, decimal_some c.args.n, c.requires.1)
+pub put_word-requires-in-10-to-99 : goal.put_word-requires-in-10-to-99
+put_word-requires-in-10-to-99 c = room_as (decimal_two _ (omega arith) (omega arith) c.digit-in-10-to-99.ensures c.digit-in-10-to-99-2.ensures) c.requires.1
 
-pub bounds-buf-1 : goal.bounds-buf-1
-bounds-buf-1 c = search (rules, digits_room c.args.buf.now 1 c.args.n c.if-n-lt10.false c.requires.1)
+pub returns-in-10-to-99 : goal.returns-in-10-to-99
+returns-in-10-to-99 c = wrote_as (decimal_two _ (omega arith) (omega arith) c.digit-in-10-to-99.ensures c.digit-in-10-to-99-2.ensures) c.put_word-in-10-to-99.ensures
 
-pub returns-then-n-lt100 : goal.returns-then-n-lt100
-returns-then-n-lt100 c =
-    let b = c.args.buf.now in
-    let n = c.args.n in
-    let r = digits_room b 1 n c.if-n-lt10.false c.requires.1 in
-    next_digit b n c.if-n-lt10.false refl c.digit-then-n-lt100-2.ensures r
-    (first_digit b (n / 10) (omega (arith, c.if-n-lt100.true)) c.digit-then-n-lt100.ensures (omega (arith, r)))
+pub put_word-requires-in-100-to-999 : goal.put_word-requires-in-100-to-999
+put_word-requires-in-100-to-999 c = room_as (decimal_three _ (omega arith) (omega arith) c.digit-in-100-to-999.ensures c.digit-in-100-to-999-2.ensures c.digit-in-100-to-999-3.ensures) c.requires.1
 
-pub bounds-buf-0-then-n-lt1000 : goal.bounds-buf-0-then-n-lt1000
-bounds-buf-0-then-n-lt1000 c = omega (arith, decimal_some c.args.n, c.requires.1)
+pub returns-in-100-to-999 : goal.returns-in-100-to-999
+returns-in-100-to-999 c = wrote_as (decimal_three _ (omega arith) (omega arith) c.digit-in-100-to-999.ensures c.digit-in-100-to-999-2.ensures c.digit-in-100-to-999-3.ensures) c.put_word-in-100-to-999.ensures
 
-pub bounds-buf-1-then-n-lt1000 : goal.bounds-buf-1-then-n-lt1000
-bounds-buf-1-then-n-lt1000 c = search (rules, digits_room c.args.buf.now 1 c.args.n c.if-n-lt10.false c.requires.1)
+pub put_word-requires-in_default : goal.put_word-requires-in_default
+put_word-requires-in_default c = room_as (decimal_four _ (omega arith) (omega arith) c.digit-in_default.ensures c.digit-in_default-2.ensures c.digit-in_default-3.ensures c.digit-in_default-4.ensures) c.requires.1
 
-pub bounds-buf-2 : goal.bounds-buf-2
-bounds-buf-2 c = search (rules, digits_room c.args.buf.now 2 c.args.n c.if-n-lt100.false c.requires.1)
-
-pub returns-then-n-lt1000 : goal.returns-then-n-lt1000
-returns-then-n-lt1000 c =
-    let b = c.args.buf.now in
-    let n = c.args.n in
-    let r = digits_room b 2 n c.if-n-lt100.false c.requires.1 in
-    next_digit b n c.if-n-lt10.false refl c.digit-then-n-lt1000-3.ensures r
-    (next_digit b (n / 10) (omega (arith, c.if-n-lt100.false)) (omega arith) c.digit-then-n-lt1000-2.ensures (omega (arith, r))
-    (first_digit b (n / 100) (omega (arith, c.if-n-lt1000.true)) c.digit-then-n-lt1000.ensures (omega (arith, r))))
-
-pub bounds-buf-0-2 : goal.bounds-buf-0-2
-bounds-buf-0-2 c = omega (arith, decimal_some c.args.n, c.requires.1)
-
-pub bounds-buf-1-2 : goal.bounds-buf-1-2
-bounds-buf-1-2 c = search (rules, digits_room c.args.buf.now 1 c.args.n c.if-n-lt10.false c.requires.1)
-
-pub bounds-buf-2-2 : goal.bounds-buf-2-2
-bounds-buf-2-2 c = search (rules, digits_room c.args.buf.now 2 c.args.n c.if-n-lt100.false c.requires.1)
-
-pub bounds-buf-3 : goal.bounds-buf-3
-bounds-buf-3 c = search (rules, digits_room c.args.buf.now 3 c.args.n c.if-n-lt1000.false c.requires.1)
-
-pub returns : goal.returns
-returns c =
-    let b = c.args.buf.now in
-    let n = c.args.n in
-    let r = digits_room b 3 n c.if-n-lt1000.false c.requires.1 in
-    next_digit b n c.if-n-lt10.false refl c.digit-5.ensures r
-    (next_digit b (n / 10) (omega (arith, c.if-n-lt100.false)) (omega arith) c.digit-4.ensures (omega (arith, r))
-    (next_digit b (n / 100) (omega (arith, c.if-n-lt1000.false)) (omega arith) c.digit-3.ensures (omega (arith, r))
-    (first_digit b (n / 1000) (omega (arith, c.requires.0)) c.digit-2.ensures (omega (arith, r)))))
+pub returns-in_default : goal.returns-in_default
+returns-in_default c = wrote_as (decimal_four _ (omega arith) (omega arith) c.digit-in_default.ensures c.digit-in_default-2.ensures c.digit-in_default-3.ensures c.digit-in_default-4.ensures) c.put_word-in_default.ensures

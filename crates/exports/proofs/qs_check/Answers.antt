@@ -5,4 +5,4 @@ use Rattle.exports.proofs.qs_check.Goals as goal
 
 pub returns : goal.returns
 unfolding check_reply
-returns c = replied of_check c.of_check.ensures c.check-v.ensures
+returns c = replied of_check c.reply_to.ensures c.check.ensures

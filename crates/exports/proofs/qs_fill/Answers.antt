@@ -5,4 +5,4 @@ use Rattle.exports.proofs.qs_fill.Goals as goal
 
 pub returns : goal.returns
 unfolding fill_reply
-returns c = replied of_fill c.of_fill.ensures c.fill_out-v.ensures
+returns c = replied of_fill c.reply_to.ensures c.fill_out.ensures

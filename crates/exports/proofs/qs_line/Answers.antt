@@ -5,4 +5,4 @@ use Rattle.exports.proofs.qs_line.Goals as goal
 
 pub returns : goal.returns
 unfolding line_reply
-returns c = replied_lines of_line c.of_line.ensures c.line-v.ensures
+returns c = replied_lines of_line c.reply_to.ensures c.line.ensures

@@ -1,9 +1,11 @@
-use Rattle.call_replies.proofs.Told.{numbered}
-use Rattle.exports.proofs.Told.{accepted_told, refused_told}
+use Rattle.reader.specs.Verdict.{read_of}
+use Rattle.call_replies.specs.Replies.{of_totals, of_verdict}
+use Rattle.refusals.specs.Numbers.{text_number, text_spot}
+use Rattle.exports.specs.Replies.{read_reply}
+use Rattle.exports.proofs.Told.{read_told}
+use mathlib.Core.Path.{◌∙◌, ap}
 use Rattle.exports.proofs.qs_read.Goals as goal
 
-pub returns-in-Accepted : goal.returns-in-Accepted
-returns-in-Accepted c = accepted_told c.args.text.now c.read_totals-x.ensures c.in-Accepted.is c.accepted.ensures
-
-pub returns-in-Refused : goal.returns-in-Refused
-returns-in-Refused c = refused_told c.args.text.now c.read_totals-x.ensures c.in-Refused.is (numbered c.text_number.ensures c.text_spot.ensures c.refused.ensures)
+pub returns : goal.returns
+unfolding read_reply
+returns c = c.reply_to.ensures ∙ ap (of_verdict of_totals text_number text_spot) c.read_totals.ensures ∙ read_told (read_of c.args.text.now)

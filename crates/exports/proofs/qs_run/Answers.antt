@@ -5,4 +5,4 @@ use Rattle.exports.proofs.qs_run.Goals as goal
 
 pub returns : goal.returns
 unfolding run_reply
-returns c = replied_lines of_run c.of_run.ensures c.run-v.ensures
+returns c = replied_lines of_run c.reply_to.ensures c.run.ensures

@@ -1,4 +1,4 @@
-use borrow.Author.Rules.{rules}
+use native.Mathlib.Omega.{arith}
 use Rattle.level_bits.proofs.Steps.{rest_start, rest_next, bit_is}
 use Rattle.encoding.specs.Counter.{bit}
 use mathlib.Core.Path.{refl}
@@ -7,16 +7,16 @@ use Rattle.digits.proofs.Wrote.{wrote_none}
 use Rattle.level_bits.proofs.put_bits.Goals as goal
 
 pub loop-i-init : goal.loop-i-init
-loop-i-init c = (search rules, rest_start c.args.x, wrote_none c.args.buf.now)
+loop-i-init c = (rest_start c.args.x, wrote_none c.args.buf.now)
 
 pub bounds-buf-i : goal.bounds-buf-i
-bounds-buf-i c = put_room (bit c.args.x) c.args.w c.requires c.loop-i.invariant.2 c.loop-i-test.true
+bounds-buf-i c = put_room (bit c.args.x) c.args.w c.requires c.loop-i.invariant.1 c.loop-i-test.true
 
 pub loop-i-preserved : goal.loop-i-preserved
-loop-i-preserved c = (search rules, rest_next c.args.x c.loop-i.i c.loop-i.invariant.1, put_next (bit c.args.x) c.args.w c.requires c.loop-i.invariant.2 c.loop-i-test.true refl (bit_is c.args.x c.loop-i.i c.loop-i.invariant.1))
+loop-i-preserved c = (rest_next c.args.x c.loop-i.i c.loop-i.invariant.0, put_next (bit c.args.x) c.args.w c.requires c.loop-i.invariant.1 c.loop-i-test.true refl (bit_is c.args.x c.loop-i.i c.loop-i.invariant.0))
 
 pub shape_of-buf : goal.shape_of-buf
-shape_of-buf c = put_kept (bit c.args.x) c.args.w c.requires c.loop-i.invariant.2 c.loop-i.invariant.0
+shape_of-buf c = put_kept (bit c.args.x) c.args.w c.requires c.loop-i.invariant.1 c.loop-i.auto.i-end
 
 pub returns : goal.returns
-returns c = put_all (bit c.args.x) c.args.w c.requires c.loop-i.invariant.2 c.loop-i.invariant.0 c.loop-i-test.false refl
+returns c = put_all (bit c.args.x) c.args.w c.requires c.loop-i.invariant.1 c.loop-i.auto.i-end c.loop-i-test.false (omega arith)

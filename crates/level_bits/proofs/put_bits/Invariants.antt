@@ -1,12 +1,9 @@
 use Rattle.level_bits.specs.Bits.{truth_bytes}
 use Rattle.encoding.specs.Counter.{bit}
 use mathlib.Core.Path.{◌≡◌}
-use Prim.Native.Nat.{◌-◌, ◌≤◌, ◌^◌, ◌/◌}
+use Prim.Native.Nat.{◌^◌, ◌/◌}
 use Rattle.digits.specs.Bytes.{Wrote}
 use Rattle.level_bits.proofs.put_bits.Given as goal
 
 abbrev pub invariant-loop-i : goal.invariant-loop-i
-invariant-loop-i l = (l.i ≤ l.w) × (l.rest ≡ l.x / 2 ^ l.i) × Wrote (truth_bytes l.i (bit l.x)) l.initial.buf l.buf l.i
-
-abbrev pub decreases-loop-i : goal.decreases-loop-i
-decreases-loop-i l = l.w - l.i
+invariant-loop-i l = (l.rest ≡ l.x / 2 ^ l.i) × Wrote (truth_bytes l.i (bit l.x)) l.initial.buf l.buf l.i

@@ -1,12 +1,8 @@
 use Rattle.level_bits.specs.Bits.{level_at_bytes}
 use Rattle.level_lists.specs.Bytes.{level_byte}
 use Rattle.lists.specs.Lists.{each}
-use Prim.Native.Nat.{◌-◌, ◌≤◌}
 use Rattle.digits.specs.Bytes.{Wrote}
 use Rattle.level_bits.proofs.put_level_values.Given as goal
 
 abbrev pub invariant-loop-a : goal.invariant-loop-a
-invariant-loop-a l = (l.a ≤ l.n) × Wrote (each l.a (level_at_bytes l.w l.d (level_byte l.levels))) l.initial.buf l.buf l.to
-
-abbrev pub decreases-loop-a : goal.decreases-loop-a
-decreases-loop-a l = l.n - l.a
+invariant-loop-a l = Wrote (each l.a (level_at_bytes l.w l.d (level_byte l.levels))) l.initial.buf l.buf l.to

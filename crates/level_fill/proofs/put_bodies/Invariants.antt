@@ -1,5 +1,4 @@
-use Prim.Native.Nat.{◌-◌, ◌≤◌}
-use Rattle.clause_tables.specs.Tables.{code_in, atoms_in, rules_in}
+use Rattle.clause_tables.specs.Tables.{code_in, atoms_in}
 use Rattle.level_lists.specs.Bytes.{set_in}
 use Rattle.level_bits.specs.Bits.{truth_bytes}
 use Rattle.level_fill.specs.Values.{body_at}
@@ -7,7 +6,4 @@ use Rattle.digits.specs.Bytes.{Wrote}
 use Rattle.level_fill.proofs.put_bodies.Given as goal
 
 abbrev pub invariant-loop-r : goal.invariant-loop-r
-invariant-loop-r l = (l.r ≤ rules_in l.table) × Wrote (truth_bytes l.r (body_at (code_in l.table) (set_in (atoms_in l.table) l.set))) l.initial.buf l.buf l.r
-
-abbrev pub decreases-loop-r : goal.decreases-loop-r
-decreases-loop-r l = rules_in l.table - l.r
+invariant-loop-r l = Wrote (truth_bytes l.r (body_at (code_in l.table) (set_in (atoms_in l.table) l.set))) l.initial.buf l.buf l.r

@@ -1,12 +1,25 @@
+use Prim.Native.Nat.{ℕ}
+use mathlib.Core.List.{List}
 use Rattle.clause_table_laws.proofs.Cells.{arrays}
-use Rattle.level_lists.proofs.Rules.{rule_atoms, enters_not_kept, enters_is}
+use Rattle.lists.specs.Lists.{all}
+use Rattle.level_lists.specs.Bytes.{is_within}
+use Rattle.level_lists.proofs.Rules.{rule_atoms, list_asked, enters_not_kept, enters_is}
+use native.Mathlib.Omega.{arith}
+use mathlib.Core.Path.{◌∙◌, ap₂}
 use Rattle.level_lists.proofs.rule_enters.Goals as goal
 
 pub negatives_out-requires : goal.negatives_out-requires
 negatives_out-requires c = (c.requires.0, c.requires.1, c.requires.2, c.requires.3)
 
-pub returns-then-not-negatives_out : goal.returns-then-not-negatives_out
-returns-then-not-negatives_out c = enters_not_kept (rule_atoms (arrays c.requires.0) c.args.r.0 c.requires.1 c.requires.2) c.args.set.now c.args.levels.now c.args.i c.negatives_out.ensures c.if-not-negatives_out.true
+pub all_within-requires : goal.all_within-requires
+all_within-requires c = list_asked (arrays c.requires.0) c.args.r.0 c.requires.1 c.requires.2 0 (omega arith) c.args.levels.now c.requires.4 c.positives.ensures
 
-pub returns : goal.returns
-returns c = enters_is (rule_atoms (arrays c.requires.0) c.args.r.0 c.requires.1 c.requires.2) c.args.set.now c.args.levels.now c.args.i c.negatives_out.ensures c.if-not-negatives_out.false c.list_within.ensures
+pub returns-else-negatives_out : goal.returns-else-negatives_out
+returns-else-negatives_out c =
+    c.if-negatives_out.false
+    ∙ enters_not_kept (rule_atoms (arrays c.requires.0) c.args.r.0 c.requires.1 c.requires.2) c.args.set.now c.args.levels.now c.args.i c.negatives_out.ensures c.if-negatives_out.false
+
+pub returns-then-negatives_out : goal.returns-then-negatives_out
+returns-then-negatives_out c =
+    enters_is (rule_atoms (arrays c.requires.0) c.args.r.0 c.requires.1 c.requires.2) c.args.set.now c.args.levels.now c.args.i c.negatives_out.ensures c.if-negatives_out.true
+    (c.all_within.ensures ∙ ap₂ (λ (i : ℕ) (bs : List ℕ). all (is_within c.args.levels.now 1 i) bs) c.from.ensures c.positives.ensures)

@@ -1,25 +1,16 @@
-use borrow.Author.Rules.{rules}
 use native.Mathlib.Omega.{arith}
-use Rattle.level_stages.proofs.Scans.{alike_more, unlike_here, unlike_nowhere}
+use Prim.Native.Nat.{◌+◌}
+use Rattle.truth_clauses.proofs.Found.{some_found, none_found}
+use Rattle.level_stages.proofs.Scans.{unlike_is, alike_more, unlike_here, unlike_nowhere}
 use Rattle.level_stages.proofs.first_difference.Goals as goal
 
-pub loop-a-init : goal.loop-a-init
-loop-a-init c = (search rules, λ i h. absurd (omega (arith, h)))
-
-pub bounds-set-a : goal.bounds-set-a
-bounds-set-a c = omega (arith, c.requires.0, c.loop-a-test.true, c.wide.ensures)
-
-pub bounds-levels-a : goal.bounds-levels-a
-bounds-levels-a c = omega (arith, c.requires.1, c.loop-a-test.true, c.wide.ensures)
-
-pub returns-then-differ_in_zero : goal.returns-then-differ_in_zero
-returns-then-differ_in_zero c = unlike_here c.args.set.now c.args.levels.now _ _ c.loop-a.invariant.1 (omega (arith, c.loop-a-test.true, c.wide.ensures)) c.differ_in_zero.ensures c.if-differ_in_zero.true
-
-pub loop-a-smaller : goal.loop-a-smaller
-loop-a-smaller c = omega (arith, c.loop-a-test.true, c.wide.ensures)
+pub returns-then-set-a : goal.returns-then-set-a
+returns-then-set-a c =
+    some_found (c.loop-a.a + 1) (omega arith)
+    (unlike_here c.args.set.now c.args.levels.now c.args.n c.loop-a.a c.loop-a.invariant (omega (arith, c.loop-a-test.true, c.from-a-end.ensures)) (unlike_is _ _) c.if-set-a.true)
 
 pub loop-a-preserved : goal.loop-a-preserved
-loop-a-preserved c = (omega (arith, c.loop-a-test.true, c.wide.ensures), alike_more c.args.set.now c.args.levels.now _ c.loop-a.invariant.1 c.differ_in_zero.ensures c.if-differ_in_zero.false)
+loop-a-preserved c = alike_more c.args.set.now c.args.levels.now c.loop-a.a c.loop-a.invariant (unlike_is _ _) c.if-set-a.false
 
 pub returns : goal.returns
-returns c = unlike_nowhere c.args.set.now c.args.levels.now _ _ c.loop-a.invariant.1 (omega (arith, c.loop-a-test.false, c.wide.ensures))
+returns c = none_found (unlike_nowhere c.args.set.now c.args.levels.now c.args.n c.loop-a.a c.loop-a.invariant (omega (arith, c.loop-a-test.false, c.from-a-end.ensures)))

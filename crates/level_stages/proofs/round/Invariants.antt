@@ -1,10 +1,6 @@
-use Prim.Native.Nat.{◌-◌}
-use Rattle.clause_tables.specs.Tables.{code_in, totals_in, rules_in}
+use Rattle.clause_tables.specs.Tables.{code_in, totals_in}
 use Rattle.level_stages.proofs.Turns.{Turned}
 use Rattle.level_stages.proofs.round.Given as goal
 
 abbrev pub invariant-loop-r : goal.invariant-loop-r
 invariant-loop-r l = Turned (code_in l.table) (totals_in l.table) l.set l.initial.levels l.i l.r l.levels l.given
-
-abbrev pub decreases-loop-r : goal.decreases-loop-r
-decreases-loop-r l = rules_in l.table - l.r

@@ -1,10 +1,6 @@
-use Prim.Native.Nat.{◌-◌}
-use Rattle.clause_tables.specs.Tables.{code_in, totals_in, atoms_in}
+use Rattle.clause_tables.specs.Tables.{code_in, totals_in}
 use Rattle.level_stages.proofs.Turns.{Staged}
 use Rattle.level_stages.proofs.rounds.Given as goal
 
 abbrev pub invariant-loop-i : goal.invariant-loop-i
 invariant-loop-i l = Staged (code_in l.table) (totals_in l.table) l.set l.initial.levels l.i l.levels
-
-abbrev pub decreases-loop-i : goal.decreases-loop-i
-decreases-loop-i l = atoms_in l.table - l.i

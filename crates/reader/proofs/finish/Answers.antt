@@ -1,33 +1,37 @@
+use Prim.Native.Nat.{ℕ}
 use native.Mathlib.Omega.{arith}
-use Rattle.reader.proofs.Loop.{goes, dies, stops_place, stops_mode, stops, advanced, dead_of, live_of}
+use mathlib.Core.Bool.{true, false}
+use mathlib.Core.Path.{◌≡◌, ◌∙◌, ap}
+use Rattle.reader_work.specs.Numbers.{tally}
+use Rattle.reader_work.specs.Work.{refused_of}
 use Rattle.reader_words.specs.Standing.{read_rest}
-use mathlib.Core.Path.{refl}
+use Rattle.reader.proofs.Loop.{goes, dies, stops_place, stops_mode, stops, advanced, dead_is, place_is}
 use Rattle.reader.proofs.finish.Goals as goal
+use Rattle.reader.proofs.finish.Goals.{then-x-ne-FORM_RULE-via-then-x-ne-FORM_RULE, then-x-ne-FORM_RULE-via-else-x-ne-FORM_RULE+then-ne}
 
 pub loop-i-init : goal.loop-i-init
 unfolding read_rest
-loop-i-init c = refl
+loop-i-init c = (rw c.from.ensures, omega arith)
 
-pub returns-then-p-eq-DEAD : goal.returns-then-p-eq-DEAD
-unfolding read_rest
-returns-then-p-eq-DEAD c = dies _ _ _ _ c.loop-i.invariant _ c.loop-i-test.true (dead_of _ _ _ _ c.step-p.ensures c.if-p-eq-DEAD.true) c.refused.ensures
-
-pub overflow_add-i : goal.overflow_add-i
-overflow_add-i c = omega (arith, c.loop-i-test.true, c.well_formed.0)
+pub returns-then-eq : goal.returns-then-eq
+returns-then-eq c = dies _ _ _ _ c.loop-i.invariant.0 _ c.loop-i-test.true (dead_is _ _ _ _ _ true c.step-p.ensures c.eq.ensures c.if-eq.true) c.refused.ensures
 
 pub loop-i-preserved : goal.loop-i-preserved
-unfolding read_rest
-loop-i-preserved c = goes _ _ _ _ c.loop-i.invariant _ c.loop-i-test.true (live_of _ _ _ _ c.step-p.ensures c.if-p-eq-DEAD.false)
-    (advanced _ _ _ _ _ _ _ _ _ c.step-p.ensures c.work-c.ensures.0 c.work-c.ensures.1.0 c.work-c.ensures.1.1.0 c.work-c.ensures.1.1.1 c.token_after-x.ensures)
+loop-i-preserved c = (
+  goes _ _ _ _ c.loop-i.invariant.0 _ c.loop-i-test.true (dead_is _ _ _ _ _ false c.step-p.ensures c.eq.ensures c.if-eq.false)
+      (advanced _ _ _ _ _ _ _ c.loop-i.program c.step-p.ensures c.work-c.ensures.counts c.work-c.ensures.arrays c.token_after-x.ensures),
+  omega arith,
+)
 
 pub returns-then-x-ne-FORM_RULE : goal.returns-then-x-ne-FORM_RULE
-unfolding read_rest
-returns-then-x-ne-FORM_RULE c = stops_place _ _ _ _ c.loop-i.invariant _ c.loop-i-test.false c.if-x-ne-FORM_RULE.true c.refused-then-x-ne-FORM_RULE.ensures
-
-pub returns-then-mode-ne-AT_PLACE : goal.returns-then-mode-ne-AT_PLACE
-unfolding read_rest
-returns-then-mode-ne-AT_PLACE c = stops_mode _ _ _ _ c.loop-i.invariant _ c.loop-i-test.false c.if-x-ne-FORM_RULE.false c.if-mode-ne-AT_PLACE.true c.refused-then-mode-ne-AT_PLACE.ensures
+returns-then-x-ne-FORM_RULE c =
+    let m : c.max.result ≡ c.loop-i.i = omega (arith, c.loop-i.invariant.1, c.max.ensures) in
+    let e = c.refused-then-x-ne-FORM_RULE.ensures ∙ ap (λ (n : ℕ). refused_of (tally c.loop-i.c) 2 n) m in
+    elim c.then-x-ne-FORM_RULE.branch [
+      | then-x-ne-FORM_RULE-via-then-x-ne-FORM_RULE w ↦ stops_place _ _ _ _ c.loop-i.invariant.0 _ c.loop-i-test.false w.if-x-ne-FORM_RULE.true e
+      | then-x-ne-FORM_RULE-via-else-x-ne-FORM_RULE+then-ne w ↦
+          stops_mode _ _ _ _ c.loop-i.invariant.0 _ c.loop-i-test.false w.if-x-ne-FORM_RULE.false (place_is _ _ false w.ne.ensures w.if-ne.true) e
+    ]
 
 pub returns : goal.returns
-unfolding read_rest
-returns c = stops _ _ _ _ c.loop-i.invariant c.loop-i-test.false c.if-x-ne-FORM_RULE.false c.if-mode-ne-AT_PLACE.false
+returns c = stops _ _ _ _ c.loop-i.invariant.0 c.loop-i-test.false c.if-x-ne-FORM_RULE.false (place_is _ _ true c.ne.ensures c.if-ne.false)

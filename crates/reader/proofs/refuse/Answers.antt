@@ -3,4 +3,4 @@ use Rattle.reader.proofs.refuse.Goals as goal
 
 pub returns : goal.returns
 unfolding refuse_of
-returns c = rw c.empty-program.ensures
+returns c = rw c.empty.ensures

@@ -1,23 +1,15 @@
-use mathlib.Core.Bool.{not}
-use mathlib.Core.Path.{refl, ap}
 use native.Mathlib.Omega.{arith}
 use Rattle.reader_fast.proofs.Pieces.{word_in, few_rules, shut_goes}
 use Rattle.reader_fast.proofs.take_line_end.Goals as goal
 
-pub returns-then-not-ready : goal.returns-then-not-ready
-returns-then-not-ready c = λ heads bodies. refl
-
-pub returns-then-not-has : goal.returns-then-not-has
-returns-then-not-has c = λ heads bodies. refl
-
-pub bounds-starts-wide : goal.bounds-starts-wide
-bounds-starts-wide c = omega (arith, c.wide.ensures, few_rules _ _ _ c.ready.ensures (ap not c.if-not-ready.false))
-
-pub returns : goal.returns
-returns c = shut_goes _ _ _ _ c.ready.ensures (ap not c.if-not-ready.false) c.has.ensures (ap not c.if-not-has.false) _ _ c.wide.ensures
+pub bounds-starts-from : goal.bounds-starts-from
+bounds-starts-from c = omega (arith, c.from.ensures, few_rules _ _ _ c.ready.ensures c.if-not-ready.false)
 
 pub overflow_add-result : goal.overflow_add-result
-overflow_add-result c = omega (arith, word_in _ _ _ _ c.has.ensures (ap not c.if-not-has.false))
+overflow_add-result c = omega (arith, word_in _ _ _ _ c.has.ensures c.if-not-has.false)
 
 pub overflow_add-result-2 : goal.overflow_add-result-2
-overflow_add-result-2 c = omega (arith, few_rules _ _ _ c.ready.ensures (ap not c.if-not-ready.false))
+overflow_add-result-2 c = omega (arith, few_rules _ _ _ c.ready.ensures c.if-not-ready.false)
+
+pub returns : goal.returns
+returns c = shut_goes _ _ _ _ c.ready.ensures c.if-not-ready.false c.has.ensures c.if-not-has.false _ _ c.from.ensures

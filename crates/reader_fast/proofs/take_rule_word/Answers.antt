@@ -1,17 +1,9 @@
-use mathlib.Core.Bool.{not}
-use mathlib.Core.Path.{refl, ap}
 use native.Mathlib.Omega.{arith}
 use Rattle.reader_fast.proofs.Pieces.{word_in, begun_goes}
 use Rattle.reader_fast.proofs.take_rule_word.Goals as goal
 
-pub returns-then-not-ready : goal.returns-then-not-ready
-returns-then-not-ready c = λ heads starts bodies. refl
-
-pub returns-then-not-has : goal.returns-then-not-has
-returns-then-not-has c = λ heads starts bodies. refl
-
 pub overflow_add-result : goal.overflow_add-result
-overflow_add-result c = omega (arith, word_in _ _ _ _ c.has.ensures (ap not c.if-not-has.false))
+overflow_add-result c = omega (arith, word_in _ _ _ _ c.has.ensures c.if-not-has.false)
 
 pub returns : goal.returns
-returns c = begun_goes _ _ _ _ c.ready.ensures (ap not c.if-not-ready.false) c.has.ensures (ap not c.if-not-has.false)
+returns c = begun_goes _ _ _ _ c.ready.ensures c.if-not-ready.false c.has.ensures c.if-not-has.false

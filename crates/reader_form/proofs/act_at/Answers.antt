@@ -1,19 +1,20 @@
 use Rattle.reader_form.specs.Automaton.{act_at}
-use borrow.Author.Tests.{eq-eqb, ne_eqb}
+use borrow.Author.Tests.{ne_eqb}
+use native.Mathlib.Omega.{arith}
 use Rattle.reader_form.proofs.act_at.Goals as goal
 
-pub returns-then-k-eq-FORM_RULE : goal.returns-then-k-eq-FORM_RULE
+pub returns-in-10 : goal.returns-in-10
 unfolding act_at
-returns-then-k-eq-FORM_RULE c = simp (eq-eqb _ _ c.if-k-eq-FORM_RULE.true)
+returns-in-10 c = simp c.in-10.is
 
-pub returns-then-k-eq-FORM_BETWEEN : goal.returns-then-k-eq-FORM_BETWEEN
+pub returns-in-21 : goal.returns-in-21
 unfolding act_at
-returns-then-k-eq-FORM_BETWEEN c = simp (ne_eqb _ _ c.if-k-eq-FORM_RULE.false, eq-eqb _ _ c.if-k-eq-FORM_BETWEEN.true)
+returns-in-21 c = simp c.in-21.is
 
-pub returns-then-k-eq-FORM_LINE_END : goal.returns-then-k-eq-FORM_LINE_END
+pub returns-in-26 : goal.returns-in-26
 unfolding act_at
-returns-then-k-eq-FORM_LINE_END c = simp (ne_eqb _ _ c.if-k-eq-FORM_RULE.false, ne_eqb _ _ c.if-k-eq-FORM_BETWEEN.false, eq-eqb _ _ c.if-k-eq-FORM_LINE_END.true)
+returns-in-26 c = simp c.in-26.is
 
-pub returns : goal.returns
+pub returns-in_default : goal.returns-in_default
 unfolding act_at
-returns c = simp (ne_eqb _ _ c.if-k-eq-FORM_RULE.false, ne_eqb _ _ c.if-k-eq-FORM_BETWEEN.false, ne_eqb _ _ c.if-k-eq-FORM_LINE_END.false)
+returns-in_default c = simp (ne_eqb c.args.k 10 (omega arith), ne_eqb c.args.k 21 (omega arith), ne_eqb c.args.k 26 (omega arith))

@@ -1,25 +1,24 @@
 use Rattle.reader_form.proofs.Bounds.{form_below}
 use Rattle.reader_form.specs.Automaton.{form_step}
 use mathlib.Core.Path.{sym, ◌∙◌}
+use mathlib.Core.Logic.{inl, inr}
 use borrow.Author.Tests.{eq-eqb, ne_eqb}
+use native.Mathlib.Omega.{arith}
 use Rattle.reader_form.proofs.step.Goals as goal
 
 pub item-requires : goal.item-requires
 unfolding form_step
-item-requires c = form_below _ 34 (sym c.form_at-c.ensures ∙ c.if-c-eq35.true)
+item-requires c = elim c.in-35.is [ inl e ↦ form_below _ 34 (sym c.form_at.ensures ∙ e) | inr e ↦ form_below _ 41 (sym c.form_at.ensures ∙ e) ]
 
-pub returns-then-c-eq35 : goal.returns-then-c-eq35
+pub returns-in-35 : goal.returns-in-35
 unfolding form_step
-returns-then-c-eq35 c = simp (← c.form_at-c.ensures, eq-eqb _ _ c.if-c-eq35.true) c.item.ensures
+returns-in-35 c =
+    elim c.in-35.is [
+      | inl e ↦ simp (← c.form_at.ensures, eq-eqb _ _ e) c.item.ensures
+      | inr e ↦ simp (← c.form_at.ensures, ne_eqb c.form_at.result 35 (omega (arith, e)), eq-eqb _ _ e) c.item.ensures
+    ]
 
-pub item-requires-then-c-eq42 : goal.item-requires-then-c-eq42
+pub returns-in_default : goal.returns-in_default
 unfolding form_step
-item-requires-then-c-eq42 c = form_below _ 41 (sym c.form_at-c.ensures ∙ c.if-c-eq42.true)
-
-pub returns-then-c-eq42 : goal.returns-then-c-eq42
-unfolding form_step
-returns-then-c-eq42 c = simp (← c.form_at-c.ensures, ne_eqb _ _ c.if-c-eq35.false, eq-eqb _ _ c.if-c-eq42.true) c.item-then-c-eq42.ensures
-
-pub returns : goal.returns
-unfolding form_step
-returns c = simp (← c.form_at-c.ensures, ne_eqb _ _ c.if-c-eq35.false, ne_eqb _ _ c.if-c-eq42.false, ← c.act_at.ensures) c.literal.ensures
+returns-in_default c =
+    simp (← c.form_at.ensures, ne_eqb c.form_at.result 35 (grind arith), ne_eqb c.form_at.result 42 (grind arith), ← c.act_at.ensures) c.literal.ensures

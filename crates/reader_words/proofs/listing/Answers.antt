@@ -1,15 +1,15 @@
-use borrow.Author.Tests.{eq-eqb, ne_eqb}
+use Rattle.reader_form.proofs.Modes.{at_place, at_space}
 use Rattle.reader_words.specs.Standing.{listing_at}
 use Rattle.reader_words.proofs.listing.Goals as goal
 
-pub returns-then-not-is_list : goal.returns-then-not-is_list
+pub returns-then-eq : goal.returns-then-eq
 unfolding listing_at
-returns-then-not-is_list c = simp (← c.is_list.ensures, c.if-not-is_list.true)
+returns-then-eq c = simp (← c.is_list.ensures, c.if-is_list.true, ← at_place c.args.s.mode, ← c.eq.ensures, c.if-eq.true)
 
-pub returns-then-s-eq-AT_PLACE : goal.returns-then-s-eq-AT_PLACE
+pub returns-else-eq : goal.returns-else-eq
 unfolding listing_at
-returns-then-s-eq-AT_PLACE c = simp (← c.is_list.ensures, c.if-not-is_list.false, eq-eqb _ _ c.if-s-eq-AT_PLACE.true)
+returns-else-eq c = simp (← c.is_list.ensures, c.if-is_list.true, ← at_place c.args.s.mode, ← c.eq.ensures, c.if-eq.false, ← at_space c.args.s.mode) c.eq-else-eq.ensures
 
-pub returns : goal.returns
+pub returns-else-is_list : goal.returns-else-is_list
 unfolding listing_at
-returns c = simp (← c.is_list.ensures, c.if-not-is_list.false, ne_eqb _ _ c.if-s-eq-AT_PLACE.false)
+returns-else-is_list c = simp (← c.is_list.ensures, c.if-is_list.false)

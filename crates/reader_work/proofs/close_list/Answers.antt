@@ -1,15 +1,12 @@
 use Rattle.reader_work.specs.Work.{start_stored}
 use borrow.Author.Tests.{lt-ltb, le-ltb}
+use native.Mathlib.Omega.{arith}
 use Rattle.reader_work.proofs.close_list.Goals as goal
 
-pub returns-then-c-gt-LAST_RULE : goal.returns-then-c-gt-LAST_RULE
+pub returns-then-c-lt-MAX_RULES : goal.returns-then-c-lt-MAX_RULES
 unfolding start_stored
-returns-then-c-gt-LAST_RULE c = simp (lt-ltb _ _ c.if-c-gt-LAST_RULE.true)
+returns-then-c-lt-MAX_RULES c = simp (le-ltb 499 c.args.c.rules (omega arith), lt-ltb _ _ c.requires, c.from.ensures)
 
-pub returns-then-j-lt3 : goal.returns-then-j-lt3
+pub returns-else-c-lt-MAX_RULES : goal.returns-else-c-lt-MAX_RULES
 unfolding start_stored
-returns-then-j-lt3 c = simp (le-ltb _ _ c.if-c-gt-LAST_RULE.false, lt-ltb _ _ c.if-j-lt3.true, c.wide-r.ensures)
-
-pub returns-else-j-lt3 : goal.returns-else-j-lt3
-unfolding start_stored
-returns-else-j-lt3 c = simp (le-ltb _ _ c.if-c-gt-LAST_RULE.false, le-ltb _ _ c.if-j-lt3.false)
+returns-else-c-lt-MAX_RULES c = simp (lt-ltb 499 c.args.c.rules (omega arith))

@@ -1,16 +1,28 @@
 use Rattle.reader_work.specs.Work.{ended_of, ended_heads, ended_bodies}
 use borrow.Author.Tests.{eq-eqb, ne_eqb}
-use mathlib.Core.Path.{refl}
+use native.Mathlib.Omega.{arith}
 use Rattle.reader_work.proofs.end_number.Goals as goal
 
-pub returns-then-k-eq-FORM_ATOMS : goal.returns-then-k-eq-FORM_ATOMS
-unfolding ended_of ended_heads ended_bodies
-returns-then-k-eq-FORM_ATOMS c = simp (eq-eqb _ _ c.if-k-eq-FORM_ATOMS.true) (c.end_atoms.ensures, (refl, refl))
+pub returns-in-7-clause-counts : goal.returns-in-7-clause-counts
+unfolding ended_of
+returns-in-7-clause-counts c = simp (eq-eqb _ _ c.in-7.is) c.end_atoms.ensures
 
-pub returns-then-k-eq-FORM_HEAD : goal.returns-then-k-eq-FORM_HEAD
-unfolding ended_of ended_heads ended_bodies
-returns-then-k-eq-FORM_HEAD c = simp (ne_eqb _ _ c.if-k-eq-FORM_ATOMS.false, eq-eqb _ _ c.if-k-eq-FORM_HEAD.true) (c.end_head.ensures.0, (c.end_head.ensures.1, refl))
+pub returns-in-7-clause-arrays : goal.returns-in-7-clause-arrays
+unfolding ended_heads ended_bodies
+returns-in-7-clause-arrays c = simp (eq-eqb _ _ c.in-7.is)
 
-pub returns : goal.returns
-unfolding ended_of ended_heads ended_bodies
-returns c = simp (ne_eqb _ _ c.if-k-eq-FORM_ATOMS.false, ne_eqb _ _ c.if-k-eq-FORM_HEAD.false) (c.end_body.ensures.0, (refl, c.end_body.ensures.1))
+pub returns-in-16-clause-counts : goal.returns-in-16-clause-counts
+unfolding ended_of
+returns-in-16-clause-counts c = simp c.in-16.is c.end_head.ensures.0
+
+pub returns-in-16-clause-arrays : goal.returns-in-16-clause-arrays
+unfolding ended_heads ended_bodies
+returns-in-16-clause-arrays c = simp (c.in-16.is, c.end_head.ensures.1)
+
+pub returns-in_default-clause-counts : goal.returns-in_default-clause-counts
+unfolding ended_of
+returns-in_default-clause-counts c = simp (ne_eqb c.args.x.k 7 (omega arith), ne_eqb c.args.x.k 16 (omega arith)) c.end_body.ensures.0
+
+pub returns-in_default-clause-arrays : goal.returns-in_default-clause-arrays
+unfolding ended_heads ended_bodies
+returns-in_default-clause-arrays c = simp (ne_eqb c.args.x.k 7 (omega arith), ne_eqb c.args.x.k 16 (omega arith), c.end_body.ensures.1)

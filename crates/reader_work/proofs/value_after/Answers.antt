@@ -1,15 +1,16 @@
 use Rattle.reader_work.specs.Work.{value_after}
-use borrow.Author.Tests.{eq-eqb, ne_eqb}
+use mathlib.Core.Path.{sym, ◌∙◌}
+use Rattle.reader_form.proofs.Modes.{begins, grows}
 use Rattle.reader_work.proofs.value_after.Goals as goal
 
-pub returns-then-act-eq-ACT_BEGIN : goal.returns-then-act-eq-ACT_BEGIN
+pub returns-then-eq : goal.returns-then-eq
 unfolding value_after
-returns-then-act-eq-ACT_BEGIN c = simp (eq-eqb _ _ c.if-act-eq-ACT_BEGIN.true) c.grown.ensures
+returns-then-eq c = simp (sym (begins _) ∙ sym c.eq.ensures ∙ c.if-eq.true) c.grown.ensures
 
-pub returns-then-act-eq-ACT_GO : goal.returns-then-act-eq-ACT_GO
+pub returns-then-eq-2 : goal.returns-then-eq-2
 unfolding value_after
-returns-then-act-eq-ACT_GO c = simp (ne_eqb _ _ c.if-act-eq-ACT_BEGIN.false, eq-eqb _ _ c.if-act-eq-ACT_GO.true) c.grown-then-act-eq-ACT_GO.ensures
+returns-then-eq-2 c = simp (sym (begins _) ∙ sym c.eq.ensures ∙ c.if-eq.false, sym (grows _) ∙ sym c.eq-else-eq.ensures ∙ c.if-eq-2.true) c.grown-then-eq-2.ensures
 
-pub returns : goal.returns
+pub returns-else-eq-2 : goal.returns-else-eq-2
 unfolding value_after
-returns c = simp (ne_eqb _ _ c.if-act-eq-ACT_BEGIN.false, ne_eqb _ _ c.if-act-eq-ACT_GO.false)
+returns-else-eq-2 c = simp (sym (begins _) ∙ sym c.eq.ensures ∙ c.if-eq.false, sym (grows _) ∙ sym c.eq-else-eq.ensures ∙ c.if-eq-2.false)

@@ -1,3 +1,4 @@
+use Rattle.truth_clauses.proofs.Found.{some_found, none_found}
 use Rattle.truth_clauses.proofs.Clauses.{clause_passed, clause_false, ended}
 use Rattle.clause_places.proofs.Numbers.{number_is}
 use Rattle.clause_table_laws.proofs.Cells.{arrays}
@@ -13,7 +14,7 @@ pub holds_at-requires : goal.holds_at-requires
 holds_at-requires c = (c.requires.0, c.loop-at.invariant.own, c.loop-at.invariant.some, omega (arith, c.loop-at-test.true, ap (λ (t : Totals). t.clauses) c.totals-t.ensures), c.requires.2)
 
 pub returns-then-not-holds_at : goal.returns-then-not-holds_at
-returns-then-not-holds_at c = clause_false (arrays c.requires.0) c.args.assignment.now c.loop-at.invariant (omega (arith, c.loop-at-test.true, ap (λ (t : Totals). t.clauses) c.totals-t.ensures)) c.holds_at.ensures c.if-not-holds_at.true
+returns-then-not-holds_at c = some_found c.loop-at.at.number c.loop-at.invariant.some (clause_false (arrays c.requires.0) c.args.assignment.now c.loop-at.invariant (omega (arith, c.loop-at-test.true, ap (λ (t : Totals). t.clauses) c.totals-t.ensures)) c.holds_at.ensures c.if-not-holds_at.true)
 
 pub next-at-requires : goal.next-at-requires
 next-at-requires c = (c.requires.0, c.loop-at.invariant.own, omega (arith, c.loop-at-test.true, ap (λ (t : Totals). t.clauses) c.totals-t.ensures))
@@ -25,4 +26,4 @@ pub loop-at-preserved : goal.loop-at-preserved
 loop-at-preserved c = clause_passed (arrays c.requires.0) c.args.assignment.now c.loop-at.invariant (omega (arith, c.loop-at-test.true, ap (λ (t : Totals). t.clauses) c.totals-t.ensures)) c.holds_at.ensures c.if-not-holds_at.false c.next-at.ensures
 
 pub returns : goal.returns
-returns c = ended (arrays c.requires.0) c.args.assignment.now c.loop-at.invariant (omega (arith, c.loop-at-test.false, ap (λ (t : Totals). t.clauses) c.totals-t.ensures))
+returns c = none_found (ended (arrays c.requires.0) c.args.assignment.now c.loop-at.invariant (omega (arith, c.loop-at-test.false, ap (λ (t : Totals). t.clauses) c.totals-t.ensures)))

@@ -4,11 +4,7 @@ use Rattle.clause_tables.specs.Tables.{code_in}
 use Rattle.lists.specs.Lists.{all_to}
 use mathlib.Core.Path.{◌≡◌}
 use mathlib.Core.Bool.{true}
-use Prim.Native.Nat.{◌-◌, ◌≤◌}
 use Rattle.truth_clauses.proofs.false_item.Given as goal
 
 abbrev pub invariant-loop-a : goal.invariant-loop-a
-invariant-loop-a l = (l.a ≤ l.n) × (all_to l.a (item_true (code_in l.table) (value_in l.assignment) l.g) ≡ true)
-
-abbrev pub decreases-loop-a : goal.decreases-loop-a
-decreases-loop-a l = l.n - l.a
+invariant-loop-a l = all_to l.a (item_true (code_in l.table) (value_in l.assignment) l.g) ≡ true

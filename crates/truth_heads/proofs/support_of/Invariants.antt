@@ -1,4 +1,4 @@
-use Rattle.truth_heads.proofs.SupportLaws.{Visited}
+use Rattle.truth_heads.proofs.SupportLaws.{Visiting, place}
 use Rattle.truth_literals.specs.Values.{value_in}
 use Rattle.clause_table_laws.proofs.Links.{rules_before}
 use Rattle.clause_tables.specs.Tables.{code_in}
@@ -8,8 +8,8 @@ use lib.ListN.{length}
 use Prim.Native.Nat.{◌-◌}
 use Rattle.truth_heads.proofs.support_of.Given as goal
 
-abbrev pub invariant-loop-r : goal.invariant-loop-r
-invariant-loop-r l = Visited (value_in l.assignment) (code_sizes (code_in l.table)) (heads_of (code_in l.table)) l.a.0 l.founds l.r.0 l.each l.some
+abbrev pub invariant-loop-rule : goal.invariant-loop-rule
+invariant-loop-rule l = Visiting (value_in l.assignment) (code_sizes (code_in l.table)) (heads_of (code_in l.table)) l.a.0 l.founds l.rule l.each l.some
 
-abbrev pub decreases-loop-r : goal.decreases-loop-r
-decreases-loop-r l = length (heads_of (code_in l.table)) - rules_before (length (heads_of (code_in l.table))) l.r.0
+abbrev pub decreases-loop-rule : goal.decreases-loop-rule
+decreases-loop-rule l = length (heads_of (code_in l.table)) - rules_before (length (heads_of (code_in l.table))) (place l.rule)

@@ -28,4 +28,4 @@ pub body_holds-requires : goal.body_holds-requires
 body_holds-requires c = body_asks (told c.requires.0 c.totals.ensures) c.requires.1 c.requires.2 c.list_start-first.ensures c.list_start-middle.ensures c.list_start-end.ensures c.body.ensures c.body_var-t.ensures c.args.assignment.now (omega (arith, c.requires.3, ap (λ (t : Totals). t.vars) c.totals.ensures))
 
 pub returns : goal.returns
-returns c = c.body_holds.ensures ∙ body_item (told c.requires.0 c.totals.ensures) c.requires.1 c.requires.2 c.list_start-first.ensures c.list_start-middle.ensures c.list_start-end.ensures c.body.ensures c.body_var-t.ensures (value_in c.args.assignment.now) c.wide.ensures
+returns c = c.body_holds.ensures ∙ body_item (told c.requires.0 c.totals.ensures) c.requires.1 c.requires.2 c.list_start-first.ensures c.list_start-middle.ensures c.list_start-end.ensures c.body.ensures c.body_var-t.ensures (value_in c.args.assignment.now) c.from.ensures

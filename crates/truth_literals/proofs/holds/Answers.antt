@@ -8,5 +8,5 @@ byte_set-v-requires c = place_asks c.args.assignment.now (to_z-of_z c.ranges.x) 
 pub returns-then-is_negative : goal.returns-then-is_negative
 returns-then-is_negative c = true_negative c.args.assignment.now _ _ _ _ _ (to_z-of_z c.ranges.x) c.is_negative.ensures c.magnitude.ensures c.byte_set-v.ensures c.if-is_negative.true
 
-pub returns : goal.returns
-returns c = true_positive c.args.assignment.now _ _ _ _ _ (to_z-of_z c.ranges.x) c.is_negative.ensures c.magnitude.ensures c.byte_set-v.ensures c.if-is_negative.false
+pub returns-else-is_negative : goal.returns-else-is_negative
+returns-else-is_negative c = true_positive c.args.assignment.now _ _ _ _ _ (to_z-of_z c.ranges.x) c.is_negative.ensures c.magnitude.ensures c.byte_set-v.ensures c.if-is_negative.false

@@ -1,14 +1,9 @@
 use Rattle.truth_rules.specs.Rules.{body_clause, body_fails}
 use Rattle.truth_literals.specs.Values.{value_in}
 use Rattle.lists.specs.Lists.{all_to, any_to}
-use lib.ListN.{length}
 use mathlib.Core.Path.{◌≡◌}
 use mathlib.Core.Bool.{◌||◌}
-use Prim.Native.Nat.{◌-◌, ◌≤◌}
 use Rattle.truth_rules.proofs.body_holds.Given as goal
 
 abbrev pub invariant-loop-j : goal.invariant-loop-j
-invariant-loop-j l = (l.j ≤ length l.atoms) × (l.ok ≡ all_to l.j (body_clause (value_in l.assignment) l.t.0 l.atoms l.p)) × (l.long ≡ (l.initial.long || any_to l.j (body_fails (value_in l.assignment) l.atoms l.p)))
-
-abbrev pub decreases-loop-j : goal.decreases-loop-j
-decreases-loop-j l = length l.atoms - l.j
+invariant-loop-j l = (l.ok ≡ all_to l.j (body_clause (value_in l.assignment) l.t.0 l.atoms l.p)) × (l.long ≡ (l.initial.long || any_to l.j (body_fails (value_in l.assignment) l.atoms l.p)))

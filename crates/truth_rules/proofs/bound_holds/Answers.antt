@@ -4,7 +4,6 @@ use Rattle.truth_literals.proofs.Gathered.{or_none}
 use Rattle.truth_rules.specs.Rules.{not_next}
 use Rattle.truth_literals.specs.Values.{value_in}
 use Rattle.clause_literals.specs.Sizes.{sizes_of}
-use borrow.Author.Rules.{rules}
 use Prim.Native.Nat.{◌+◌}
 use Rattle.truth_rules.proofs.bound_holds.Goals as goal
 
@@ -12,13 +11,13 @@ pub stands-low-requires : goal.stands-low-requires
 stands-low-requires c = body_in (sizes_of c.args.s) (c.args.k + c.args.b) c.requires.4 c.args.r.0 c.requires.1 c.requires.2 c.body_var.ensures
 
 pub loop-j-init : goal.loop-j-init
-loop-j-init c = (search rules, or_none c.stands-low.result (not_next (value_in c.args.assignment.now) (sizes_of c.args.s) c.args.k))
+loop-j-init c = or_none c.stands-low.result (not_next (value_in c.args.assignment.now) (sizes_of c.args.s) c.args.k)
 
 pub stands-low-requires-in-loop-j : goal.stands-low-requires-in-loop-j
 stands-low-requires-in-loop-j c = next_in (sizes_of c.args.s) c.requires.1 c.requires.2 c.args.k c.args.b c.requires.4 c.loop-j-test.true c.next_below_var-q.ensures
 
 pub loop-j-preserved : goal.loop-j-preserved
-loop-j-preserved c = (search rules, next_more (value_in c.args.assignment.now) (sizes_of c.args.s) c.args.k c.loop-j.j c.next_below_var-q.ensures c.stands-low.result c.loop-j.invariant.1 c.stands-low-in-loop-j.ensures)
+loop-j-preserved c = next_more (value_in c.args.assignment.now) (sizes_of c.args.s) c.args.k c.loop-j.j c.next_below_var-q.ensures c.stands-low.result c.loop-j.invariant c.stands-low-in-loop-j.ensures
 
 pub returns : goal.returns
-returns c = bound_all (value_in c.args.assignment.now) (sizes_of c.args.s) c.args.r.0 c.args.k c.args.b c.body_var.ensures c.loop-j.invariant.0 c.loop-j-test.false c.stands-low.ensures c.loop-j.invariant.1
+returns c = bound_all (value_in c.args.assignment.now) (sizes_of c.args.s) c.args.r.0 c.args.k c.args.b c.body_var.ensures c.loop-j.auto.j-end c.loop-j-test.false c.stands-low.ensures c.loop-j.invariant

@@ -4,11 +4,7 @@ use Rattle.clause_literals.specs.Sizes.{sizes_of}
 use Rattle.lists.specs.Lists.{any_to}
 use mathlib.Core.Path.{◌≡◌}
 use mathlib.Core.Bool.{◌||◌}
-use Prim.Native.Nat.{◌-◌, ◌≤◌}
 use Rattle.truth_rules.proofs.bound_holds.Given as goal
 
 abbrev pub invariant-loop-j : goal.invariant-loop-j
-invariant-loop-j l = (l.j ≤ l.b) × (l.low ≡ (l.initial.low || any_to l.j (not_next (value_in l.assignment) (sizes_of l.s) l.k)))
-
-abbrev pub decreases-loop-j : goal.decreases-loop-j
-decreases-loop-j l = l.b - l.j
+invariant-loop-j l = l.low ≡ (l.initial.low || any_to l.j (not_next (value_in l.assignment) (sizes_of l.s) l.k))

@@ -3,11 +3,7 @@ use Rattle.truth_literals.specs.Values.{value_in}
 use Rattle.clause_literals.specs.Sizes.{sizes_of}
 use Rattle.lists.specs.Lists.{all_to}
 use mathlib.Core.Path.{◌≡◌}
-use Prim.Native.Nat.{◌-◌, ◌≤◌}
 use Rattle.truth_rules.proofs.fact_holds.Given as goal
 
 abbrev pub invariant-loop-j : goal.invariant-loop-j
-invariant-loop-j l = (l.j ≤ l.s.w) × (l.ok ≡ all_to l.j (fact_clause (value_in l.assignment) (sizes_of l.s) l.h.0 l.t.0))
-
-abbrev pub decreases-loop-j : goal.decreases-loop-j
-decreases-loop-j l = l.w - l.j
+invariant-loop-j l = l.ok ≡ all_to l.j (fact_clause (value_in l.assignment) (sizes_of l.s) l.h.0 l.t.0)

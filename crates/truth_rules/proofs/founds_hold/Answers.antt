@@ -4,7 +4,6 @@ use Rattle.truth_literals.proofs.Gathered.{and_none, or_none}
 use Rattle.truth_rules.specs.Rules.{below_true, not_below}
 use Rattle.truth_literals.specs.Values.{value_in}
 use Rattle.clause_literals.specs.Sizes.{sizes_of}
-use borrow.Author.Rules.{rules}
 use native.Mathlib.Omega.{arith}
 use mathlib.Core.Bool.{◌||◌}
 use Prim.Native.Nat.{◌+◌}
@@ -20,7 +19,7 @@ pub stands-requires-2 : goal.stands-requires-2
 stands-requires-2 c = body_in (sizes_of c.args.s) (c.args.k + c.args.b) c.requires.4 c.args.r.0 c.requires.1 c.requires.2 c.body_var-t.ensures
 
 pub loop-j-init : goal.loop-j-init
-loop-j-init c = (search rules, and_none c.implies-ok.result (below_true (value_in c.args.assignment.now) (sizes_of c.args.s) c.args.k c.founds_var-f.result.0), or_none (c.stands.result || c.stands-2.result) (not_below (value_in c.args.assignment.now) (sizes_of c.args.s) c.args.k))
+loop-j-init c = (and_none c.implies-ok.result (below_true (value_in c.args.assignment.now) (sizes_of c.args.s) c.args.k c.founds_var-f.result.0), or_none (c.stands.result || c.stands-2.result) (not_below (value_in c.args.assignment.now) (sizes_of c.args.s) c.args.k))
 
 pub implies-ok-requires-in-loop-j : goal.implies-ok-requires-in-loop-j
 implies-ok-requires-in-loop-j c = omega (arith, founds_in (sizes_of c.args.s) (c.args.k + c.args.b) c.requires.4 c.args.r.0 c.requires.1 c.requires.2 c.founds_var-f.ensures, below_in (sizes_of c.args.s) c.requires.1 c.requires.2 c.args.k c.args.b c.requires.4 c.loop-j-test.true c.below_var-p.ensures)
@@ -29,7 +28,7 @@ pub stands-long-requires : goal.stands-long-requires
 stands-long-requires c = below_in (sizes_of c.args.s) c.requires.1 c.requires.2 c.args.k c.args.b c.requires.4 c.loop-j-test.true c.below_var-p.ensures
 
 pub loop-j-preserved : goal.loop-j-preserved
-loop-j-preserved c = (search rules, below_more (value_in c.args.assignment.now) (sizes_of c.args.s) c.args.k c.loop-j.j c.below_var-p.ensures c.founds_var-f.result.0 c.implies-ok.result c.loop-j.invariant.1 c.implies-ok-in-loop-j.ensures, not_more (value_in c.args.assignment.now) (sizes_of c.args.s) c.args.k c.loop-j.j c.below_var-p.ensures (c.stands.result || c.stands-2.result) c.loop-j.invariant.2 c.stands-long.ensures)
+loop-j-preserved c = (below_more (value_in c.args.assignment.now) (sizes_of c.args.s) c.args.k c.loop-j.j c.below_var-p.ensures c.founds_var-f.result.0 c.implies-ok.result c.loop-j.invariant.0 c.implies-ok-in-loop-j.ensures, not_more (value_in c.args.assignment.now) (sizes_of c.args.s) c.args.k c.loop-j.j c.below_var-p.ensures (c.stands.result || c.stands-2.result) c.loop-j.invariant.1 c.stands-long.ensures)
 
 pub returns : goal.returns
-returns c = founds_all (value_in c.args.assignment.now) (sizes_of c.args.s) c.args.r.0 c.args.k c.args.b c.body_var-t.ensures c.loop-j.invariant.0 c.loop-j-test.false c.founds_var-f.ensures c.implies-ok.ensures c.loop-j.invariant.1 c.stands.ensures c.stands-2.ensures c.loop-j.invariant.2
+returns c = founds_all (value_in c.args.assignment.now) (sizes_of c.args.s) c.args.r.0 c.args.k c.args.b c.body_var-t.ensures c.loop-j.auto.j-end c.loop-j-test.false c.founds_var-f.ensures c.implies-ok.ensures c.loop-j.invariant.0 c.stands.ensures c.stands-2.ensures c.loop-j.invariant.1

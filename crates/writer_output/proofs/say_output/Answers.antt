@@ -9,15 +9,15 @@ use mathlib.Core.Path.{◌∙◌, ap}
 use Rattle.writer_output.proofs.say_output.Goals as goal
 
 pub returns-in_default : goal.returns-in_default
-returns-in_default c = c.say_refused.ensures ∙ ap length (refused_output c.args.front.now c.args.total c.load_counted-v.ensures.verdict_is c.in_default.is)
+returns-in_default c = c.say_refused.ensures ∙ ap length (refused_output c.args.front.now c.args.total c.load_counted-verdict.ensures.verdict_is c.in_default.is)
 
 pub slice_bounds-say_lines-end : goal.slice_bounds-say_lines-end
-slice_bounds-say_lines-end c = loaded_cells (counted_stored c.args.front.now c.args.total) c.load_counted-v.ensures c.in-Accepted.is
+slice_bounds-say_lines-end c = loaded_cells (counted_stored c.args.front.now c.args.total) c.load_counted-verdict.ensures c.in-Ok.is
 
 pub say_lines-requires : goal.say_lines-requires
-say_lines-requires c = loaded_ready (counted_stored c.args.front.now c.args.total) c.load_counted-v.ensures c.in-Accepted.is
+say_lines-requires c = loaded_ready (counted_stored c.args.front.now c.args.total) c.load_counted-verdict.ensures c.in-Ok.is
 
 pub returns : goal.returns
 returns c = c.say_lines.ensures
-    ∙ ap (λ (G : Code). length (joined (code_lines G))) (loaded_code (counted_stored c.args.front.now c.args.total) c.load_counted-v.ensures c.in-Accepted.is)
-    ∙ ap length (accepted_output c.args.front.now c.args.total c.load_counted-v.ensures.verdict_is c.in-Accepted.is)
+    ∙ ap (λ (G : Code). length (joined (code_lines G))) (loaded_code (counted_stored c.args.front.now c.args.total) c.load_counted-verdict.ensures c.in-Ok.is)
+    ∙ ap length (accepted_output c.args.front.now c.args.total c.load_counted-verdict.ensures.verdict_is c.in-Ok.is)

@@ -8,7 +8,7 @@ use Rattle.writer_output.proofs.say_refusal.Goals as goal
 
 pub put_refusal-n-requires : goal.put_refusal-n-requires
 put_refusal-n-requires c =
-    omega (arith, refused_small c.text_number.result c.text_spot.result (omega (arith, c.text_number.type_inv)) (omega (arith, c.text_spot.type_inv)))
+    omega (arith, refused_small c.number.result c.spot.result (omega (arith, c.number.type_inv)) (omega (arith, c.spot.type_inv)))
 
 pub slice_bounds-out-end : goal.slice_bounds-out-end
 slice_bounds-out-end c = (wrote_counts c.put_refusal-n.ensures).0
@@ -17,4 +17,4 @@ pub slice_bounds-write_all-end : goal.slice_bounds-write_all-end
 slice_bounds-write_all-end c = (wrote_counts c.put_refusal-n.ensures).1
 
 pub returns : goal.returns
-returns c = c.put_refusal-n.ensures.count ∙ ap length (ap₂ refused_text c.text_number.ensures c.text_spot.ensures)
+returns c = c.put_refusal-n.ensures.count ∙ ap length (ap₂ refused_text c.number.ensures c.spot.ensures)

@@ -1,0 +1,2 @@
+-- Rules: the number of a rule, if there is one
+pub mod Rules

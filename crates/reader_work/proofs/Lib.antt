@@ -1,0 +1,2 @@
+-- Numbers: what a refusal's number says
+pub mod Numbers
