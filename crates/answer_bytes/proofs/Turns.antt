@@ -1,18 +1,18 @@
--- One turn of each loop over a buffer.
+-- One turn of the loop over a buffer, and the bytes that are counted.
 --   copy_goes                 one more byte is copied and completed
---   count_none, count_more    no byte is counted; one more is
---   one_at_most               a byte counts 1 at most
+--   unset_is                  how many bytes are 2
 -- Assumes nothing.
-use Prim.Native.Nat.{ℕ, suc, ◌+◌, ◌-◌, ◌≤◌, ◌<◌}
+use Prim.Native.Nat.{ℕ, zero, suc, ◌+◌, ◌-◌, ◌≤◌, ◌<◌}
 use native.Mathlib.Numerals.{add-one}
 use native.Mathlib.Omega.{arith}
 use mathlib.Core.Path.{◌≡◌, refl, sym, ◌∙◌, ap, ap₂}
-use mathlib.Core.Bool.{Bool, true, false, cond}
+use mathlib.Core.Bool.{Bool, cond}
 use mathlib.Core.List.{List, [], ◌∷◌, ◌++◌, append_assoc, map-append}
 use lib.Dec.{eqb}
 use lib.ListN.{length, get_or, set, take, drop, length-map}
-use lib.Seq.{drop-cons, take-suc, length-take-le, set_at}
-use Rattle.std.specs.Int.{from_bool}
+use lib.Seq.{drop-cons, take-suc, length-take-le, set_at, take_all}
+use Rattle.std.specs.List.{count_by, filter}
+use Rattle.std.proofs.lemmas.List.Sums.{length-filter, sum_by_push}
 use Rattle.answer_bytes.specs.Bytes.{unset_count, completed_byte, completed}
 
 -- ---- copying
@@ -31,20 +31,17 @@ copy_goes s b c i x g h e f =
 
 -- ---- how many have no value
 
-pub count_none : (b : List ℕ) → 0 ≡ unset_count 0 b
-unfolding unset_count
-count_none b = refl
+module _ (b : List ℕ) where
+  abbrev is_unset : ℕ → Bool
+  is_unset x = eqb x 2
 
-one_or_none : (c : Bool) → from_bool c ≡ cond c 1 0
-one_or_none true = refl
-one_or_none false = refl
+  unset_front : (i : ℕ) → i ≤ length b → count_by is_unset (take i b) ≡ unset_count i b
+  unfolding unset_count
+  unset_front zero h = refl
+  unset_front (suc i) h =
+      let same : i ≡ suc i - 1 = omega arith in
+      ap (count_by is_unset) (take-suc b i 0 (omega (arith, h))) ∙ sum_by_push (λ x. cond (is_unset x) 1 0) (take i b) (get_or b i 0)
+      ∙ ap₂ (λ (x y : ℕ). x + y) (unset_front i (omega (arith, h))) (ap (λ (j : ℕ). cond (is_unset (get_or b j 0)) 1 0) same)
 
-pub count_more : (b : List ℕ) (i k d : ℕ) → k ≡ unset_count i b → d ≡ from_bool (eqb (get_or b i 0) 2) → k + d ≡ unset_count (i + 1) b
-unfolding unset_count
-count_more b i k d e f =
-    let same : i ≡ suc i - 1 = omega arith in
-    ap₂ (λ (x y : ℕ). x + y) e (f ∙ one_or_none (eqb (get_or b i 0) 2) ∙ ap (λ (j : ℕ). cond (eqb (get_or b j 0) 2) 1 0) same) ∙ ap (λ (j : ℕ). unset_count j b) (sym (add-one i))
-
-pub one_at_most : (c : Bool) (d : ℕ) → d ≡ from_bool c → d ≤ 1
-one_at_most true d e = omega (arith, e)
-one_at_most false d e = omega (arith, e)
+  pub unset_is : length (filter is_unset b) ≡ unset_count (length b) b
+  unset_is = length-filter is_unset b ∙ ap (count_by is_unset) (sym (take_all (length b) b (omega arith))) ∙ unset_front (length b) (omega arith)

@@ -94,25 +94,26 @@ fn quick_at(answer: &[u8], at: usize) -> Option<Quick>
     )
 }
 
-// Assigns the literals from position `from` on, up to the first that does not stand in the common form, or is of a variable above v or of one that has a value:
-// its position.
-pub fn literals_from(answer: &[u8], from: usize, v: usize, assignment: &mut [u8]) -> usize
-    requires { (from ≤ length answer.now) × (v ≤ length assignment.old) }
-    ensures { Passes answer.now v from assignment.old result assignment.new }
+// Assigns the literals from position `from` on, up to the first that does not stand in the common form, or is of a variable that has no byte or has a value: its
+// position.
+// Kept with a position in the answer: the answer's other bytes are read behind it by the loop that calls.
+pub fn literals_from(answer: &[u8], from: usize, values: &mut [u8]) -> usize
+    requires { from ≤ length answer.now }
+    ensures { Passes answer.now (length values.old) from values.old result values.new }
 {
     let mut p = from;
     while 9 <= answer.len() - p {
         let Some(q) = quick_at(answer, p) else {
             return p;
         };
-        if v < q.value {
+        if values.len() < q.value {
             return p;
         }
         let i = q.value - 1;
-        if assignment[i] != 2 {
+        if values[i] != 2 {
             return p;
         }
-        assignment[i] = u8::from(!q.minus);
+        values[i] = u8::from(!q.minus);
         p += q.size;
     }
     p

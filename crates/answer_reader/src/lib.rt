@@ -1,5 +1,5 @@
 // A solver answer: its status, its literals one after the other, and what follows literal 0
-// (document 01, "Solver answer"). The definitions are those of the crate answer_form; states are those of its automaton.
+// (document 01, "Solver answer"). The definitions are those of the crate answer_form.
 #![tactic(auto)]
 
 ghost use Rattle.std.specs.Prelude.{◌+◌, ◌<◌, ◌≡◌, drop};
@@ -10,12 +10,27 @@ use answer_words::{
     Tail, common_bytes, end_step, first_line, negative, number_at, positive, space_from,
 };
 use reader_form::is_digit;
+use refusals::CheckRefusal;
 
 // Why an answer offers no model: it has another status, or leaves the form at the spot.
 #[derive(Clone, Copy, PartialEq, Eq)]
 pub enum AnswerFault {
     NoModel,
     Malformed(usize),
+}
+
+// The check's refusal of such an answer, rows 11 and 12.
+impl From<AnswerFault> for CheckRefusal {
+    ghost use Rattle.answer_reader.specs.Refusals.{refusal_of};
+
+    ghost from_gives = { λ fault result. result ≡ refusal_of fault };
+
+    fn from(fault: AnswerFault) -> CheckRefusal {
+        match fault {
+            AnswerFault::NoModel => CheckRefusal::NoModelOffered,
+            AnswerFault::Malformed(spot) => CheckRefusal::MalformedAnswer(spot),
+        }
+    }
 }
 
 // A literal, capped, with the index of its first byte and the position after it; or literal 0 and the index after it.

@@ -1,8 +1,11 @@
 -- One pass over an answer: after each literal the answer so far, and the buffer.
 --   next_put                     what `put_next_value` answers where each literal before was assigned
+--   next_kept                    and where one was not
 --   pass_goes, pass_ends         one literal more; no more literals
 --   read_model, read_none        the outcome and the buffer by the status
 --   read_formed                  the same of an answer of the form, whose literals begin at e
+--   read_counted, read_faulty    what is answered of an answer of the form, and of one that is refused
+--   model_read, fault_read       what that says of the form
 -- Assumes nothing.
 use Prim.Native.Nat.{ℕ, ◌≤◌}
 use mathlib.Core.Path.{◌≡◌, refl, sym, ◌∙◌, ap}
@@ -15,8 +18,9 @@ use Rattle.std.specs.Prelude.{Ok, Err}
 use Rattle.answer_reader.specs.declared.AnswerFault.{AnswerFault}
 use Rattle.answer_reader.specs.Results.{Formed, malformed, found_for, form_for, form_of}
 use Rattle.answer_reader.proofs.Given.{found_satisfiable}
-use Rattle.answer_bytes.specs.Bytes.{put_outcome, put_bytes, number_value, Assigned, assigned_for}
-use Rattle.answer_values.specs.Assign.{literals_from, assigned_of, assigned_bytes, next_answer, next_bytes, outcome_by, read_outcome, bytes_by, read_bytes}
+use Rattle.answer_bytes.specs.declared.AssignFault.{AssignFault}
+use Rattle.answer_bytes.specs.Bytes.{Outcome, put_outcome, put_bytes, number_value, Assigned, assigned_for}
+use Rattle.answer_values.specs.Assign.{literals_from, assigned_of, assigned_bytes, next_answer, next_bytes, outcome_by, read_outcome, bytes_by, read_bytes, ValuesRead, values_read, answer_read}
 use Rattle.answer_values.proofs.Taking.{Took, assign_goes, assign_stops}
 
 -- ---- one literal
@@ -28,6 +32,9 @@ next_put o e n f x z s b c r w = (
   w.0 ∙ ap (λ (y : ℤ). assigned_for (put_outcome n (nat_abs y) f b)) s ∙ sym (ap (λ (a : Assigned). next_answer a (put_outcome n (nat_abs x) f b)) e),
   w.1 ∙ ap (λ (y : ℤ). put_bytes n (nat_abs y) (number_value y) b) s ∙ sym (ap (λ (a : Assigned). next_bytes a (put_bytes n (nat_abs x) (number_value x) b) b) e),
 )
+
+pub next_kept : (o : Assigned) {f : AssignFault} → o ≡ Err f → (p : Outcome) (b c : List ℕ) → (Err f ≡ next_answer o p) × (b ≡ next_bytes o c b)
+next_kept o e p b c = (sym (ap (λ (a : Assigned). next_answer a p) e), sym (ap (λ (a : Assigned). next_bytes a c b) e))
 
 -- ---- one literal after the other
 
@@ -105,3 +112,22 @@ module _ (t : List ℕ) (e : ℕ) where
       → (read_outcome n t b ≡ assigned_of n (literals_from t e) b) × (read_bytes n t b ≡ assigned_bytes n (literals_from t e) b)
   unfolding form_of read_outcome read_bytes
   read_formed q n b = let s = status_is (status_of t) q in (ap (outcome_by n t b) s, ap (bytes_by n t b) s)
+
+-- ---- what is answered
+
+-- f is the form, o how the literals were assigned; k variables have no value
+module _ {f : Formed} (o : Assigned) (k : ℕ) where
+  pub read_counted : {e : ℕ} → Ok e ≡ f → {p : Assigned} → p ≡ o → {v : ValuesRead} → v ≡ values_read p k → Ok v ≡ answer_read f (values_read o k)
+  read_counted q i r = ap Ok (r ∙ ap (λ (a : Assigned). values_read a k) i) ∙ ap (λ (g : Formed). answer_read g (values_read o k)) q
+
+  pub read_faulty : {y : AnswerFault} → Err y ≡ f → Err y ≡ answer_read f (values_read o k)
+  read_faulty q = ap (λ (g : Formed). answer_read g (values_read o k)) q
+
+pub fault_read : {f : Formed} (v : ValuesRead) {y : AnswerFault} → answer_read f v ≡ Err y → f ≡ Err y
+fault_read {f = Ok e} v q = cc
+fault_read {f = Err y} v q = cc
+
+-- an answer of the form, whose status line ends at e
+pub model_read : {f : Formed} {v w : ValuesRead} → answer_read f v ≡ Ok w → (e : ℕ) × (f ≡ Ok e) × (v ≡ w)
+model_read {f = Ok e} q = (e, refl, cc)
+model_read {f = Err y} q = absurd (cc)

@@ -4,6 +4,7 @@
 --   Fit n xs j, AllFit n xs      the literal at place j is of a variable up to n that no literal before it names; each literal is
 --   StrayAt n xs s               the first literal that is not fit is of a variable above n, and its first byte is at s
 --   RepeatedAt n xs s            it is of a variable up to n that a literal before it names, and its first byte is at s
+--   filled_none                  no buffer, filled
 --   Meant n xs o, meant, meant_unique      what an outcome means; `assigned_of` gives one that is so, and only one is
 --   assigned_stray, stray_assigned         the outcome is stray at s just where `StrayAt n xs s`
 --   assigned_repeated, repeated_assigned   it is repeated at s just where `RepeatedAt n xs s`
@@ -19,7 +20,7 @@ use native.Mathlib.Omega.{arith}
 use mathlib.Core.Path.{◌≡◌, refl, sym, ◌∙◌, ap, subst}
 use mathlib.Core.Logic.{◌⊎◌, inl, inr, ⊎_elim}
 use mathlib.Core.Bool.{Bool, true, false, So, cond, false≢true}
-use mathlib.Core.List.{List}
+use mathlib.Core.List.{List, [], ◌++◌, append-nil}
 use lib.Dec.{eqb}
 use lib.ListN.{length, get_or, drop, replicate, length-append, length-replicate, get_or-replicate, get_or-append}
 use borrow.Author.Tests.{eq-eqb, ne_eqb, eqb-true}
@@ -95,6 +96,15 @@ module _ (n : ℕ) (xs : List Spotted) where
 
 none : ℕ → Bool
 none v = false
+
+-- no buffer, filled
+drop_none : (n : ℕ) → drop {A = ℕ} n [] ≡ []
+drop_none zero = refl
+drop_none (suc n) = refl
+
+pub filled_none : (n x : ℕ) → overwritten n x [] ≡ replicate n x
+unfolding overwritten
+filled_none n x = ap (λ (b : List ℕ). replicate n x ++ b) (drop_none n) ∙ append-nil (replicate n x)
 
 filled_byte : (n : ℕ) (b : List ℕ) (v : ℕ) → 0 < v → v ≤ n → get_or (overwritten n 2 b) (v - 1) 0 ≡ 2
 unfolding overwritten

@@ -12,15 +12,20 @@
 --   PassesNext a t n p b q c   after the code's answer a, literals of t from position p up to q are passed over and the buffer b becomes c
 --   read_outcome n t b    the outcome of the literals of the whole answer t, done if its status is not SATISFIABLE
 --   read_bytes n t b      the buffer at that moment
---   assumed_by f o k      how many variables are read as false, where k have no value: k if the form f is that of a model and o says that each literal is
---                         assigned, and 0 of an answer that is refused
+--   ValuesRead            how the literals of an answer of the form were assigned: how many variables none of them names, or the fault of the first that is
+--                         not assigned
+--   AnswerRead            the same of any answer, or why it offers no model
+--   values_read o k       by the code's answer o, where k variables have no value
+--   answer_read f v       by the form f, and v if it is that of a model
 -- Assumes nothing.
-use Rattle.std.specs.Prelude.{ℕ, zero, suc, ◌<◌, ◌≡◌, Bool, cond, List, [], ◌∷◌, eqb, length, get_or, Ok, Err}
+use Rattle.std.specs.Prelude.{ℕ, zero, suc, ◌<◌, ◌≡◌, Bool, cond, List, [], ◌∷◌, eqb, length, get_or, Result, Ok, Err}
 use Rattle.lists.specs.Lists.{any, sum}
 use Rattle.encoding.specs.Literal.{Literal, variable}
 use Literal.{var, −◌}
 use Rattle.answer_form.specs.Pieces.{Found, status_of, Next, next_literal, Spotted}
+use Rattle.answer_reader.specs.declared.AnswerFault.{AnswerFault}
 use Rattle.answer_reader.specs.Results.{Formed}
+use Rattle.answer_bytes.specs.declared.AssignFault.{AssignFault}
 use Rattle.answer_quick.specs.Quick.{Passes}
 use Rattle.answer_bytes.specs.Bytes.{Outcome, put_outcome, put_bytes, Assigned, assigned_for}
 
@@ -129,7 +134,18 @@ bytes_by n t b (Found.left s) = b
 unfoldable pub read_bytes : ℕ → List ℕ → List ℕ → List ℕ
 read_bytes n t b = bytes_by n t b (status_of t)
 
-abbrev pub assumed_by : Formed → Assigned → ℕ → ℕ
-assumed_by (Ok e) (Ok x) k = k
-assumed_by (Ok e) (Err f) k = 0
-assumed_by (Err g) o k = 0
+-- ---- what the code answers
+
+abbrev pub ValuesRead : Type 0
+ValuesRead = Result ℕ AssignFault
+
+abbrev pub AnswerRead : Type 0
+AnswerRead = Result ValuesRead AnswerFault
+
+abbrev pub values_read : Assigned → ℕ → ValuesRead
+values_read (Ok x) k = Ok k
+values_read (Err f) k = Err f
+
+abbrev pub answer_read : Formed → ValuesRead → AnswerRead
+answer_read (Ok e) v = Ok v
+answer_read (Err f) v = Err f

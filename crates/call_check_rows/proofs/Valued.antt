@@ -1,14 +1,13 @@
 -- The first false clause, for values as bytes.
 --   FirstFalse P A f  f is the first clause that is false under A, 0 if none is
 --   first_false       `code_first_false` gives it
---   filled_none       no buffer, filled
 -- Assumes nothing.
 use Prim.Native.Nat.{ℕ, zero, suc, pred, ◌≤◌, ◌<◌}
 use native.Mathlib.Omega.{arith}
-use mathlib.Core.Path.{◌≡◌, refl, sym, ◌∙◌, ap, subst}
+use mathlib.Core.Path.{◌≡◌, sym, ap, subst}
 use mathlib.Core.Bool.{Bool, false, not, So}
-use mathlib.Core.List.{List, [], ◌++◌, append-nil}
-use lib.ListN.{length, get_or, drop, replicate}
+use mathlib.Core.List.{List, []}
+use lib.ListN.{length, get_or}
 use borrow.Author.Tests.{not-true, not-false}
 use Rattle.lists.specs.Lists.{first}
 use Rattle.lists.proofs.First.{IsFirst, first_is}
@@ -18,7 +17,6 @@ use Rattle.encoding.specs.Width.{width}
 use Rattle.encoding.specs.Literal.{Assignment, Clause, value_of, clause_true}
 use Rattle.theory.proofs.Whole.{clauses_whole}
 use Rattle.answer_offers.specs.Offered.{value_bytes}
-use Rattle.answer_bytes.specs.Bytes.{overwritten}
 use Rattle.truth_clauses.specs.Truth.{value_in, code_first_false}
 use Rattle.call_results.proofs.ValueBytes.{values_same}
 use Rattle.call_check_rows.specs.Rows.{clause_of, clause_number}
@@ -61,13 +59,3 @@ first_false P bs =
         nowhere : f ≤ 0 → (j : ℕ) → 0 < j → j ≤ clause_number P → So (clause_true (value_in (value_bytes bs)) (clause_of P j))
         nowhere z zero p h = absurd (omega (arith, p))
         nowhere z (suc j) p h = not-false (clause_true (value_in (value_bytes bs)) (clause_of P (suc j))) (F.none_at_all (omega (arith, z)) j h)
-
--- ---- no buffer
-
-drop_none : (n : ℕ) → drop {A = ℕ} n [] ≡ []
-drop_none zero = refl
-drop_none (suc n) = refl
-
-pub filled_none : (n x : ℕ) → overwritten n x [] ≡ replicate n x
-unfolding overwritten
-filled_none n x = ap (λ (b : List ℕ). replicate n x ++ b) (drop_none n) ∙ append-nil (replicate n x)

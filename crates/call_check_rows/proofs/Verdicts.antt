@@ -38,10 +38,10 @@ use Rattle.answer_form.specs.Pieces.{Spotted, status_end}
 use Rattle.answer_reader.specs.declared.AnswerFault.TheVariants.{NoModel, Malformed as FormMalformed}
 use Rattle.answer_reader.specs.Results.{Formed, form_of}
 use Rattle.answer_reader.proofs.Promised.{form_malformed, malformed_form, form_none, none_form}
-use Rattle.answer_bytes.specs.Bytes.{Assigned, Outcome, unset_count, completed}
+use Rattle.answer_bytes.specs.Bytes.{Outcome, unset_count, completed}
 use Rattle.answer_values.specs.Assign.{literals_from, variable_at, spot_at, assigned_of, assigned_bytes}
 use Rattle.answer_values.specs.Rows.{Fit, AllFit, StrayAt, RepeatedAt}
-use Rattle.answer_values.proofs.Rows.{Meant, meant, unset_unnamed}
+use Rattle.answer_values.proofs.Rows.{filled_none, Meant, meant, unset_unnamed}
 use Rattle.answer_offers.specs.Offered.{value_bytes, values_of}
 use Rattle.answer_offers.proofs.Values.{values_alone}
 use Rattle.truth_clauses.specs.Truth.{code_first_false}
@@ -56,7 +56,7 @@ use Rattle.call_check_rows.specs.Rows.{Offers, values_in, assumed_number, levels
 use Rattle.call_check_rows.proofs.Rows.{judged_16, judged_none}
 use Rattle.call_check_rows.proofs.Spots.{offers_unique, spots_ascend, offers_named, offers_form, form_offers}
 use Rattle.call_results.proofs.ValueBytes.{count_same, counters_same, levels_same}
-use Rattle.call_check_rows.proofs.Valued.{FirstFalse, first_false, filled_none}
+use Rattle.call_check_rows.proofs.Valued.{FirstFalse, first_false}
 use Rattle.reader.specs.Verdict.{ReadVerdict}
 use Rattle.reader.specs.declared.ReadResult.{ReadResult}
 use Rattle.std.specs.Prelude.{Err, Ok}

@@ -3,7 +3,7 @@
 --   zeroes r                 refusals 13, 14 and 16 zero the assignment
 --   values_judged G c bs     row 16, for the values bs, c of which are assumed
 --   completed_result G bs    the same, for the values bs, completed: a variable that has none has 2
---   outcome_of o             the outcome that the code's answer o says
+--   read_judged G v bs       rows 13 and 14, by how the literals were assigned, v, then row 16, for the values bs
 --   after_assigning o x      rows 13 and 14, by the outcome o of assigning, then x
 --   assigned_result G t e    the same, for the literals of t from position e on, then these for their values, completed
 --   form_result G t f        rows 11 and 12, by the form f of t, then these
@@ -20,9 +20,9 @@ use Rattle.text.specs.Limits.{max_text}
 use Rattle.reader.specs.Verdict.{read_of}
 use Rattle.answer_reader.specs.declared.AnswerFault.TheVariants.{NoModel, Malformed}
 use Rattle.answer_reader.specs.Results.{Formed, form_of}
-use Rattle.answer_bytes.specs.declared.AssignFault.TheVariants.{Stray, Repeated}
-use Rattle.answer_bytes.specs.Bytes.{Assigned, Outcome, unset_count, completed}
-use Rattle.answer_values.specs.Assign.{literals_from, assigned_of, assigned_bytes}
+use Rattle.answer_bytes.specs.Bytes.{Outcome, unset_count, completed}
+use Rattle.answer_bytes.specs.Refusals.{refusal_of}
+use Rattle.answer_values.specs.Assign.{literals_from, assigned_of, assigned_bytes, ValuesRead}
 use Rattle.truth_clauses.specs.Truth.{code_first_false}
 use Rattle.call_results.specs.Results.{Called, called, Result, true_count, level_byte, counters, assignment_after, levels_after, var_total, program_read}
 use Rattle.refusals.specs.declared.CheckRefusal.{CheckRefusal}
@@ -56,10 +56,9 @@ values_judged G c bs =
 abbrev pub completed_result : Code → List ℕ → Result CheckRefusal
 completed_result G bs = values_judged G (unset_count (variables_of G) bs) (completed bs)
 
-abbrev pub outcome_of : Assigned → Outcome
-outcome_of (Ok u) = Outcome.done
-outcome_of (Err (Stray s)) = Outcome.stray s
-outcome_of (Err (Repeated s)) = Outcome.repeated s
+abbrev pub read_judged : Code → ValuesRead → List ℕ → Result CheckRefusal
+read_judged G (Ok c) bs = values_judged G c bs
+read_judged G (Err f) bs = check_refused (refusal_of f)
 
 abbrev pub after_assigning : Outcome → Result CheckRefusal → Result CheckRefusal
 after_assigning Outcome.done x = x

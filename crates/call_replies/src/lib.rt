@@ -12,6 +12,7 @@ use clause_tables::Totals;
 use refusals::Refusal;
 
 // The row's number and the spot of a refusal, both 0 for acceptance; and the numbers that an accepted call gives, 0 where it gives none.
+// Kept as numbers: it is the C interface's struct.
 #[repr(C)]
 #[derive(Clone, Copy)]
 pub struct Reply {

@@ -1,25 +1,28 @@
 -- Counters and counts, one bit or atom at a time.
 --   part_true, part_false          what a variable adds
---   bit_is                         a truth value as a number
 --   level_within                   the variables of an atom's counter have a byte
 --   Counted, counted_more          the counter of the first i bits, with the next power of 2; of one bit more
 --   counted_one, counted_no        of one bit more that is 1, or 0
 --   tabled_more                    a table written into a buffer, one entry more
---   true_more, highest_more        the number of true atoms, and the highest level, with one atom more
+--   count_is, fold_is              the number of true atoms, and the highest level, as code counts
+--   count_taken, highest_taken  of the first n bytes they are those of the atoms 1 to n of the longer list
 -- Assumes nothing.
 use Prim.Native.Nat.{ℕ, zero, suc, ◌+◌, ◌*◌, ◌^◌, ◌≤◌, ◌<◌, max}
 use native.Mathlib.Nat.{add-zero, le_antisymm, mul-le-mul_right, pow-succ'}
 use native.Mathlib.Numerals.{add-one}
 use native.Mathlib.Omega.{arith}
-use mathlib.Core.Path.{◌≡◌, refl, sym, ◌∙◌, ap, ap₂, subst}
-use mathlib.Core.Bool.{Bool, true, false, cond}
+use mathlib.Core.Path.{◌≡◌, refl, sym, ◌∙◌, ap, subst}
+use mathlib.Core.Bool.{Bool, true, false, not, cond}
+use lib.Dec.{eqb}
 use mathlib.Core.List.{List, [], ◌∷◌, ◌++◌, append_assoc}
-use mir.Val.{bool_byte}
-use lib.ListN.{length, get_or, set, drop}
+use lib.ListN.{length, get_or, set, take, drop}
 use lib.Pow.{pow_mono}
-use lib.Seq.{drop-cons, set_at}
-use Rattle.lists.specs.Lists.{tab, highest}
-use Rattle.lists.proofs.Tables.{length_tab}
+use lib.Seq.{drop-cons, set_at, length-take-le, get_or-take}
+use Rattle.std.specs.List.{fold, count_by}
+use Rattle.std.proofs.lemmas.List.Sums.{sum_by-cons}
+use Rattle.lists.specs.Lists.{tab, sum, highest}
+use Rattle.lists.proofs.Tables.{length_tab, sum_ext}
+use Rattle.lists.proofs.Highest.{highest_same}
 use Rattle.encoding.specs.Variables.{Sizes, level_var}
 use Rattle.encoding.specs.Counter.{value}
 use Rattle.theory.proofs.Bits.{value_lt}
@@ -38,11 +41,6 @@ module _ {d : Bool} (x : Bool) (p : ℕ) (e : d ≡ x) where
 part_small : (x : Bool) (p : ℕ) → cond x p 0 ≤ p
 part_small true p = omega arith
 part_small false p = omega arith
-
--- a truth value as a number
-pub bit_is : (x : Bool) → bool_byte x ≡ cond x 1 0
-bit_is true = refl
-bit_is false = refl
 
 -- ---- a counter
 
@@ -106,27 +104,45 @@ tabled_more f b c i h e {x} q =
 
 -- ---- the two numbers
 
-pub true_none : (bs : List ℕ) → 0 ≡ true_count 0 bs
+-- the first term in front
+sum_front : (n : ℕ) (f : ℕ → ℕ) → sum (suc n) f ≡ f 1 + sum n (λ i. f (suc i))
+sum_front zero f = omega arith
+sum_front (suc n) f = omega (arith, sum_front n f)
+
+highest_front : (n : ℕ) (f : ℕ → ℕ) → highest (suc n) f ≡ max (f 1) (highest n (λ i. f (suc i)))
+highest_front zero f = omega arith
+highest_front (suc n) f = omega (arith, highest_front n f)
+
+pub count_is : (bs : List ℕ) → count_by (λ b. not (eqb b 0)) bs ≡ true_count (length bs) bs
 unfolding true_count
-true_none bs = refl
+count_is [] = refl
+count_is (b ∷ bs) =
+    sum_by-cons (λ x. cond (not (eqb x 0)) 1 0) b bs
+    ∙ ap (λ (k : ℕ). cond (not (eqb b 0)) 1 0 + k) (count_is bs ∙ sum_ext (length bs) _ _ (λ i h. refl))
+    ∙ sym (sum_front (length bs) (λ a. cond (value_in (b ∷ bs) a) 1 0))
 
-pub true_more : (bs : List ℕ) (a : ℕ) {k d : ℕ} → k ≡ true_count a bs → {v : ℕ} → v ≡ a + 1 → d ≡ cond (value_in bs v) 1 0 → k + d ≡ true_count (a + 1) bs
+fold_from : (x : ℕ) (ls : List ℕ) → fold (λ a y. max a y) x ls ≡ max x (highest (length ls) (level_byte ls))
+fold_from x [] = omega arith
+fold_from x (y ∷ ls) =
+    fold_from (max x y) ls
+    ∙ omega (arith, highest_front (length ls) (level_byte (y ∷ ls)), highest_same (length ls) (λ i. level_byte (y ∷ ls) (suc i)) (level_byte ls) (λ i h. refl))
+
+pub fold_is : (ls : List ℕ) → fold (λ a y. max a y) 0 ls ≡ highest (length ls) (level_byte ls)
+fold_is ls = omega (arith, fold_from 0 ls)
+
+-- of the first n bytes
+pub count_taken : (n : ℕ) (bs : List ℕ) {m : ℕ} → m ≡ n → n ≤ length bs → true_count (length (take m bs)) (take m bs) ≡ true_count n bs
 unfolding true_count
-true_more bs a {k} {d} e p q =
-    ap (λ (x : ℕ). x + d) e ∙ ap (λ (x : ℕ). true_count a bs + x) (q ∙ ap (λ (i : ℕ). cond (value_in bs i) 1 0) (p ∙ add-one a)) ∙ ap (λ (i : ℕ). true_count i bs) (sym (add-one a))
+count_taken n bs e h =
+    ap (λ (m : ℕ). true_count (length (take m bs)) (take m bs)) e
+    ∙ ap (λ (k : ℕ). true_count k (take n bs)) (length-take-le n bs h)
+    ∙ sum_ext n _ _ (λ i l. ap (λ (b : ℕ). cond (not (eqb b 0)) 1 0) (get_or-take n bs i 0 l))
 
-pub one_at_most : (x : Bool) {d : ℕ} → d ≡ cond x 1 0 → d ≤ 1
-one_at_most x e = subst (λ (y : ℕ). y ≤ 1) (sym e) (part_small x 1)
-
-pub highest_more : (ls : List ℕ) (a : ℕ) {x y z : ℕ} → x ≡ highest a (level_byte ls) → z ≡ level_byte ls (a + 1) → y ≡ max x z → y ≡ highest (a + 1) (level_byte ls)
-highest_more ls a e f q =
-    q ∙ ap₂ max e (f ∙ ap (level_byte ls) (add-one a)) ∙ ap (λ (i : ℕ). highest i (level_byte ls)) (sym (add-one a))
-
-pub highest_all : (ls : List ℕ) (a n : ℕ) {x : ℕ} → x ≡ highest a (level_byte ls) → a ≤ n → n ≤ a → x ≡ highest n (level_byte ls)
-highest_all ls a n e h g = e ∙ ap (λ (i : ℕ). highest i (level_byte ls)) (le_antisymm h g)
-
-pub true_all : (bs : List ℕ) (a n : ℕ) {k : ℕ} → k ≡ true_count a bs → a ≤ n → n ≤ a → k ≡ true_count n bs
-true_all bs a n e h g = e ∙ ap (λ (i : ℕ). true_count i bs) (le_antisymm h g)
+pub highest_taken : (n : ℕ) (ls : List ℕ) {m : ℕ} → m ≡ n → n ≤ length ls → highest (length (take m ls)) (level_byte (take m ls)) ≡ highest n (level_byte ls)
+highest_taken n ls e h =
+    ap (λ (m : ℕ). highest (length (take m ls)) (level_byte (take m ls))) e
+    ∙ ap (λ (k : ℕ). highest k (level_byte (take n ls))) (length-take-le n ls h)
+    ∙ highest_same n (level_byte (take n ls)) (level_byte ls) (λ i l. get_or-take n ls i 0 l)
 
 pub tabled_all : (f : ℕ → ℕ) (b c : List ℕ) (i n : ℕ) → c ≡ tab i f ++ drop i b → i ≤ n → n ≤ i → c ≡ tab n f ++ drop n b
 tabled_all f b c i n e h g = e ∙ ap (λ (k : ℕ). tab k f ++ drop k b) (le_antisymm h g)

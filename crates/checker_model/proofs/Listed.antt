@@ -1,11 +1,9 @@
 -- The text of a list of numbers, number by number.
 --   numbers_more    one number more at the end
 --   listed p f n    f of the numbers from 1 to n that pass p; its text as code writes it
---   wrote_next, next_start, next_room, next_sum    the next number, after those before it, where there is room for all
---   listed_all, listed_kept    all of them, and the length of the buffer
+--   wrote_next, next_start, next_room    the next number, after those before it, where there is room for all
 --   listed_small    how many bytes numbers of at most k digits are
 --   levels_are      the levels of the true atoms
---   level_is        the level of an atom, as code reads it
 -- Assumes nothing.
 use Prim.Native.Nat.{ℕ, zero, suc, ◌+◌, ◌*◌, ◌-◌, ◌≤◌, ◌<◌}
 use native.Mathlib.Nat.{le_antisymm, eq-or-lt_of_le, le_of_suc-le-suc, suc-mul}
@@ -15,19 +13,17 @@ use mathlib.Core.Path.{◌≡◌, sym, ◌∙◌, ap, subst}
 use mathlib.Core.Logic.{⊎_elim}
 use mathlib.Core.Bool.{Bool, true, false, cond}
 use mathlib.Core.List.{List, [], ◌∷◌, ◌++◌, append-nil, append_assoc}
-use lib.ListN.{length, get_or, take, drop, length-append}
-use Rattle.lists.specs.Lists.{each}
+use lib.ListN.{length, take, drop, length-append}
 use Rattle.text.specs.Decimal.{decimal}
 use Rattle.digits.proofs.Lengths.{decimal_some}
 use Rattle.digits.specs.Bytes.{Room, Wrote}
-use Rattle.digits.proofs.Wrote.{room_as, wrote_as, wrote_kept, wrote_after, after_start, after_room, after_sum}
+use Rattle.digits.proofs.Wrote.{room_as, wrote_as, wrote_after, after_start, after_room}
 use borrow.Rule.Slice.PartMut.{put_mid}
-use Rattle.clause_literals.proofs.Products.{one_before}
 use Rattle.clause_walk.proofs.Tabs.{map_select}
-use Rattle.truth_clauses.specs.Truth.{value_in}
-use Rattle.call_results.specs.Results.{level_byte}
+use Rattle.truth_literals.specs.Values.{value_in}
+use Rattle.level_lists.specs.Bytes.{level_byte}
 use Rattle.checker_model.proofs.Next.{next_some}
-use Rattle.checker_model.specs.Model.{spaced_numbers, numbers_text, levels_text, listed_text, shown_text}
+use Rattle.checker_model.specs.Model.{chosen, spaced_numbers, numbers_text, levels_text, listed_text, shown_text}
 
 spaced_more : (xs : List ℕ) (x : ℕ) → spaced_numbers (xs ++ (x ∷ [])) ≡ spaced_numbers xs ++ (32 ∷ decimal x)
 spaced_more [] x = append-nil (32 ∷ decimal x)
@@ -42,7 +38,7 @@ numbers_more (y ∷ ys) x =
 
 module _ (p : ℕ → Bool) (f : ℕ → ℕ) where
   abbrev pub listed : ℕ → List ℕ
-  listed n = each n (λ a. cond (p a) (f a ∷ []) [])
+  listed n = chosen p f n
 
   listed_suc : (n : ℕ) → numbers_text (listed (suc n)) ≡ numbers_text (listed n) ++ shown_text (p (suc n)) (length (numbers_text (listed n))) (f (suc n))
   listed_suc n = go (p (suc n))
@@ -84,9 +80,6 @@ module _ (p : ℕ → Bool) (f : ℕ → ℕ) where
       pub next_room : Room (shown_text s to x) (take (length e - to) (drop to e))
       next_room = after_room W (shown_text s to x) fits
 
-      pub next_sum : {r : ℕ} → r ≡ length (shown_text s to x) → to + r ≤ length b
-      next_sum = after_sum W (shown_text s to x) fits
-
   shown_small : (b : Bool) (k to x : ℕ) → length (decimal x) ≤ k → length (shown_text b to x) ≤ k + 1
   shown_small true k zero x h = omega (arith, h)
   shown_small true k (suc to) x h = omega (arith, h)
@@ -104,17 +97,6 @@ module _ (p : ℕ → Bool) (f : ℕ → ℕ) where
         suc-mul n (k + 1),
       )
 
-  -- all numbers have been written
-  module _ {a n to : ℕ} {b e : List ℕ} (h : a ≤ n) (W : Wrote (numbers_text (listed a)) b e to) where
-    pub listed_all : n ≤ a → Wrote (numbers_text (listed n)) b e to
-    listed_all l = wrote_as (ap (λ (k : ℕ). numbers_text (listed k)) (le_antisymm h l)) W
-
-    pub listed_kept : Room (numbers_text (listed n)) b → length e ≡ length b
-    listed_kept f = wrote_kept W (omega (arith, listed_mono a n h, f))
-
 -- the levels of the true atoms
 pub levels_are : (ls bs : List ℕ) (n : ℕ) → numbers_text (listed (value_in bs) (level_byte ls) n) ≡ levels_text n bs ls
 levels_are ls bs n = ap numbers_text (sym (map_select (level_byte ls) n (value_in bs)))
-
-pub level_is : (ls : List ℕ) (a : ℕ) {x : ℕ} → x ≡ a → get_or ls (x - 1) 0 ≡ level_byte ls a
-level_is ls a e = ap (λ (x : ℕ). get_or ls (x - 1) 0) e ∙ ap (λ (i : ℕ). get_or ls i 0) (one_before a)

@@ -26,6 +26,7 @@ use Rattle.clause_table_laws.proofs.Cells.{told}
 use Rattle.reader.proofs.Counted.{counted_whole}
 use Rattle.call_results.specs.Results.{program_read}
 use Rattle.call_check_rows.specs.Check.{check_after_reading, check_result, call_result, check_verdict_of, CheckGives}
+use Rattle.encoding.specs.Variables.{Sizes}
 use Rattle.checker_model.specs.Model.{shown_model}
 use Rattle.checker_output.specs.Output.{checker_refusal_line, checker_verdict_text, result_text, checked_text, checker_output_of, checker_output, checker_text}
 use Rattle.reader.specs.Verdict.{ReadVerdict}
@@ -34,12 +35,12 @@ use Rattle.std.specs.Prelude.{Err, Ok}
 use Rattle.call_check_rows.specs.Verdict.{CheckVerdict, model_shown}
 
 -- the number of atoms of the program of a table
-module _ {tb : List ℕ} {t : Totals} (r : Ready tb) (e : t ≡ totals_in tb) where
-  pub atoms_shown : t.sizes.n ≡ (code_in tb).n
+module _ {tb : List ℕ} {s : Sizes} {t : Totals} (r : Ready tb) (p : s ≡ t.sizes) (e : t ≡ totals_in tb) where
+  pub atoms_shown : s.n ≡ (code_in tb).n
   unfolding totals_of
-  atoms_shown = ap (λ (t : Totals). t.sizes.n) (told r e).totals_are
+  atoms_shown = ap (λ (s : Sizes). s.n) p ∙ ap (λ (t : Totals). t.sizes.n) (told r e).totals_are
 
-  pub few_shown : t.sizes.n ≤ 126
+  pub few_shown : s.n ≤ 126
   few_shown = subst (λ (n : ℕ). n ≤ 126) (sym atoms_shown) r.limits.within.few_atoms
 
 -- v, bs and ls are what the check of the answer t of k bytes gives and leaves, with buffers of zeros

@@ -4,14 +4,14 @@
 
 ghost use Rattle.std.specs.Prelude.{◌≤◌, ◌≡◌, Err, length};
 ghost use Rattle.digits.specs.Bytes.{Wrote};
-ghost use Rattle.clause_tables.specs.Tables.{Ready, code_in};
 ghost use Rattle.checker_output.specs.Output.{checker_refusal_line, checked_text, checker_output};
+ghost use Rattle.clause_cells.specs.Held.{table_code};
 
 use call_check::check_in;
 use call_check_rows::CheckVerdict;
 use call_table::load_counted;
-use checker_model::put_shown_model;
-use clause_cells::totals;
+use checker_model::ModelBytes;
+use clause_cells::Table;
 use clause_tables::CELLS;
 use files::read_file;
 use fixed_lines::put_refusal;
@@ -29,18 +29,23 @@ fn put_refused(verdict: CheckVerdict, out: &mut [u8]) -> usize
 }
 
 // Writes the checker's lines for the program of a table at the front of the buffer and returns how many bytes they are.
-fn put_checked<'a>(table: &'a [u16], answer: &'a [u8], total: usize, out: &mut [u8]) -> usize
-    requires { (Ready table.now) × (1131 ≤ length out.old) }
-    ensures { Wrote (checked_text (code_in table.now) answer.now total) out.old out.new result }
+fn put_checked<'a>(table: Table<'a>, answer: &'a [u8], total: usize, out: &mut [u8]) -> usize
+    requires { 1131 ≤ length out.old }
+    ensures { Wrote (checked_text (table_code table.entry) answer.now total) out.old out.new result }
 {
     let mut assignment = [0u8; 9890];
     let mut levels = [0u8; 126];
-    let n = totals(table).sizes.n;
+    let s = table.totals().sizes;
     let verdict = check_in(table, answer, total, &mut assignment, &mut levels);
     let Ok(shown) = verdict else {
         return put_refused(verdict, out);
     };
-    put_shown_model(n, shown.assumed, &assignment, &levels, out)
+    let n = usize::from(s.n);
+    let model = ModelBytes {
+        atoms: &assignment[..n],
+        levels: &levels[..n],
+    };
+    model.put_shown_model(shown.assumed, out)
 }
 
 // Writes the checker's lines for a program text of `size` bytes and an answer of `total`; of those that are not overlong, `text` and `answer` are all.
@@ -48,9 +53,9 @@ pub fn put_output(text: &[u8], size: usize, answer: &[u8], total: usize, out: &m
     requires { 1131 ≤ length out.old }
     ensures { Wrote (checker_output text.now size answer.now total) out.old out.new result }
 {
-    let mut table = [0u16; CELLS];
-    match load_counted(text, size, &mut table) {
-        Ok(()) => put_checked(&table, answer, total, out),
+    let mut cells = [0u16; CELLS];
+    match load_counted(text, size, &mut cells) {
+        Ok(()) => put_checked(Table { cells: &cells }, answer, total, out),
         Err(refusal) => put_refused(Err(CheckRefusal::Text(refusal)), out),
     }
 }

@@ -1,4 +1,4 @@
 -- Bits: the lines of whole bits of chains
--- Opposites: the lines from literals and their opposites
+-- Opposites: the lines of a first bit from literals and their opposites
 pub mod Bits
 pub mod Opposites

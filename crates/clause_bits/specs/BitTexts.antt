@@ -13,7 +13,8 @@ use Rattle.encoding.specs.Literal.{Literal, Clause}
 use Rattle.digits.specs.Bytes.{line_text}
 use Rattle.clause_walk.specs.Walk.{chain_size, chain_slots, chain_slot}
 use Rattle.clause_chains.specs.declared.Chain.{Chain}
-use Rattle.clause_numerals.specs.Numerals.{Short, opposed}
+use Rattle.clause_numerals.specs.Numbered.{Short}
+use Rattle.clause_numerals.specs.Numerals.{opposed}
 
 unfoldable pub starts_text : Literal → Literal → Literal → List ℕ
 starts_text p x y = line_text (p ∷ x ∷ []) ++ line_text (p ∷ y ∷ [])

@@ -15,7 +15,7 @@ use Rattle.lists.specs.Lists.{each}
 use Rattle.lists.proofs.Tables.{each_ext}
 use Rattle.encoding.specs.Code.{Code}
 use Rattle.encoding.specs.Literal.{Literal, variable}
-use Rattle.clause_literals.specs.Sizes.{sizes_of, Bounded}
+use Rattle.clause_literals.specs.Sizes.{Bounded}
 use Rattle.digits.specs.Bytes.{line_text}
 use Rattle.digits.proofs.Wrote.{room_as}
 use Rattle.clause_walk.specs.Walk.{size, slots, slot, clause_at, slots4, slot4, chain_size, chain_slots, chain_slot, chain_first, chain_next, chain_bit, BlockAt, At}
@@ -27,7 +27,7 @@ use Rattle.clause_layout.specs.BlockChain.{chain_of_block}
 use Rattle.clause_layout.proofs.BlockChains.{slot_chain}
 use Rattle.clause_layout.proofs.Groups.{bounded, atom4, bits4, size_next, size_pair, slots_next, slots_pair, slot_next}
 use Rattle.clause_text.specs.Blocks.{block_text}
-use Rattle.clause_numerals.specs.Numerals.{Short}
+use Rattle.clause_numerals.specs.Numbered.{Short}
 use Rattle.clause_bits.specs.BitTexts.{chain_clause, bit_text, ShortBit}
 use Rattle.clause_blocks.specs.Texts.{next_block_text}
 use Rattle.clause_blocks.proofs.NextBlocks.{next_clause, next_blocks}
@@ -113,22 +113,22 @@ module _ {G : Code} {t : Totals} {hs ss bs ks xs ys : List ℕ} (T : Tabled G t 
 
     -- ---- group 4
 
-    next_clause_lem : (y : ℕ) → At G g a i y → g ≡ 4 → next_clause (sizes_of t.sizes) a i y ≡ clause_at G g a i y
+    next_clause_lem : (y : ℕ) → At G g a i y → g ≡ 4 → next_clause t.sizes a i y ≡ clause_at G g a i y
     next_clause_lem y A e =
-        each_ext (slots4 i y) (λ l. (slot4 (sizes_of t.sizes) a i y l ∷ [])) (slot G g a i y)
+        each_ext (slots4 i y) (λ l. (slot4 t.sizes a i y l ∷ [])) (slot G g a i y)
         (λ l h. sym (slot_next T A (suc l) e))
         ∙ ap (λ (n : ℕ). each n (slot G g a i y)) many
       where
         many : slots4 i y ≡ slots G g a i y
         many = slots_next T A e refl
 
-    pub next_block : g ≡ 4 → next_block_text (sizes_of t.sizes) a i ≡ block_text G g a i
+    pub next_block : g ≡ 4 → next_block_text t.sizes a i ≡ block_text G g a i
     next_block e =
-        sym (next_blocks (sizes_of t.sizes) a i R.block_some)
-        ∙ each_ext (2 * i) (λ y. line_text (next_clause (sizes_of t.sizes) a i y)) (λ y. line_text (clause_at G g a i y))
+        sym (next_blocks t.sizes a i R.block_some)
+        ∙ each_ext (2 * i) (λ y. line_text (next_clause t.sizes a i y)) (λ y. line_text (clause_at G g a i y))
         (λ y h. ap line_text (next_clause_lem (suc y) (clause_at_lem y (subst (λ (n : ℕ). y < n) (size_next T R e) h)) e))
         ∙ ap (λ (n : ℕ). each n (λ y. line_text (clause_at G g a i y))) (size_next T R e)
 
     pub next_block_asks : {n : ℕ} → g ≡ 4 → length (block_text G g a i) ≤ n
-        → (Bounded t.sizes) × (0 < a) × (a ≤ 126) × (0 < i) × (i ≤ 7) × (length (next_block_text (sizes_of t.sizes) a i) ≤ n)
-    next_block_asks {n} e f = (bounded T, R.item_some, atom4 T R e, R.block_some, bits4 T R e, room_as (next_block e) f)
+        → (0 < a) × (a ≤ 126) × (0 < i) × (i ≤ 7) × (length (next_block_text t.sizes a i) ≤ n)
+    next_block_asks {n} e f = (R.item_some, atom4 T R e, R.block_some, bits4 T R e, room_as (next_block e) f)

@@ -17,25 +17,24 @@ use Rattle.lists.specs.Lists.{each}
 use Rattle.lists.proofs.Tables.{each_ext}
 use Rattle.encoding.specs.Literal.{Literal, Clause, var, −◌, literal_number}
 use Rattle.encoding.specs.Variables.{Sizes, level_var, next_var}
-use Rattle.clause_literals.specs.declared.Sizes.{Sizes as Held}
-use Rattle.clause_literals.specs.Sizes.{sizes_of, Bounded}
+use Rattle.clause_literals.specs.Sizes.{Bounded}
 use Rattle.clause_literals.proofs.Products.{one_before, atoms_fit}
 use Rattle.digits.specs.Bytes.{literal_text, literals_text, line_text}
 use Rattle.digits.proofs.Lengths.{literals_append}
 use Rattle.clause_walk.specs.Walk.{signed, three, bit_of, is_first, is_second, slots4, slot4}
-use Rattle.clause_numerals.specs.Numerals.{Short}
+use Rattle.clause_numerals.specs.Numbered.{Short}
 use Rattle.clause_blocks.specs.Texts.{lower_text, pair_text, pairs_text, long_text, longs_text, next_block_text}
 
 -- ---- the variables
 
-module _ (s : Held) (B : Bounded s) (a : ℕ) (h : a ≤ 126) where
+module _ (s : Sizes) (B : Bounded s) (a : ℕ) (h : a ≤ 126) where
   below : pred a * s.w ≤ 875
   below = mul-le-mul {n₂ = 125} {m₂ = 7} (omega (arith, h)) B.bits
 
-  pub level_short : (i : ℕ) → 0 < i → i ≤ 7 → Short (level_var (sizes_of s) a i)
+  pub level_short : (i : ℕ) → 0 < i → i ≤ 7 → Short (level_var s a i)
   level_short i p q = record { some = omega (arith, p); fits = omega (arith, q, below, B.atoms, B.rules) }
 
-  pub next_short : (i : ℕ) → 0 < i → i ≤ 7 → Short (next_var (sizes_of s) a i)
+  pub next_short : (i : ℕ) → 0 < i → i ≤ 7 → Short (next_var s a i)
   next_short i p q = record { some = omega (arith, p); fits = omega (arith, q, below, atoms_fit s B, B.atoms, B.rules) }
 
 -- ---- one clause

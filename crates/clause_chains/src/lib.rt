@@ -3,13 +3,10 @@
 
 ghost use Rattle.std.specs.Prelude.{◌+◌, ◌≤◌, ◌<◌, ◌≡◌};
 ghost use Rattle.encoding.specs.Literal.{literal_number};
-ghost use Rattle.clause_literals.specs.Sizes.{sizes_of, Bounded};
 ghost use Rattle.clause_walk.specs.Walk.{chain_first, chain_next, chain_slot, chain_size, chain_slots, chain_bit};
 ghost use Rattle.clause_chains.specs.Chain.{chain_of};
 
-use clause_literals::{
-    Sizes, below_var, level_var, literal, negated, next_below_var, next_var, of_three, of_two,
-};
+use clause_literals::{Sizes, literal, negated, of_three, of_two};
 use numbers::{Atom, Pair, Var};
 
 // The variables of a chain's bit: z, x and y, and g, which is z at the bit before.
@@ -22,26 +19,26 @@ pub struct Chain {
 }
 
 // Pair k of body atom b and head h: the chain's bit of block i.
-// Kept as two literals: they call different functions, and one helper would take all three of them beside the numbers.
+// Kept as two literals: z and g come of one function and x of another, so that one helper would take both as closures.
 pub fn chain_of(s: Sizes, k: Pair, b: Atom, h: Atom, i: u16) -> Chain
-    requires { (Bounded s) × (0 < k.0) × (k.0 ≤ 500) × (0 < b.0) × (b.0 ≤ 126) × (0 < h.0) × (h.0 ≤ 126) × (0 < i) × (i ≤ s.w + s.w) }
-    ensures { result ≡ chain_of (sizes_of s) k.0 b.0 h.0 i }
+    requires { (0 < k.0) × (k.0 ≤ 500) × (0 < b.0) × (b.0 ≤ 126) × (0 < h.0) × (h.0 ≤ 126) × (0 < i) × (i ≤ s.w + s.w) }
+    ensures { result ≡ chain_of s k.0 b.0 h.0 i }
 {
     let w = s.w;
     if i <= w {
         Chain {
-            z: below_var(s, k, i),
-            x: level_var(s, b, i),
-            y: level_var(s, h, i),
-            g: below_var(s, k, i - 1),
+            z: s.below_var(k, i),
+            x: s.level_var(b, i),
+            y: s.level_var(h, i),
+            g: s.below_var(k, i - 1),
         }
     } else {
         let j = i - w;
         Chain {
-            z: next_below_var(s, k, j),
-            x: next_var(s, b, j),
-            y: level_var(s, h, j),
-            g: next_below_var(s, k, j - 1),
+            z: s.next_below_var(k, j),
+            x: s.next_var(b, j),
+            y: s.level_var(h, j),
+            g: s.next_below_var(k, j - 1),
         }
     }
 }

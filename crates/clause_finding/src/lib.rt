@@ -3,15 +3,16 @@
 
 ghost use Rattle.std.specs.Prelude.{ℕ, ◌≤◌, ◌<◌, ◌≡◌, false};
 ghost use Rattle.lists.specs.Lists.{sum};
-ghost use Rattle.clause_walk.specs.Walk.{group_count, item_count, block_count, size as size_at, At};
-ghost use Rattle.clause_tables.specs.Tables.{Ready, code_in, clauses_in};
+ghost use Rattle.clause_walk.specs.Walk.{group_count, item_count, block_count, size, BlockAt};
+ghost use Rattle.clause_tables.specs.Tables.{clauses_in};
 ghost use Rattle.clause_places.specs.Places.{coordinates, place_at};
 ghost use Rattle.clause_finding.specs.Falls.{SizesBy, Falls};
 ghost use Rattle.clause_counts.specs.Counts.{item_size, group_size, is_fixed};
+ghost use Rattle.clause_cells.specs.Held.{table_code};
 
-use clause_cells::totals;
+use clause_cells::Table;
 use clause_counts::{atoms_size, fixed_size, group_size, is_fixed};
-use clause_layout::{GROUPS, block_count, items, size};
+use clause_layout::{GROUPS, TableBlock, TableClause, block_count, items};
 use clause_places::{Coordinates, Place, start};
 use numbers::Atom;
 
@@ -48,12 +49,13 @@ fn find_part<F: Fn(u16) -> usize>(n: u16, left: usize, size: F) -> PartFound
 }
 
 // The group with the clause after `left` others.
-fn find_group(table: &[u16], left: usize) -> PartFound
-    requires { (Ready table.now) × (left < clauses_in table.now) }
-    ensures { Falls group_count (group_size (code_in table.now)) left result }
+fn find_group(table: Table<'_>, left: usize) -> PartFound
+    requires { left < clauses_in table.cells.now }
+    ensures { Falls group_count (group_size (table_code table.entry)) left result }
 {
-    let t = totals(table);
-    let last = t.clauses - usize::from(t.sizes.n);
+    let t = table.totals();
+    let s = t.sizes;
+    let last = t.clauses - usize::from(s.n);
     if last <= left {
         return PartFound {
             number: GROUPS,
@@ -64,16 +66,17 @@ fn find_group(table: &[u16], left: usize) -> PartFound
 }
 
 // Group 2: the atom with the clause after `left` others of the group, by binary search: how many clauses the first atoms have is counted when it is asked.
-fn find_atom(table: &[u16], left: usize) -> PartFound
-    requires { (Ready table.now) × (left < group_size (code_in table.now) 2) }
-    ensures { Falls (item_count (code_in table.now) 2) (item_size (code_in table.now) 2) left result }
+fn find_atom(table: Table<'_>, left: usize) -> PartFound
+    requires { left < group_size (table_code table) 2 }
+    ensures { Falls (item_count (table_code table.entry) 2) (item_size (table_code table.entry) 2) left result }
 {
-    let t = totals(table);
+    let s = table.totals().sizes;
+    let m = s.m;
     let mut low: u16 = 0;
-    let mut high = t.sizes.n;
+    let mut high = s.n;
     while low + 1 < high {
         let middle = (low + high) / 2;
-        if left < atoms_size(table, t.sizes.m, Atom(middle)) {
+        if left < atoms_size(table, m, Atom(middle)) {
             high = middle;
         } else {
             low = middle;
@@ -81,27 +84,40 @@ fn find_atom(table: &[u16], left: usize) -> PartFound
     }
     PartFound {
         number: high,
-        left: left - atoms_size(table, t.sizes.m, Atom(low)),
+        left: left - atoms_size(table, m, Atom(low)),
     }
 }
 
-// The rule of group 1 or 6 with the clause after `left` others of the group.
-fn find_rule(table: &[u16], g: u16, left: usize) -> PartFound
-    requires { (Ready table.now) × (0 < g) × (g ≤ group_count) × (is_fixed g ≡ false) × (g ≡ 2 → ⊥) × (left < group_size (code_in table.now) g) }
-    ensures { Falls (item_count (code_in table.now) g) (item_size (code_in table.now) g) left result }
+// How many clauses block i of item a of group g has.
+fn block_size(table: Table<'_>, g: u16, a: u16, i: u16) -> usize
+    requires { BlockAt (table_code table) g a i }
+    ensures { result ≡ size (table_code table.entry) g a i }
 {
-    let t = totals(table);
-    find_part(items(t, g), left, |a| usize::from(size(table, g, a, 1)))
+    let block = TableBlock {
+        table,
+        group: g,
+        item: a,
+        number: i,
+    };
+    usize::from(block.size())
+}
+
+// The rule of group 1 or 6 with the clause after `left` others of the group.
+fn find_rule(table: Table<'_>, g: u16, left: usize) -> PartFound
+    requires { (0 < g) × (g ≤ group_count) × (is_fixed g ≡ false) × (g ≡ 2 → ⊥) × (left < group_size (table_code table) g) }
+    ensures { Falls (item_count (table_code table.entry) g) (item_size (table_code table.entry) g) left result }
+{
+    find_part(items(table, g), left, |a| block_size(table, g, a, 1))
 }
 
 // The item of group g with the clause after `left` others of the group. Items of one size are passed by a division.
-fn find_item(table: &[u16], g: u16, left: usize) -> PartFound
-    requires { (Ready table.now) × (0 < g) × (g ≤ group_count) × (left < group_size (code_in table.now) g) }
-    ensures { Falls (item_count (code_in table.now) g) (item_size (code_in table.now) g) left result }
+fn find_item(table: Table<'_>, g: u16, left: usize) -> PartFound
+    requires { (0 < g) × (g ≤ group_count) × (left < group_size (table_code table) g) }
+    ensures { Falls (item_count (table_code table.entry) g) (item_size (table_code table.entry) g) left result }
 {
-    let t = totals(table);
     if is_fixed(g) {
-        let k = fixed_size(usize::from(t.sizes.w), g);
+        let s = table.totals().sizes;
+        let k = fixed_size(usize::from(s.w), g);
         let q = left / k;
         return PartFound {
             number: q as u16 + 1,
@@ -115,40 +131,40 @@ fn find_item(table: &[u16], g: u16, left: usize) -> PartFound
 }
 
 // The block of item a of group g with the clause after `left` others of the item.
-fn find_block(table: &[u16], g: u16, a: u16, left: usize) -> PartFound
-    requires { (Ready table.now) × (0 < g) × (g ≤ group_count) × (0 < a) × (a ≤ item_count (code_in table.now) g)
-        × (left < item_size (code_in table.now) g a) }
-    ensures { Falls (block_count (code_in table.now) g) (size_at (code_in table.now) g a) left result }
+// Kept as a group's and an item's number: `PartFound` gives numbers, one for each search.
+fn find_block(table: Table<'_>, g: u16, a: u16, left: usize) -> PartFound
+    requires { (0 < g) × (g ≤ group_count) × (0 < a) × (a ≤ item_count (table_code table) g) × (left < item_size (table_code table) g a) }
+    ensures { Falls (block_count (table_code table.entry) g) (size (table_code table.entry) g a) left result }
 {
-    let t = totals(table);
+    let t = table.totals();
     find_part(
         block_count(t.sizes, g),
         left,
-        |i| usize::from(size(table, g, a, i)),
+        |i| block_size(table, g, a, i),
     )
 }
 
-// Where clause y of block i of item a of group g stands.
-fn coordinates_at(table: &[u16], g: u16, a: u16, i: u16, y: u16) -> Coordinates
-    requires { (Ready table.now) × (At (code_in table.now) g a i y) }
-    ensures { result ≡ coordinates (code_in table.now) g a i y }
+// Where a clause stands.
+fn coordinates_of(c: TableClause<'_>) -> Coordinates
+    ensures { result ≡ coordinates (table_code c.entry.block.table) c.entry.block.group c.entry.block.item c.entry.block.number c.entry.number }
 {
-    let t = totals(table);
+    let b = c.block;
+    let s = b.table.totals().sizes;
     Coordinates {
-        group: g,
-        item: a,
-        block: i,
-        clause: y,
-        clauses: size(table, g, a, i) - y,
-        blocks: block_count(t.sizes, g) - i,
-        items: items(t, g) - a,
+        group: b.group,
+        item: b.item,
+        block: b.number,
+        clause: c.number,
+        clauses: b.size() - c.number,
+        blocks: block_count(s, b.group) - b.number,
+        items: items(b.table, b.group) - b.item,
     }
 }
 
 // The place of line j.
-pub fn place_of(table: &[u16], j: usize) -> Place
-    requires { (Ready table.now) × (j ≤ clauses_in table.now) }
-    ensures { result ≡ place_at (code_in table.now) j }
+pub fn place_of(table: Table<'_>, j: usize) -> Place
+    requires { j ≤ clauses_in table.cells.now }
+    ensures { result ≡ place_at (table_code table.entry) j }
 {
     if j == 0 {
         return start(table);
@@ -156,8 +172,18 @@ pub fn place_of(table: &[u16], j: usize) -> Place
     let g = find_group(table, j - 1);
     let a = find_item(table, g.number, g.left);
     let i = find_block(table, g.number, a.number, a.left);
+    let block = TableBlock {
+        table,
+        group: g.number,
+        item: a.number,
+        number: i.number,
+    };
+    let clause = TableClause {
+        block,
+        number: i.left as u16 + 1,
+    };
     Place {
         number: j,
-        coordinates: coordinates_at(table, g.number, a.number, i.number, i.left as u16 + 1),
+        coordinates: coordinates_of(clause),
     }
 }

@@ -2,10 +2,10 @@
 #![tactic(auto)]
 
 ghost use Rattle.std.specs.Prelude.{◌+◌, ◌-◌, ◌^◌, ◌≤◌, ◌<◌, ◌≡◌, length, take};
-ghost use Rattle.clause_tables.specs.Tables.{Ready, heads_in};
+ghost use Rattle.clause_tables.specs.Tables.{heads_in};
 ghost use Rattle.clause_heads.specs.NextHead.{among, next_head, past_others, past_empty};
 
-use clause_cells::heads;
+use clause_cells::Table;
 use numbers::Atom;
 
 // Whether one of these heads is a. The fold takes no branch, so that eight heads are one comparison of the machine.
@@ -48,17 +48,17 @@ pub fn next_head(heads: &[u16], a: Atom, from: u16) -> u16
 }
 
 // Groups 2 and 7, atom a and m rules: how many slots of its last clause are done once the empty ones after slot l are passed.
-fn past_others(table: &[u16], m: u16, a: Atom, l: u16) -> u16
-    requires { (Ready table.now) × (m ≤ 500) × (0 < l) }
-    ensures { result ≡ past_others (take m (heads_in table.now)) a.0 l }
+fn past_others(table: Table<'_>, m: u16, a: Atom, l: u16) -> u16
+    requires { (m ≤ 500) × (0 < l) }
+    ensures { result ≡ past_others (take m (heads_in table.entry.cells.now)) a.0 l }
 {
-    next_head(heads(table, m), a, l - 1) + 1
+    next_head(table.heads(m), a, l - 1) + 1
 }
 
 // How many slots of a clause of block i of item a of group g are done once the empty ones after slot l are passed.
-pub fn past_empty(table: &[u16], m: u16, g: u16, a: u16, i: u16, l: u16) -> u16
-    requires { (Ready table.now) × (m ≤ 500) × (0 < l) }
-    ensures { result ≡ past_empty m (heads_in table.now) g a i l }
+pub fn past_empty(table: Table<'_>, m: u16, g: u16, a: u16, i: u16, l: u16) -> u16
+    requires { (m ≤ 500) × (0 < l) }
+    ensures { result ≡ past_empty m (heads_in table.entry.cells.now) g a i l }
 {
     match g {
         2 if i <= m => l,

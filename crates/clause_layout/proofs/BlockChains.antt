@@ -7,7 +7,6 @@ use lib.ListN.{get_or}
 use Rattle.encoding.specs.Code.{Code, code_sizes, pair_body, pair_head}
 use Rattle.encoding.specs.Literal.{Literal}
 use Rattle.encoding.specs.Variables.{Sizes}
-use Rattle.clause_literals.specs.Sizes.{sizes_of}
 use Rattle.clause_walk.specs.Walk.{slot, chain_slot, chain_bit, BlockAt, group_of}
 use Rattle.clause_chains.specs.declared.Chain.{Chain}
 use Rattle.clause_chains.specs.Chain.{chain_of}
@@ -22,7 +21,7 @@ pub block_five : {G : Code} {g a i : ℕ} → BlockAt G g a i → g ≡ 5 → Bl
 block_five {G} {a = a} {i = i} R e = subst (λ (g : ℕ). BlockAt G g a i) e R
 
 module _ {G : Code} {t : Totals} {hs ss bs ks xs ys : List ℕ} (T : Tabled G t hs ss bs ks xs ys) where
-  pub chain_pair : {a i b h : ℕ} {c : Chain} → BlockAt G 5 a i → b ≡ get_or xs (a - 1) 0 → h ≡ get_or ys (a - 1) 0 → c ≡ chain_of (sizes_of t.sizes) a b h i
+  pub chain_pair : {a i b h : ℕ} {c : Chain} → BlockAt G 5 a i → b ≡ get_or xs (a - 1) 0 → h ≡ get_or ys (a - 1) 0 → c ≡ chain_of t.sizes a b h i
       → c ≡ chain_of_block G a i
   unfolding chain_of_block
   chain_pair {a} {i} {b} {h} R p q u =

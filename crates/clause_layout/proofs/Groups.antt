@@ -12,14 +12,15 @@ use mathlib.Core.List.{List, [], ◌∷◌}
 use lib.Dec.{eqb, leb}
 use lib.ListN.{length, get_or, take, drop}
 use lib.IntN.{ℤ}
+use Rattle.std.specs.Prelude.{Some}
 use lib.Signed.{mag}
 use mir.Syntax.{w32}
 use mir.Val.{hbits, to_z, of_z}
 use borrow.Author.Tests.{le-leb, lt-leb, lt-ltb, le-ltb}
 use Rattle.encoding.specs.Code.{Code, code_sizes, pair_total, before}
-use Rattle.encoding.specs.Literal.{Literal}
+use Rattle.encoding.specs.Literal.{Literal, literal_number}
 use Rattle.encoding.specs.Variables.{Sizes, body_var, founds_var}
-use Rattle.clause_literals.specs.Sizes.{sizes_of, Bounded}
+use Rattle.clause_literals.specs.Sizes.{Bounded}
 use Rattle.clause_walk.specs.Walk.{heads_of, head_of, positives, inner_count, body_of, body_count, item_count, block_count, size, slots, slot, of_head, slots1, slot1, slot3, slot4, slots4, slots6, slot6, size6, chain_size, chain_slots, chain_bit, implied_slot, bit_of, BlockAt, At, Group, group_of}
 use Rattle.clause_walk.proofs.Groups.{Last, last_group}
 use Rattle.clause_literals.proofs.Signed.{read_back}
@@ -30,8 +31,9 @@ use Rattle.clause_table_laws.proofs.Elements as elements
 use Rattle.clause_layout.specs.Numbers.{implied_size}
 
 -- the number of a slot, as a call gave it
-pub held_in : {ls ms : List Literal} {x : ℤ} → ls ≡ ms → mag x < 2 ^ hbits w32 → x ≡ slot_number ms → to_z w32 (of_z w32 x) ≡ slot_number ls
-held_in p ok q = read_back ok (q ∙ ap slot_number (sym p))
+pub held_in : {ls : List Literal} {l : Literal} {x : ℤ} → ls ≡ l ∷ [] → mag x < 2 ^ hbits w32 → x ≡ literal_number l
+    → Some (to_z w32 (of_z w32 x)) ≡ slot_number ls
+held_in p ok q = ap Some (read_back ok q) ∙ ap slot_number (sym p)
 
 -- ---- the tests that `size`, `slots` and `slot` begin with
 
@@ -88,7 +90,7 @@ module _ {G : Code} {t : Totals} {hs ss bs ks xs ys : List ℕ} (T : Tabled G t 
   width_are : w ≡ G.w
   width_are = elements.width_are G t hs ss bs ks xs ys T
 
-  pub sizes_are : sizes_of t.sizes ≡ code_sizes G
+  pub sizes_are : t.sizes ≡ code_sizes G
   sizes_are = λ i. record { n = elements.atoms_are G t hs ss bs ks xs ys T i; m = elements.rules_are G t hs ss bs ks xs ys T i; w = width_are i }
 
   rules_are : m ≡ length G.rules
@@ -156,8 +158,8 @@ module _ {G : Code} {t : Totals} {hs ss bs ks xs ys : List ℕ} (T : Tabled G t 
       first_end = le_trans first_middle L.second_up
 
       -- what `span` asks
-      pub span_asks : {Q : Type 0} → Q → (k : ℕ) → k ≤ 2 → Q × (0 < a) × (a ≤ 500) × (k ≤ 2) × (get_or ss (2 * (a - 1) + 0) 0 ≤ get_or ss (2 * (a - 1) + k) 0)
-      span_asks q k h = (q, R.item_some, rule_fits_lem, h, go k h)
+      pub span_asks : (k : ℕ) → k ≤ 2 → (0 < a) × (a ≤ 500) × (k ≤ 2) × (get_or ss (2 * (a - 1) + 0) 0 ≤ get_or ss (2 * (a - 1) + k) 0)
+      span_asks k h = (R.item_some, rule_fits_lem, h, go k h)
         where
           go : (k : ℕ) → k ≤ 2 → get_or ss (2 * (a - 1) + 0) 0 ≤ get_or ss (2 * (a - 1) + k) 0
           go zero h = le_refl (get_or ss (2 * (a - 1) + 0) 0)
@@ -250,9 +252,9 @@ module _ {G : Code} {t : Totals} {hs ss bs ks xs ys : List ℕ} (T : Tabled G t 
     pair_fits e = le_trans (pair5 e) (elements.pairs_fit G T.limits)
 
     pub pair_asks : {b h : ℕ} → g ≡ 5 → b ≡ get_or xs (a - 1) 0 → h ≡ get_or ys (a - 1) 0
-        → Bounded t.sizes × (0 < a) × (a ≤ 500) × (0 < b) × (b ≤ 126) × (0 < h) × (h ≤ 126) × (0 < i) × (i ≤ w + w)
+        → (0 < a) × (a ≤ 500) × (0 < b) × (b ≤ 126) × (0 < h) × (h ≤ 126) × (0 < i) × (i ≤ w + w)
     pair_asks {b} {h} e p q =
-        (bounded, R.item_some, pair_fits e, subst (λ (k : ℕ). 0 < k) (sym p) x.0, subst (λ (k : ℕ). k ≤ 126) (sym p) x.1, subst (λ (k : ℕ). 0 < k) (sym q) z.0, subst (λ (k : ℕ). k ≤ 126) (sym q) z.1, R.block_some, block5 e)
+        (R.item_some, pair_fits e, subst (λ (k : ℕ). 0 < k) (sym p) x.0, subst (λ (k : ℕ). k ≤ 126) (sym p) x.1, subst (λ (k : ℕ). 0 < k) (sym q) z.0, subst (λ (k : ℕ). k ≤ 126) (sym q) z.1, R.block_some, block5 e)
       where
         x : (0 < get_or xs (a - 1) 0) × (get_or xs (a - 1) 0 ≤ 126)
         x = elements.partner_in G t hs ss bs ks xs ys T a R.item_some (pair5 e)
@@ -319,7 +321,7 @@ module _ {G : Code} {t : Totals} {hs ss bs ks xs ys : List ℕ} (T : Tabled G t 
       alone f q = ap (λ (z : Literal). z ∷ []) (sym q)
 
       pub slot_body : {b c d : ℕ} → g ≡ 1 → b ≡ get_or ss (2 * (a - 1) + 0) 0 → c ≡ get_or ss (2 * (a - 1) + 1) 0 → d ≡ get_or ss (2 * (a - 1) + 2) 0
-          → slot G g a i y l ≡ slot1 (sizes_of t.sizes) a (take (d - b) (drop b bs)) (c - b) y l ∷ []
+          → slot G g a i y l ≡ slot1 t.sizes a (take (d - b) (drop b bs)) (c - b) y l ∷ []
       unfolding slot group_of
       slot_body {b} {c} {d} e p q r =
           slot_at 1 e
@@ -329,7 +331,7 @@ module _ {G : Code} {t : Totals} {hs ss bs ks xs ys : List ℕ} (T : Tabled G t 
           (ap₂ (λ (d b : ℕ). take (d - b) (drop b bs)) r p ∙ body_is R (rule1 R e)) (ap₂ (λ (c b : ℕ). c - b) q p ∙ span1 R (rule1 R e)))
 
       -- the last clause of an atom, by what it names of a rule
-      heads_are : (d : Bool) → of_head (heads_of G) a (rule_var (code_sizes G) d) l ≡ of_head (take m hs) a (rule_var (sizes_of t.sizes) d) l
+      heads_are : (d : Bool) → of_head (heads_of G) a (rule_var (code_sizes G) d) l ≡ of_head (take m hs) a (rule_var t.sizes d) l
       heads_are d = sym (ap₂ (λ (xs : List ℕ) (S : Sizes). of_head xs a (rule_var S d) l) (elements.heads_taken G t hs ss bs ks xs ys T) sizes_are)
 
       pub supported_slot : g ≡ 2 → m < i → slot G g a i y l ≡ of_head (heads_of G) a (body_var (code_sizes G)) l
@@ -338,26 +340,26 @@ module _ {G : Code} {t : Totals} {hs ss bs ks xs ys : List ℕ} (T : Tabled G t 
           slot_at 2 e
           ∙ ap (λ (b : Bool). cond b (implied_slot (code_sizes G) a i l ∷ []) (of_head (heads_of G) a (body_var (code_sizes G)) l)) (lt-leb i (length G.rules) (subst (λ (k : ℕ). k < i) rules_are h))
 
-      pub slot_supported : g ≡ 2 → m < i → slot G g a i y l ≡ of_head (take m hs) a (rule_var (sizes_of t.sizes) false) l
+      pub slot_supported : g ≡ 2 → m < i → slot G g a i y l ≡ of_head (take m hs) a (rule_var t.sizes false) l
       slot_supported e h = supported_slot e h ∙ heads_are false
 
-      pub slot_implied : g ≡ 2 → i ≤ m → slot G g a i y l ≡ implied_slot (sizes_of t.sizes) a i l ∷ []
+      pub slot_implied : g ≡ 2 → i ≤ m → slot G g a i y l ≡ implied_slot t.sizes a i l ∷ []
       unfolding slot group_of
       slot_implied e h =
           slot_at 2 e
           ∙ ap (λ (b : Bool). cond b (implied_slot (code_sizes G) a i l ∷ []) (of_head (heads_of G) a (body_var (code_sizes G)) l)) (le-leb i (length G.rules) (subst (λ (k : ℕ). i ≤ k) rules_are h))
           ∙ alone (λ S. implied_slot S a i l) (ap (λ (S : Sizes). implied_slot S a i l) sizes_are)
 
-      pub slot_zero : g ≡ 3 → slot G g a i y l ≡ slot3 (sizes_of t.sizes) a y l ∷ []
+      pub slot_zero : g ≡ 3 → slot G g a i y l ≡ slot3 t.sizes a y l ∷ []
       unfolding slot group_of
       slot_zero e = slot_at 3 e ∙ alone (λ S. slot3 S a y l) (ap (λ (S : Sizes). slot3 S a y l) sizes_are)
 
-      pub slot_next : g ≡ 4 → slot G g a i y l ≡ slot4 (sizes_of t.sizes) a i y l ∷ []
+      pub slot_next : g ≡ 4 → slot G g a i y l ≡ slot4 t.sizes a i y l ∷ []
       unfolding slot group_of
       slot_next e = slot_at 4 e ∙ alone (λ S. slot4 S a i y l) (ap (λ (S : Sizes). slot4 S a i y l) sizes_are)
 
       pub slot_rule : {h k b : ℕ} → g ≡ 6 → h ≡ get_or hs (a - 1) 0 → k ≡ get_or ks (a - 1) 0 → b ≡ get_or ss (2 * (a - 1) + 1) 0 - get_or ss (2 * (a - 1) + 0) 0
-          → slot G g a i y l ≡ slot6 (sizes_of t.sizes) a h k b y l ∷ []
+          → slot G g a i y l ≡ slot6 t.sizes a h k b y l ∷ []
       unfolding slot group_of
       slot_rule {h} {k} {b} e p q r =
           slot_at 6 e
@@ -366,7 +368,7 @@ module _ {G : Code} {t : Totals} {hs ss bs ks xs ys : List ℕ} (T : Tabled G t 
           ∙ ap₂ (λ (h k : ℕ). slot6 (code_sizes G) a h k b y l) (p ∙ elements.head_is G t hs ss bs ks xs ys T a R.item_some (rule6 R e)) (q ∙ elements.before_is G t hs ss bs ks xs ys T a R.item_some (le_trans (rule6 R e) (omega arith)))
           ∙ ap (λ (b : ℕ). slot6 (code_sizes G) a (head_of G a) (before G a) b y l) (r ∙ span1 R (rule6 R e) ∙ sym (inner_is a)))
 
-      pub slot_last : Last g → slot G g a i y l ≡ of_head (take m hs) a (rule_var (sizes_of t.sizes) true) l
+      pub slot_last : Last g → slot G g a i y l ≡ of_head (take m hs) a (rule_var t.sizes true) l
       slot_last f = last_slot G g a i y l f ∙ heads_are true
 
       -- ---- what the calls ask
@@ -380,19 +382,19 @@ module _ {G : Code} {t : Totals} {hs ss bs ks xs ys : List ℕ} (T : Tabled G t 
           le_by : {j k u v : ℕ} → j ≡ u → k ≡ v → u ≤ v → j ≤ k
           le_by {j} {k} {u} {v} p q h = subst (λ (x : ℕ). x ≤ k) (sym p) (subst (λ (x : ℕ). u ≤ x) (sym q) h)
 
-      pub supported_asks : g ≡ 2 → m < i → 0 < l → l ≤ slots G g a i y → Bounded t.sizes × (0 < l) × (l ≤ m + 1)
-      supported_asks e h f n = (bounded, f, subst (λ (k : ℕ). l ≤ k) (sym (slots_supported e h)) n)
+      pub supported_asks : g ≡ 2 → m < i → 0 < l → l ≤ slots G g a i y → (0 < l) × (l ≤ m + 1)
+      supported_asks e h f n = (f, subst (λ (k : ℕ). l ≤ k) (sym (slots_supported e h)) n)
 
-      pub implied_asks : i ≤ m → Bounded t.sizes × (i ≤ 500)
-      implied_asks h = (bounded, le_trans h bounded.rules)
+      pub implied_asks : i ≤ m → i ≤ 500
+      implied_asks h = le_trans h bounded.rules
 
-      pub zero_asks : g ≡ 3 → Bounded t.sizes × (0 < a) × (a ≤ 126) × (y ≤ 7)
-      zero_asks e = (bounded, R.item_some, atom3 R e, le_trans (subst (λ (k : ℕ). y ≤ k) (sym (size_zero R e)) A.clause_in_lem) bounded.bits)
+      pub zero_asks : g ≡ 3 → (0 < a) × (a ≤ 126) × (y ≤ 7)
+      zero_asks e = (R.item_some, atom3 R e, le_trans (subst (λ (k : ℕ). y ≤ k) (sym (size_zero R e)) A.clause_in_lem) bounded.bits)
 
       pub next_asks : g ≡ 4 → l ≤ slots G g a i y
-          → Bounded t.sizes × (0 < a) × (a ≤ 126) × (i ≤ 7) × (0 < y) × (y ≤ 14) × (l ≤ 8)
+          → (0 < a) × (a ≤ 126) × (i ≤ 7) × (0 < y) × (y ≤ 14) × (l ≤ 8)
       next_asks e n =
-          (bounded, R.item_some, atom4 R e, bits4 R e, A.clause_some, omega (arith, subst (λ (k : ℕ). y ≤ k) (sym (size_next R e)) A.clause_in_lem, bits4 R e), few (subst (λ (k : ℕ). l ≤ k) (sym (slots_next e refl)) n))
+          (R.item_some, atom4 R e, bits4 R e, A.clause_some, omega (arith, subst (λ (k : ℕ). y ≤ k) (sym (size_next R e)) A.clause_in_lem, bits4 R e), few (subst (λ (k : ℕ). l ≤ k) (sym (slots_next e refl)) n))
         where
           few : l ≤ slots4 i y → l ≤ 8
           few n = ⊎_elim
@@ -401,9 +403,9 @@ module _ {G : Code} {t : Totals} {hs ss bs ks xs ys : List ℕ} (T : Tabled G t 
 
       pub rule_asks : {h k b : ℕ} → g ≡ 6 → h ≡ get_or hs (a - 1) 0 → k ≡ get_or ks (a - 1) 0 → b ≡ get_or ss (2 * (a - 1) + 1) 0 - get_or ss (2 * (a - 1) + 0) 0
           → 0 < l → l ≤ slots G g a i y
-          → Bounded t.sizes × (a ≤ 500) × (0 < h) × (h ≤ 126) × (k + b ≤ 500) × (0 < y) × (y ≤ size6 w b) × (0 < l) × (l ≤ slots6 b y)
+          → (a ≤ 500) × (0 < h) × (h ≤ 126) × (k + b ≤ 500) × (0 < y) × (y ≤ size6 w b) × (0 < l) × (l ≤ slots6 b y)
       rule_asks {h} {k} {b} e p q r f n =
-          (bounded, rule_fits_lem R (rule6 R e), subst (λ (k : ℕ). 0 < k) (sym p') x.0, subst (λ (k : ℕ). k ≤ 126) (sym p') x.1, subst (λ (k : ℕ). k ≤ 500) (sym (ap₂ (λ (k b : ℕ). k + b) q' (r ∙ span1 R (rule6 R e)))) (pairs_in R (rule6 R e)), A.clause_some, subst (λ (k : ℕ). y ≤ k) (sym (size_rule R e r refl)) A.clause_in_lem, f, subst (λ (k : ℕ). l ≤ k) (sym (slots_rule e r refl)) n)
+          (rule_fits_lem R (rule6 R e), subst (λ (k : ℕ). 0 < k) (sym p') x.0, subst (λ (k : ℕ). k ≤ 126) (sym p') x.1, subst (λ (k : ℕ). k ≤ 500) (sym (ap₂ (λ (k b : ℕ). k + b) q' (r ∙ span1 R (rule6 R e)))) (pairs_in R (rule6 R e)), A.clause_some, subst (λ (k : ℕ). y ≤ k) (sym (size_rule R e r refl)) A.clause_in_lem, f, subst (λ (k : ℕ). l ≤ k) (sym (slots_rule e r refl)) n)
         where
           x : (0 < head_of G a) × (head_of G a ≤ 126)
           x = elements.head_in G T.limits a R.item_some (rule6 R e)
@@ -414,5 +416,5 @@ module _ {G : Code} {t : Totals} {hs ss bs ks xs ys : List ℕ} (T : Tabled G t 
           q' : k ≡ before G a
           q' = q ∙ elements.before_is G t hs ss bs ks xs ys T a R.item_some (le_trans (rule6 R e) (omega arith))
 
-      pub founded_asks : Last g → 0 < l → l ≤ slots G g a i y → Bounded t.sizes × (0 < l) × (l ≤ m + 1)
-      founded_asks f p n = (bounded, p, subst (λ (k : ℕ). l ≤ k) (sym (slots_last f)) n)
+      pub founded_asks : Last g → 0 < l → l ≤ slots G g a i y → (0 < l) × (l ≤ m + 1)
+      founded_asks f p n = (p, subst (λ (k : ℕ). l ≤ k) (sym (slots_last f)) n)

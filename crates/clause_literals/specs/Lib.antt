@@ -1,4 +1,4 @@
 -- Signed: the sign of a number
 pub mod Signed
--- Sizes: the sizes of a program as the encoding has them, and their bounds
+-- Sizes: the bounds of the sizes of a program
 pub mod Sizes

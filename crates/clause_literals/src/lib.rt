@@ -7,9 +7,9 @@ ghost use Rattle.encoding.specs.Literal.{literal_number, var, −◌};
 ghost use Rattle.encoding.specs.Width.{width};
 ghost use Rattle.encoding.specs.Variables.{body_var, founds_var, level_var, next_var, below_var, next_below_var, var_count};
 ghost use Rattle.clause_literals.specs.Signed.{is_negative};
-ghost use Rattle.clause_literals.specs.Sizes.{sizes_of, Bounded};
 
 use numbers::{Atom, Pair, Rule, Var};
+use std::marker::Model;
 
 // Variable v as a literal.
 pub fn literal(v: Var) -> i32
@@ -19,6 +19,7 @@ pub fn literal(v: Var) -> i32
 }
 
 // A literal's negation. -2^31 has none in an i32.
+// Kept as a bound of the number: an `i32` has one number without an opposite, and literals are signed 32-bit (document 01).
 pub fn negate(x: i32) -> i32
     requires { nat_abs x < 2 ^ 31 }
     ensures { result ≡ neg_ℤ x }
@@ -50,6 +51,7 @@ pub fn of_two(x: i32, y: i32, l: u16) -> i32
     }
 }
 
+// Kept as literals one by one: a clause of three is formed from them.
 pub fn of_three(x: i32, y: i32, z: i32, l: u16) -> i32
     ensures { result ≡ cond (eqb l 1) x (cond (eqb l 2) y z) }
 {
@@ -82,7 +84,7 @@ pub fn width_of(n: u16) -> u16
     (u32::BITS - (u32::from(n) + 1).leading_zeros()) as u16
 }
 
-// n atoms, m rules and counters of w bits.
+// n atoms, m rules and counters of w bits, within the bounds of a program.
 #[derive(Clone, Copy)]
 pub struct Sizes {
     pub n: u16,
@@ -90,58 +92,73 @@ pub struct Sizes {
     pub w: u16,
 }
 
-// t(r): the body of rule r is true.
-pub fn body_var(s: Sizes, r: Rule) -> Var
-    requires { (Bounded s) × (r.0 ≤ 500) }
-    ensures { result.0 ≡ body_var (sizes_of s) r.0 }
-{
-    Var(s.n + r.0)
+impl Model for Sizes {
+    ghost use Rattle.encoding.specs.Variables.{Sizes as Of};
+    ghost use Rattle.clause_literals.specs.Sizes.{Bounded};
+
+    ghost Value = { Of };
+
+    ghost view = { λ s. record { n = s.n; m = s.m; w = s.w } };
+
+    ghost invariant = { λ s. Bounded (record { n = s.n; m = s.m; w = s.w }) };
+
+    ghost inverse = { λ s. record { n = s.n; m = s.m; w = s.w } };
 }
 
-// s(r): rule r founds its head.
-pub fn founds_var(s: Sizes, r: Rule) -> Var
-    requires { (Bounded s) × (r.0 ≤ 500) }
-    ensures { result.0 ≡ founds_var (sizes_of s) r.0 }
-{
-    Var(s.n + s.m + r.0)
-}
+impl Sizes {
+    // t(r): the body of rule r is true.
+    pub fn body_var(self, r: Rule) -> Var
+        requires { r.0 ≤ 500 }
+        ensures { result.0 ≡ body_var self r.0 }
+    {
+        Var(self.n + r.0)
+    }
 
-// v(a,i): bit i of the level of atom a.
-pub fn level_var(s: Sizes, a: Atom, i: u16) -> Var
-    requires { (Bounded s) × (0 < a.0) × (a.0 ≤ 126) × (i ≤ 7) }
-    ensures { result.0 ≡ level_var (sizes_of s) a.0 i }
-{
-    Var(s.n + 2 * s.m + (a.0 - 1) * s.w + i)
-}
+    // s(r): rule r founds its head.
+    pub fn founds_var(self, r: Rule) -> Var
+        requires { r.0 ≤ 500 }
+        ensures { result.0 ≡ founds_var self r.0 }
+    {
+        Var(self.n + self.m + r.0)
+    }
 
-// u(a,i): bit i of the next of atom a.
-pub fn next_var(s: Sizes, a: Atom, i: u16) -> Var
-    requires { (Bounded s) × (0 < a.0) × (a.0 ≤ 126) × (i ≤ 7) }
-    ensures { result.0 ≡ next_var (sizes_of s) a.0 i }
-{
-    Var(s.n + 2 * s.m + s.n * s.w + (a.0 - 1) * s.w + i)
-}
+    // v(a,i): bit i of the level of atom a.
+    pub fn level_var(self, a: Atom, i: u16) -> Var
+        requires { (0 < a.0) × (a.0 ≤ 126) × (i ≤ 7) }
+        ensures { result.0 ≡ level_var self a.0 i }
+    {
+        Var(self.n + 2 * self.m + (a.0 - 1) * self.w + i)
+    }
 
-// p(k,i): pair k, level below, at bit i.
-pub fn below_var(s: Sizes, k: Pair, i: u16) -> Var
-    requires { (Bounded s) × (0 < k.0) × (k.0 ≤ 500) × (i ≤ 7) }
-    ensures { result.0 ≡ below_var (sizes_of s) k.0 i }
-{
-    Var(s.n + 2 * s.m + 2 * s.n * s.w + 2 * (k.0 - 1) * s.w + i)
-}
+    // u(a,i): bit i of the next of atom a.
+    pub fn next_var(self, a: Atom, i: u16) -> Var
+        requires { (0 < a.0) × (a.0 ≤ 126) × (i ≤ 7) }
+        ensures { result.0 ≡ next_var self a.0 i }
+    {
+        Var(self.n + 2 * self.m + self.n * self.w + (a.0 - 1) * self.w + i)
+    }
 
-// q(k,i): pair k, next below, at bit i; w more than p(k,i).
-pub fn next_below_var(s: Sizes, k: Pair, i: u16) -> Var
-    requires { (Bounded s) × (0 < k.0) × (k.0 ≤ 500) × (i ≤ 7) }
-    ensures { result.0 ≡ next_below_var (sizes_of s) k.0 i }
-{
-    Var(s.w + below_var(s, k, i).0)
-}
+    // p(k,i): pair k, level below, at bit i.
+    pub fn below_var(self, k: Pair, i: u16) -> Var
+        requires { (0 < k.0) × (k.0 ≤ 500) × (i ≤ 7) }
+        ensures { result.0 ≡ below_var self k.0 i }
+    {
+        Var(self.n + 2 * self.m + 2 * self.n * self.w + 2 * (k.0 - 1) * self.w + i)
+    }
 
-// V, the number of variables with k pairs.
-pub fn var_count(s: Sizes, k: u16) -> u16
-    requires { (Bounded s) × (k ≤ 500) }
-    ensures { result ≡ var_count (sizes_of s) k }
-{
-    s.n + 2 * s.m + 2 * s.n * s.w + 2 * k * s.w
+    // q(k,i): pair k, next below, at bit i; w more than p(k,i).
+    pub fn next_below_var(self, k: Pair, i: u16) -> Var
+        requires { (0 < k.0) × (k.0 ≤ 500) × (i ≤ 7) }
+        ensures { result.0 ≡ next_below_var self k.0 i }
+    {
+        Var(self.w + self.below_var(k, i).0)
+    }
+
+    // V, the number of variables with k pairs.
+    pub fn var_count(self, k: u16) -> u16
+        requires { k ≤ 500 }
+        ensures { result ≡ var_count self k }
+    {
+        self.n + 2 * self.m + 2 * self.n * self.w + 2 * k * self.w
+    }
 }

@@ -1,2 +1,4 @@
--- Numerals: literals with the digits of their variables
+-- Numbered: a literal's number and the digits of its variable
+-- Numerals: numerals as literals
+pub mod Numbered
 pub mod Numerals

@@ -2,6 +2,7 @@
 --   lines_count     there are C + 1 lines
 --   header_is       line 0
 --   clause_is       line n, from the place of clause n
+--   clause_told     and from its literals
 --   line_short      no line passes 3,008 bytes
 -- Assumes nothing.
 use Prim.Native.Nat.{ℕ, zero, suc, pred, ◌≤◌, ◌<◌, ◌^◌}
@@ -14,6 +15,7 @@ use lib.Dec.{leb}
 use mathlib.Core.Bool.{true}
 use borrow.Author.Tests.{le-leb}
 use Rattle.lists.proofs.Tables.{get_d_map}
+use Rattle.encoding.specs.Literal.{Clause}
 use Rattle.encoding.specs.Code.{Code, clauses_of, clause_total_of}
 use Rattle.digits.specs.Bytes.{line_text}
 use Rattle.digits.proofs.Lengths.{line_length}
@@ -55,6 +57,9 @@ module _ {G : Code} {t : Totals} {hs ss bs ks xs ys : List ℕ} (T : Tabled G t 
   pub clause_is : {c : Place} → c ≡ place_at G c.number → 0 < c.number → c.number ≤ t.clauses
       → line_text (clause_at G c.coordinates.group c.coordinates.item c.coordinates.block c.coordinates.clause) ≡ code_line G c.number
   clause_is {c} e p h = ap line_text (placed_clause T e p h) ∙ line_of_clause c.number p h
+
+  pub clause_told : {ls : Clause} (n : ℕ) → ls ≡ get_or (clauses_of G) (pred n) [] → 0 < n → n ≤ t.clauses → line_text ls ≡ code_line G n
+  clause_told n e p h = ap line_text e ∙ line_of_clause n p h
 
   -- ---- lengths
 

@@ -4,44 +4,40 @@
 ghost use Rattle.std.specs.Prelude.{pred, ◌+◌, ◌-◌, ◌≤◌, ◌<◌, ◌≡◌, length};
 ghost use Rattle.encoding.specs.Literal.{literal_number, var, −◌};
 ghost use Rattle.encoding.specs.Variables.{body_var, founds_var, below_var, next_below_var};
-ghost use Rattle.clause_literals.specs.Sizes.{sizes_of, Bounded};
 ghost use Rattle.clause_walk.specs.Walk.{slot3, slots4, slot4, size6, slots6, slot6};
 ghost use Rattle.clause_walk.specs.Walk.{atom_at, slots1, slot1, implied_slot, of_head, two, three};
-ghost use Rattle.clause_slots.specs.SlotNumber.{slot_number, rule_var};
+ghost use Rattle.clause_slots.specs.SlotNumber.{slot_number, rule_var, is_founds};
 
-use clause_literals::{
-    Sizes, below_var, body_var, founds_var, level_var, literal, negated, next_below_var, next_var,
-    of_three, of_two, with_sign,
-};
+use clause_literals::{Sizes, literal, negated, of_three, of_two, with_sign};
 use numbers::{Atom, Pair, Rule, Var};
 use program::head;
 
 // Group 3, atom a: slot l of clause y.
 pub fn zero_slot(s: Sizes, a: Atom, y: u16, l: u16) -> i32
-    requires { (Bounded s) × (0 < a.0) × (a.0 ≤ 126) × (y ≤ 7) }
-    ensures { result ≡ literal_number (slot3 (sizes_of s) a.0 y l) }
+    requires { (0 < a.0) × (a.0 ≤ 126) × (y ≤ 7) }
+    ensures { result ≡ literal_number (slot3 s a.0 y l) }
 {
-    of_two(literal(Var::from(a)), negated(level_var(s, a, y)), l)
+    of_two(literal(Var::from(a)), negated(s.level_var(a, y)), l)
 }
 
 // Group 4, atom a: slot l of clause y of block i.
 pub fn next_slot(s: Sizes, a: Atom, i: u16, y: u16, l: u16) -> i32
-    requires { (Bounded s) × (0 < a.0) × (a.0 ≤ 126) × (i ≤ 7) × (0 < y) × (y ≤ 14) × (l ≤ 8) }
-    ensures { result ≡ literal_number (slot4 (sizes_of s) a.0 i y l) }
+    requires { (0 < a.0) × (a.0 ≤ 126) × (i ≤ 7) × (0 < y) × (y ≤ 14) × (l ≤ 8) }
+    ensures { result ≡ literal_number (slot4 s a.0 i y l) }
 {
     let j = (y - 1) / 2 + 1;
     let second = y % 2 == 0;
-    let u = next_var(s, a, i);
-    let v = level_var(s, a, i);
+    let u = s.next_var(a, i);
+    let v = s.level_var(a, i);
     if j < i {
         of_three(
-            literal(level_var(s, a, j)),
+            literal(s.level_var(a, j)),
             with_sign(second, u),
             with_sign(!second, v),
             l,
         )
     } else if l < i {
-        negated(level_var(s, a, l))
+        negated(s.level_var(a, l))
     } else {
         with_sign(second, if l == i { u } else { v })
     }
@@ -49,45 +45,48 @@ pub fn next_slot(s: Sizes, a: Atom, i: u16, y: u16, l: u16) -> i32
 
 // Group 6, rule r: slot l of its long clause, where k pairs stand before those of r.
 fn founded_slot(s: Sizes, r: Rule, k: u16, l: u16) -> i32
-    requires { (Bounded s) × (r.0 ≤ 500) × (0 < l) × (k + l ≤ 502) }
+    requires { (r.0 ≤ 500) × (0 < l) × (k + l ≤ 502) }
     ensures { result
-        ≡ literal_number (three (var (founds_var (sizes_of s) r.0)) (− body_var (sizes_of s) r.0) (− below_var (sizes_of s) (k + (l - 2)) s.w) l) }
+        ≡ literal_number (three (var (founds_var s r.0)) (− body_var s r.0) (− below_var s (k + (l - 2)) s.w) l) }
 {
+    let w = s.w;
     match l {
-        1 => literal(founds_var(s, r)),
-        2 => negated(body_var(s, r)),
-        _ => negated(below_var(s, Pair(k + (l - 2)), s.w)),
+        1 => literal(s.founds_var(r)),
+        2 => negated(s.body_var(r)),
+        _ => negated(s.below_var(Pair(k + (l - 2)), w)),
     }
 }
 
 // Group 6, rule r with pairs: slot l of its last clause, where k pairs stand before those of r.
 fn lowest_slot(s: Sizes, r: Rule, k: u16, l: u16) -> i32
-    requires { (Bounded s) × (r.0 ≤ 500) × (0 < l) × (k + l ≤ 501) }
-    ensures { result ≡ literal_number (two (− body_var (sizes_of s) r.0) (− next_below_var (sizes_of s) (k + pred l) s.w) l) }
+    requires { (r.0 ≤ 500) × (0 < l) × (k + l ≤ 501) }
+    ensures { result ≡ literal_number (two (− body_var s r.0) (− next_below_var s (k + pred l) s.w) l) }
 {
+    let w = s.w;
     match l {
-        1 => negated(body_var(s, r)),
-        _ => negated(next_below_var(s, Pair(k + (l - 1)), s.w)),
+        1 => negated(s.body_var(r)),
+        _ => negated(s.next_below_var(Pair(k + (l - 1)), w)),
     }
 }
 
 // Group 6, rule r with head h and b pairs after k others: slot l of clause y.
 pub fn rule_slot(s: Sizes, r: Rule, h: Atom, k: u16, b: u16, y: u16, l: u16) -> i32
-    requires { (Bounded s) × (r.0 ≤ 500) × (0 < h.0) × (h.0 ≤ 126) × (k + b ≤ 500) × (0 < y) × (y ≤ size6 s.w b) × (0 < l) × (l ≤ slots6 b y) }
-    ensures { result ≡ literal_number (slot6 (sizes_of s) r.0 h.0 k b y l) }
+    requires { (r.0 ≤ 500) × (0 < h.0) × (h.0 ≤ 126) × (k + b ≤ 500) × (0 < y) × (y ≤ size6 s.w b) × (0 < l) × (l ≤ slots6 b y) }
+    ensures { result ≡ literal_number (slot6 s r.0 h.0 k b y l) }
 {
+    let w = s.w;
     if y <= b + 1 {
         let implied = match y {
-            1 => body_var(s, r),
-            _ => below_var(s, Pair(k + (y - 1)), s.w),
+            1 => s.body_var(r),
+            _ => s.below_var(Pair(k + (y - 1)), w),
         };
-        of_two(negated(founds_var(s, r)), literal(implied), l)
+        of_two(negated(s.founds_var(r)), literal(implied), l)
     } else if y == b + 2 {
         founded_slot(s, r, k, l)
     } else if b == 0 {
         of_two(
-            negated(body_var(s, r)),
-            with_sign(y == 3, level_var(s, h, y - 2)),
+            negated(s.body_var(r)),
+            with_sign(y == 3, s.level_var(h, y - 2)),
             l,
         )
     } else {
@@ -105,10 +104,10 @@ fn atom_at(body: &[u16], x: u16) -> Var
 
 // Group 1, rule r with the body atoms `body`, the first p of them positive: slot l of clause y.
 pub fn body_slot(s: Sizes, r: Rule, body: &[u16], p: u16, y: u16, l: u16) -> i32
-    requires { (Bounded s) × (r.0 ≤ 500) × (0 < y) × (0 < l) × (l ≤ slots1 (length body.now) y) }
-    ensures { result ≡ literal_number (slot1 (sizes_of s) r.0 body.now p y l) }
+    requires { (r.0 ≤ 500) × (0 < y) × (0 < l) × (l ≤ slots1 (length body.now) y) }
+    ensures { result ≡ literal_number (slot1 s r.0 body.now p y l) }
 {
-    let t = body_var(s, r);
+    let t = s.body_var(r);
     if usize::from(y) <= body.len() {
         match l {
             1 => negated(t),
@@ -124,37 +123,45 @@ pub fn body_slot(s: Sizes, r: Rule, body: &[u16], p: u16, y: u16, l: u16) -> i32
 
 // Group 2, atom a and its rule r: slot l of their clause.
 pub fn implied_slot(s: Sizes, a: Atom, r: Rule, l: u16) -> i32
-    requires { (Bounded s) × (r.0 ≤ 500) }
-    ensures { result ≡ literal_number (implied_slot (sizes_of s) a.0 r.0 l) }
+    requires { r.0 ≤ 500 }
+    ensures { result ≡ literal_number (implied_slot s a.0 r.0 l) }
 {
-    of_two(literal(Var::from(a)), negated(body_var(s, r)), l)
+    of_two(literal(Var::from(a)), negated(s.body_var(r)), l)
 }
 
-// The variable of rule r in group 2, t(r), and in group 7, s(r).
-pub fn rule_var(s: Sizes, founds: bool, r: Rule) -> Var
-    requires { (Bounded s) × (r.0 ≤ 500) }
-    ensures { result.0 ≡ rule_var (sizes_of s) founds r.0 }
-{
-    if founds {
-        founds_var(s, r)
-    } else {
-        body_var(s, r)
+// Which variable of a rule r: t(r), its body is true, in group 2, or s(r), it founds its head, in group 7.
+#[derive(Clone, Copy)]
+pub enum RuleVar {
+    Body,
+    Founds,
+}
+
+impl RuleVar {
+    // That variable of rule r.
+    pub fn of(self, s: Sizes, r: Rule) -> Var
+        requires { r.0 ≤ 500 }
+        ensures { result.0 ≡ rule_var s (is_founds self) r.0 }
+    {
+        match self {
+            RuleVar::Body => s.body_var(r),
+            RuleVar::Founds => s.founds_var(r),
+        }
     }
 }
 
-// Groups 2 and 7, atom a: slot l of its last clause, the negated a or the variable of rule l - 1 if a is its head; 0 where the slot has no literal.
-pub fn head_slot(s: Sizes, heads: &[u16], a: Atom, founds: bool, l: u16) -> i32
-    requires { (Bounded s) × (length heads.now ≤ 500) × (0 < l) × (l ≤ length heads.now + 1) }
-    ensures { result ≡ slot_number (of_head heads.now a.0 (rule_var (sizes_of s) founds) l) }
+// Groups 2 and 7, atom a: slot l of its last clause, the negated a, or the variable x of rule l - 1 if a is its head.
+pub fn head_slot(s: Sizes, heads: &[u16], a: Atom, x: RuleVar, l: u16) -> Option<i32>
+    requires { (length heads.now ≤ 500) × (0 < l) × (l ≤ length heads.now + 1) }
+    ensures { result ≡ slot_number (of_head heads.now a.0 (rule_var s (is_founds x)) l) }
 {
     if l == 1 {
-        return negated(Var::from(a));
+        return Some(negated(Var::from(a)));
     }
     let r = Rule(l - 1);
     if head(heads, r) == a {
-        literal(rule_var(s, founds, r))
+        Some(literal(x.of(s, r)))
     } else {
-        0
+        None
     }
 }
 

@@ -4,6 +4,7 @@
 --   lengths_are  its regions have as many cells as sizes says
 --   arrays       the counts and the regions of a table of G are those of G
 --   told         the same with counts that were taken from the table
+--   opened       the same with sizes s that are those of the counts
 --   firsts_are, links_are   the first rule of each atom, and of each rule the next one with the same head
 --   cells        how many cells a table has
 --   code_held    the table of a limited code holds that code
@@ -17,6 +18,7 @@ use lib.ListN.{length, get_or, take}
 use Rattle.lists.specs.Lists.{tab}
 use Rattle.lists.proofs.Tables.{length_tab}
 use Rattle.encoding.specs.Code.{Code, whole, program_of, m, pair_list, before}
+use Rattle.encoding.specs.Variables.{Sizes}
 use Rattle.program.specs.Arrays.{pad, kept}
 use Rattle.program.proofs.Pads.{length_pad}
 use Rattle.clause_walk.specs.Walk.{heads_of}
@@ -147,6 +149,10 @@ module _ {G : Code} {tb : List ℕ} (T : TableOf G tb) where
         partners_are = ap partners_in T.table_is ∙ own_partners G T.limits;
         owners_are = ap owners_in T.table_is ∙ own_owners G T.limits;
       }
+
+  pub opened : {t : Totals} {s : Sizes} → s ≡ t.sizes → t ≡ totals_in tb
+      → Tabled G (record { sizes = s; pairs = t.pairs; vars = t.vars; clauses = t.clauses }) (heads_in tb) (starts_in tb) (bodies_in tb) (before_in tb) (partners_in tb) (owners_in tb)
+  opened {t} p e = told (ap (λ (s : Sizes). record { sizes = s; pairs = t.pairs; vars = t.vars; clauses = t.clauses }) p ∙ e)
 
   pub arrays : Tabled G (totals_in tb) (heads_in tb) (starts_in tb) (bodies_in tb) (before_in tb) (partners_in tb) (owners_in tb)
   arrays = told refl

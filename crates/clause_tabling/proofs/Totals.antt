@@ -21,7 +21,7 @@ use Rattle.encoding.specs.Code.{Code, code_of, m, pair_list, before}
 use Rattle.theory.proofs.Widths.{width_some, width_is, width_enough}
 use Rattle.theory.proofs.Whole.{pairs_whole, clauses_whole}
 use Rattle.theory.proofs.Counts.{count_whole}
-use Rattle.clause_literals.specs.Sizes.{sizes_of, Bounded}
+use Rattle.clause_literals.specs.Sizes.{Bounded}
 use Rattle.program.specs.declared.Program.{Program as Arrays}
 use Rattle.program.specs.Arrays.{pad, kept, decoded}
 use Rattle.clause_tables.specs.declared.Totals.{Totals}
@@ -36,7 +36,7 @@ use Rattle.clause_tabling.proofs.Held.{rules_many, heads_held, bodies_held}
 -- the totals of document 01's code of P, from its numbers
 by_numbers : (P : Program) → So (well_formed P) → (n m w o k e : ℕ) → n ≡ P.atoms → m ≡ length P.rules → w ≡ width P.atoms → o ≡ body_atoms P → k ≡ pair_count P
     → e ≡ empty_bodies P
-    → ◌≡◌ {A = Totals} (record { sizes = record { n = n; m = m; w = w }; pairs = k; vars = var_count (sizes_of (record { n = n; m = m; w = w })) k; clauses = clauses_for n m w o k e })
+    → ◌≡◌ {A = Totals} (record { sizes = record { n = n; m = m; w = w }; pairs = k; vars = var_count (record { n = n; m = m; w = w }) k; clauses = clauses_for n m w o k e })
     (totals_of (code_of P))
 unfolding totals_of clause_count
 by_numbers P form n m w o k e pn pm pw po pk pe =
@@ -47,7 +47,7 @@ by_numbers P form n m w o k e pn pm pw po pk pe =
     v : ℕ
     v = width P.atoms
 
-    same : ◌≡◌ {A = Totals} (record { sizes = record { n = n; m = m; w = w }; pairs = k; vars = var_count (sizes_of (record { n = n; m = m; w = w })) k; clauses = clauses_for n m w o k e })
+    same : ◌≡◌ {A = Totals} (record { sizes = record { n = n; m = m; w = w }; pairs = k; vars = var_count (record { n = n; m = m; w = w }) k; clauses = clauses_for n m w o k e })
         (record { sizes = record { n = P.atoms; m = length P.rules; w = v }; pairs = pair_count P; vars = var_count (sizes P v) (pair_count P); clauses = clause_count P v })
     same = rw (pn, pm, pw, po, pk, pe)
 
@@ -117,7 +117,7 @@ module _ (A : Arrays) (s : Stored A) where
       omega (arith, empty_all, rules_many A, empty_few (decoded A)),
     )
 
-    pub totals_made : (w v c : ℕ) → w ≡ width A.atoms → v ≡ var_count (sizes_of (record { n = A.atoms; m = A.rules; w = w })) all.pairs
+    pub totals_made : (w v c : ℕ) → w ≡ width A.atoms → v ≡ var_count (record { n = A.atoms; m = A.rules; w = w }) all.pairs
         → c ≡ clauses_for A.atoms A.rules w A.held all.pairs all.empty
         → ◌≡◌ {A = Totals} (record { sizes = record { n = A.atoms; m = A.rules; w = w }; pairs = all.pairs; vars = v; clauses = c })
         (totals_of (code_of (decoded A)))

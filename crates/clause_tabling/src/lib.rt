@@ -11,7 +11,7 @@ ghost use Rattle.clause_tabling.specs.Formula.{clauses_for, counts_of};
 ghost use Rattle.clause_tabling.specs.Stages.{counted, tally_of, copied, with_arrays, with_pairs};
 
 use clause_links::add_links;
-use clause_literals::{Sizes, var_count, width_of};
+use clause_literals::{Sizes, width_of};
 use clause_tables::{
     BEFORE_AT, BODIES_AT, CELLS, HEADS_AT, OWNERS_AT, PARTNERS_AT, STARTS_AT, Totals,
 };
@@ -98,7 +98,7 @@ fn totals_from(p: &Program, all: Tally) -> Totals
     Totals {
         sizes,
         pairs: all.pairs,
-        vars: usize::from(var_count(sizes, all.pairs)),
+        vars: usize::from(sizes.var_count(all.pairs)),
         clauses: usize::from(c),
     }
 }

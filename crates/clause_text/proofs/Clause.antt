@@ -1,177 +1,139 @@
--- The text of the clause at a place of the walk, slot by slot, in a code whose tables are given.
+-- The text of a clause, literal by literal.
 --   slotted            a slot is empty or holds one literal, of a variable from 1 to 9,890
 --   line_short         the line has at most 3,008 bytes
---   slot_small         the number of a slot is small
---   text_more          the literals of one slot more, as code has them
---   text_fits          the literals of some slots have at most as many bytes as those of all
---   slot_in                                  the slot that follows is one of the clause
---   past_within, past_less, text_past        how many slots are done with the empty ones that follow, and their literals
---   length_more, length_next, length_fits, length_line    the number of bytes with one slot more and the empty ones that follow, its bound, and that of the line
---   part_fits, text_next                     room for one slot more, and the text with it and the empty ones that follow
---   end_small, end_fits, line_text_lem, line_kept  room for the end of the line, and the buffer with the line
+--   total_length       the bytes of literals, added up from their numbers
+--   turn_bits          a number of a clause is that of its bits too
+--   part_fits          there is room for one literal more
+--   sum_fits           the number of bytes with it is small
+--   text_next          it has been written
+--   end_small, end_fits, line_text_lem, line_kept   room for the end of the line, and the buffer with the line
 -- Assumes nothing.
-use Prim.Native.Nat.{ℕ, zero, suc, ◌+◌, ◌-◌, ◌^◌, ◌≤◌, ◌<◌}
-use native.Mathlib.Nat.{le_trans, le_refl}
+use Prim.Native.Nat.{ℕ, zero, suc, ◌+◌, ◌≤◌, ◌<◌}
+use native.Mathlib.Nat.{not-suc-le-zero, le_of_suc-le-suc}
 use native.Mathlib.Numerals.{add-one}
 use native.Mathlib.Omega.{arith}
-use mathlib.Core.Path.{◌≡◌, sym, ◌∙◌, ap, subst}
-use mathlib.Core.List.{List, ◌++◌}
-use lib.IntN.{ℤ, nat_abs}
-use lib.ListN.{length, set, length-append}
-use Rattle.lists.specs.Lists.{each}
+use mathlib.Core.Path.{◌≡◌, refl, sym, ◌∙◌, ap, subst}
+use mathlib.Core.List.{List, [], ◌∷◌, ◌++◌, map, append_assoc, append-nil}
+use lib.IntN.{ℤ}
+use lib.ListN.{length, take, set, length-append}
+use mir.Syntax.{w32}
+use mir.Val.{to_z, of_z}
+use mir.Facts.{to_z-of_z}
+use Rattle.std.specs.List.{fold}
 use Rattle.encoding.specs.Code.{Code}
-use Rattle.encoding.specs.Literal.{Literal}
-use Rattle.digits.specs.Bytes.{literals_text, line_text, Room, Wrote}
-use Rattle.digits.proofs.Lengths.{literals_append, line_length}
-use Rattle.clause_walk.specs.Walk.{slots, slot, clause_at, At}
-use Rattle.clause_slots.specs.SlotNumber.{slot_number}
+use Rattle.encoding.specs.Literal.{Literal, literal_number}
+use Rattle.digits.specs.Bytes.{literal_text, literals_text, line_text, Room, Wrote}
+use Rattle.digits.proofs.Lengths.{word_length, line_length}
+use Rattle.digits.proofs.Wrote.{room_as, wrote_as, wrote_kept, wrote_end, end_room}
+use Rattle.clause_walk.specs.Walk.{slots, slot, At}
 use Rattle.clause_tables.specs.declared.Totals.{Totals}
 use Rattle.clause_tables.specs.Tables.{Tabled}
 use Rattle.clause_table_laws.proofs.Bounds.{Slotted, literal_in_lem, line_fits}
-use Rattle.clause_heads.specs.NextHead.{past_empty}
-use Rattle.clause_layout.proofs.Passed.{Passed, passed, passed_each}
-use Rattle.clause_text.specs.Lines.{literals_in}
-use Rattle.clause_text.proofs.Held.{held_is, held_fits}
-use Rattle.digits.proofs.Wrote.{room_as, wrote_as, wrote_kept, wrote_end, end_room}
-
--- some of the literals that `each` puts together, and all of them
-pub each_fits : (f : ℕ → List Literal) (l k : ℕ) → l ≤ k → length (literals_text (each l f)) ≤ length (literals_text (each k f))
-each_fits f l k h = subst (λ (n : ℕ). length (literals_text (each l f)) ≤ length (literals_text (each n f))) (whole l k h) (go (k - l))
-  where
-    whole : (l k : ℕ) → l ≤ k → (k - l) + l ≡ k
-    whole l k h = omega (arith, h)
-
-    go : (d : ℕ) → length (literals_text (each l f)) ≤ length (literals_text (each (d + l) f))
-    go zero = subst (λ (n : ℕ). length (literals_text (each l f)) ≤ length (literals_text (each n f))) (zero_plus l) (le_refl (length (literals_text (each l f))))
-      where
-        zero_plus : (l : ℕ) → l ≡ 0 + l
-        zero_plus l = omega arith
-    go (suc d) =
-        subst (λ (n : ℕ). length (literals_text (each l f)) ≤ length (literals_text (each n f))) (suc_plus d l)
-        (le_trans (go d) (step (d + l)))
-      where
-        suc_plus : (d l : ℕ) → suc (d + l) ≡ suc d + l
-        suc_plus d l = omega arith
-
-        step : (n : ℕ) → length (literals_text (each n f)) ≤ length (literals_text (each (suc n) f))
-        step n =
-            omega (
-              arith,
-              ap (λ (t : List ℕ). length t) (literals_append (each n f) (f (suc n))),
-              length-append (literals_text (each n f)) (literals_text (f (suc n))),
-            )
+use Rattle.clause_table_laws.proofs.Cells.{arrays}
+use Rattle.clause_cells.specs.Held.{table_code}
+use Rattle.clause_literals.proofs.Signed.{abs_fits}
+use Rattle.clause_iter.proofs.Numbers.{Turn, number_small}
+use Rattle.clause_layout.specs.declared.TableClause.{TableClause}
+use Rattle.clause_layout.specs.Clauses.{literals_of}
 
 module _ {G : Code} {t : Totals} {hs ss bs ks xs ys : List ℕ} (T : Tabled G t hs ss bs ks xs ys) {g a i y : ℕ} (A : At G g a i y) where
-  -- the literals of the first l slots
-  abbrev text : ℕ → List ℕ
-  text l = literals_text (each l (slot G g a i y))
-
   pub slotted : (l : ℕ) → 0 < l → l ≤ slots G g a i y → Slotted (slot G g a i y l)
   slotted l p h = literal_in_lem G T.limits g a i y l A p h
 
-  pub line_short : length (line_text (clause_at G g a i y)) ≤ 3008
-  line_short = line_fits G T.limits g a i y A
+pub line_short : (c : TableClause) → length (line_text (literals_of c)) ≤ 3008
+line_short c = line_fits (table_code c.block.table) (arrays c.block.table.ready).limits c.block.group c.block.item c.block.number c.number c.stands
 
-  module _ {x : ℤ} {l k : ℕ} (e : k ≡ slots G g a i y) (h : l < k) (q : x ≡ slot_number (slot G g a i y (l + 1))) where
-    next_slotted : Slotted (slot G g a i y (l + 1))
-    next_slotted = slotted (l + 1) (omega arith) (omega (arith, e, h))
+-- ---- how many bytes
 
-    pub held_next : literals_in x ≡ slot G g a i y (l + 1)
-    held_next = held_is (slot G g a i y (l + 1)) next_slotted q
+-- how many bytes the literal with this number has with one space
+abbrev pub bytes : ℤ → ℕ
+bytes z = length (literal_text z) + 1
 
-    -- what its number asks for
-    pub slot_small : nat_abs x < 2 ^ 31
-    slot_small = held_fits (slot G g a i y (l + 1)) next_slotted q
+total_from : (n : ℕ) (ls : List Literal) → fold (λ (k : ℕ) (z : ℤ). k + bytes z) n (map literal_number ls) ≡ n + length (literals_text ls)
+total_from n [] = omega arith
+total_from n (l ∷ ls) =
+    total_from (n + bytes (literal_number l)) ls
+    ∙ omega (arith, length-append (literal_text (literal_number l) ++ (32 ∷ [])) (literals_text ls), word_length (literal_number l))
 
-  pub text_more : (x : ℤ) {l k : ℕ} → k ≡ slots G g a i y → l < k → x ≡ slot_number (slot G g a i y (l + 1))
-      → text (l + 1) ≡ text l ++ literals_text (literals_in x)
-  text_more x {l} {k} e h q =
-      ap text (add-one l) ∙ literals_append (each l (slot G g a i y)) (slot G g a i y (suc l))
-      ∙ ap (λ (c : List Literal). text l ++ literals_text c) (ap (slot G g a i y) (sym (add-one l)) ∙ sym (held_next e h q))
+pub total_length : (ls : List Literal) {r : ℕ} → r ≡ fold (λ (k : ℕ) (z : ℤ). k + bytes z) 0 (map literal_number ls) → r + 2 ≡ length (line_text ls)
+total_length ls e = omega (arith, e, total_from 0 ls, line_length ls)
 
-  pub text_fits : {l k : ℕ} → k ≡ slots G g a i y → l ≤ k → length (text l) ≤ length (literals_text (clause_at G g a i y))
-  text_fits {l} {k} e h = each_fits (slot G g a i y) l (slots G g a i y) (subst (λ (n : ℕ). l ≤ n) e h)
+-- ---- the first k literals
 
-  -- ---- one slot more, and the empty ones that follow
+abbrev text : List Literal → ℕ → List ℕ
+text ls k = literals_text (take k ls)
 
-  pub slot_in : {k l : ℕ} → k ≡ slots G g a i y → l < k → l + 1 ≤ slots G g a i y
-  slot_in {k} {l} e h = subst (λ (n : ℕ). l + 1 ≤ n) e (more l k h)
-    where
-      more : (l k : ℕ) → l < k → l + 1 ≤ k
-      more l k h = omega (arith, h)
+-- a number of a clause is that of its bits too
+pub turn_bits : (c : TableClause) (k : ℕ) (z : ℤ) → Turn (literals_of c) k z → Turn (literals_of c) k (to_z w32 (of_z w32 z))
+turn_bits c k z h = subst (Turn (literals_of c) k) (sym (to_z-of_z (abs_fits z (number_small c k z h)))) h
 
-  module _ {k l r : ℕ} (e : k ≡ slots G g a i y) (h : l < k) (p : r ≡ past_empty t.sizes.m hs g a i (l + 1)) where
-    past : Passed G g a i y (l + 1) r
-    past = passed T A (omega arith) (slot_in e h) p
+text_suc : (ls : List Literal) (k : ℕ) (z : ℤ) → Turn ls k z → text ls (suc k) ≡ text ls k ++ (literal_text z ++ (32 ∷ []))
+text_suc [] k z h = absurd (not-suc-le-zero h.0)
+text_suc (l ∷ ls) zero z h =
+    append-nil (literal_text (literal_number l) ++ (32 ∷ [])) ∙ ap (λ (z : ℤ). literal_text z ++ (32 ∷ [])) (sym h.1)
+text_suc (l ∷ ls) (suc k) z h =
+    ap (λ (t : List ℕ). (literal_text (literal_number l) ++ (32 ∷ [])) ++ t) (text_suc ls k z (le_of_suc-le-suc h.0, h.1))
+    ∙ sym (append_assoc (literal_text (literal_number l) ++ (32 ∷ [])) (text ls k) (literal_text z ++ (32 ∷ [])))
 
-    pub past_within : r ≤ k
-    past_within = subst (λ (n : ℕ). r ≤ n) (sym e) past.within
+text_in : (ls : List Literal) (k : ℕ) → length (text ls k) ≤ length (literals_text ls)
+text_in ls zero = omega arith
+text_in [] (suc k) = omega arith
+text_in (l ∷ ls) (suc k) =
+    omega (
+      arith,
+      length-append (literal_text (literal_number l) ++ (32 ∷ [])) (text ls k),
+      length-append (literal_text (literal_number l) ++ (32 ∷ [])) (literals_text ls),
+      text_in ls k,
+    )
 
-    pub past_less : k - r < k - l
-    past_less = omega (arith, h, past.on)
+text_whole : (ls : List Literal) {k : ℕ} → k ≡ length (map literal_number ls) → text ls k ≡ literals_text ls
+text_whole ls e = ap (text ls) e ∙ go ls
+  where
+    go : (ls : List Literal) → text ls (length (map literal_number ls)) ≡ literals_text ls
+    go [] = refl
+    go (l ∷ ls) = ap (λ (t : List ℕ). (literal_text (literal_number l) ++ (32 ∷ [])) ++ t) (go ls)
 
-    pub text_past : text r ≡ text (l + 1)
-    text_past = ap literals_text (passed_each past)
+-- ---- one literal more, in the buffer b, which has room for the line
 
-  -- ---- how many bytes
+module _ (c : TableClause) (b : List ℕ) (f : Room (line_text (literals_of c)) b) where
+  abbrev ls : List Literal
+  ls = literals_of c
 
-  module _ (x : ℤ) {k l to r : ℕ} (e : k ≡ slots G g a i y) (h : l < k) (q : x ≡ slot_number (slot G g a i y (l + 1))) where
-    pub length_more : to ≡ length (text l) → r ≡ length (literals_text (literals_in x)) → to + r ≡ length (text (l + 1))
-    length_more n m = omega (arith, n, m, ap (λ (t : List ℕ). length t) (text_more x e h q), length-append (text l) (literals_text (literals_in x)))
+  module _ (k : ℕ) (z : ℤ) (h : Turn ls k z) where
+    pub part_fits : Room (text ls k ++ (literal_text z ++ (32 ∷ []))) b
+    part_fits = room_as (sym (text_suc ls k z h)) (omega (arith, text_in ls (suc k), line_length ls, f))
 
-    pub length_next : {n : ℕ} → n ≡ past_empty t.sizes.m hs g a i (l + 1) → to ≡ length (text l) → r ≡ length (literals_text (literals_in x)) → to + r ≡ length (text n)
-    length_next p n m = length_more n m ∙ sym (ap (λ (t : List ℕ). length t) (text_past e h p))
+    pub sum_fits : {to r : ℕ} → to ≡ length (text ls k) → r ≡ length (literal_text z ++ (32 ∷ [])) → to + r ≤ 3008
+    sum_fits p q =
+        omega (
+          arith,
+          p,
+          q,
+          length-append (text ls k) (literal_text z ++ (32 ∷ [])),
+          ap (λ (t : List ℕ). length t) (text_suc ls k z h),
+          text_in ls (suc k),
+          line_length ls,
+          line_short c,
+        )
 
-    pub length_fits : to ≡ length (text l) → r ≡ length (literals_text (literals_in x)) → to + r ≤ 3008
-    length_fits n m =
-        omega (arith, length_more n m, text_fits e (more l k h), line_length (clause_at G g a i y), line_short)
-      where
-        more : (l k : ℕ) → l < k → l + 1 ≤ k
-        more l k h = omega (arith, h)
+    pub text_next : {n to : ℕ} {e : List ℕ} → n ≡ k + 1 → Wrote (text ls k ++ (literal_text z ++ (32 ∷ []))) b e to → Wrote (text ls n) b e to
+    text_next p W = wrote_as (sym (ap (text ls) (p ∙ add-one k) ∙ text_suc ls k z h)) W
 
-  pub length_line : {k l to : ℕ} → k ≡ slots G g a i y → l ≤ k → k ≤ l → to ≡ length (text l) → to + 2 ≡ length (line_text (clause_at G g a i y))
-  length_line {k} {l} {to} e h n q =
-      omega (arith, line_length (clause_at G g a i y), q, ap (λ (j : ℕ). length (text j)) (ends l k h n ∙ e))
-    where
-      ends : (l k : ℕ) → l ≤ k → k ≤ l → l ≡ k
-      ends l k h n = omega (arith, h, n)
+  -- all literals have been written
+  module _ {k to : ℕ} {e : List ℕ} (n : k ≡ length (map literal_number ls)) (W : Wrote (text ls k) b e to) where
+    whole_text : Wrote (literals_text ls) b e to
+    whole_text = wrote_as (text_whole ls n) W
 
-  -- ---- the buffer b, which has room for the line
+    pub end_small : to + 2 ≤ 3008
+    end_small = omega (arith, whole_text.count, line_length ls, line_short c)
 
-  module _ (b : List ℕ) (f : Room (line_text (clause_at G g a i y)) b) where
-    -- there is room for one slot more
-    pub part_fits : (x : ℤ) {k l : ℕ} → k ≡ slots G g a i y → l < k → x ≡ slot_number (slot G g a i y (l + 1))
-        → Room (text l ++ literals_text (literals_in x)) b
-    part_fits x {k} {l} e h q =
-        room_as (sym (text_more x e h q))
-        (omega (arith, text_fits e (more l k h), line_length (clause_at G g a i y), f))
-      where
-        more : (l k : ℕ) → l < k → l + 1 ≤ k
-        more l k h = omega (arith, h)
+    pub end_fits : to + 2 ≤ length e
+    end_fits = end_room ls f whole_text
 
-    -- one slot more has been written
-    pub text_next : (x : ℤ) {k l r to : ℕ} {c : List ℕ} → k ≡ slots G g a i y → l < k → x ≡ slot_number (slot G g a i y (l + 1))
-        → r ≡ past_empty t.sizes.m hs g a i (l + 1) → Wrote (text l ++ literals_text (literals_in x)) b c to → Wrote (text r) b c to
-    text_next x e h q p W = wrote_as (sym (text_past e h p ∙ text_more x e h q)) W
+    -- a byte and one after it have been written: the line
+    module _ (u v : ℕ) (p : u ≡ 48) (q : v ≡ 10) where
+      pub line_text_lem : Wrote (line_text ls) b (set (set e to u) (to + 1) v) (to + 2)
+      line_text_lem = wrote_end ls f whole_text u v p q
 
-    -- all slots have been written
-    module _ {k l to : ℕ} {c : List ℕ} (e : k ≡ slots G g a i y) (h : l ≤ k) (n : k ≤ l) (W : Wrote (text l) b c to) where
-      whole_text : Wrote (literals_text (clause_at G g a i y)) b c to
-      whole_text = subst (λ (j : ℕ). Wrote (text j) b c to) (ends l k h n ∙ e) W
-        where
-          ends : (l k : ℕ) → l ≤ k → k ≤ l → l ≡ k
-          ends l k h n = omega (arith, h, n)
-
-      pub end_small : to + 2 ≤ 3008
-      end_small = omega (arith, whole_text.count, line_length (clause_at G g a i y), line_short)
-
-      pub end_fits : to + 2 ≤ length c
-      end_fits = end_room (clause_at G g a i y) f whole_text
-
-      -- a byte and one after it have been written: the line
-      module _ (u v : ℕ) (p : u ≡ 48) (q : v ≡ 10) where
-        pub line_text_lem : Wrote (line_text (clause_at G g a i y)) b (set (set c to u) (to + 1) v) (to + 2)
-        line_text_lem = wrote_end (clause_at G g a i y) f whole_text u v p q
-
-        pub line_kept : length (set (set c to u) (to + 1) v) ≡ length b
-        line_kept = wrote_kept line_text_lem f
+      pub line_kept : length (set (set e to u) (to + 1) v) ≡ length b
+      line_kept = wrote_kept line_text_lem f

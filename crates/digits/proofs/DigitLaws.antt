@@ -3,23 +3,28 @@
 --   count_is                                                 how many digits it has
 --   digits_are                                               the digits from the hundreds and the rest
 --   text_four, text_three, text_two, text_one                the text of digits, by their count
+--   four_room, three_room, two_room, one_room                the room that they need, by their count
+--   four_stores, three_stores, two_stores, one_stores        their bytes, stored one by one
+--   room_at                                                  where there is room for m bytes, there is for each of them
 --   digits_short                                             the digits and their space are at most 5 bytes
 --   digits_text_lem                                          they are the number's text
 -- Assumes nothing.
 use Prim.Native.Nat.{ℕ, ◌+◌, ◌/◌, ◌%◌, ◌≤◌, ◌<◌}
 use native.Mathlib.Omega.{arith}
-use mathlib.Core.Path.{◌≡◌, sym, ◌∙◌, ap, ap₂}
+use mathlib.Core.Path.{◌≡◌, sym, ◌∙◌, ap, ap₂, subst}
 use mathlib.Core.Bool.{Bool, true, false, cond}
 use mathlib.Core.Logic.{⊎_elim}
 use mathlib.Core.List.{List, [], ◌∷◌, ◌++◌}
 use lib.Dec.{eqb}
-use lib.ListN.{length}
+use lib.ListN.{length, set}
 use borrow.Author.Tests.{eq-eqb, ne_eqb, lt-ltb, le-ltb}
 use Rattle.lists.proofs.Tests.{le_or_lt}
 use Rattle.text.specs.Decimal.{decimal}
 use Rattle.text.proofs.Decimals.{decimal_small, decimal_large}
 use Rattle.digits.specs.declared.Digits.{Digits}
 use Rattle.digits.specs.Digits.{digit_count, digits_of, digits_text}
+use Rattle.digits.specs.Bytes.{Wrote}
+use Rattle.digits.proofs.Wrote.{wrote_none, wrote_byte, wrote_as}
 use Rattle.digits.proofs.Lengths.{length_small, decimal_length}
 
 -- ---- how many digits
@@ -93,6 +98,55 @@ module _ (x : Digits) where
       go false true r = omega arith
       go false false true = omega arith
       go false false false = omega arith
+
+  -- ---- store by store
+
+  module _ (b : List ℕ) (r : length (digits_text x) ≤ length b) where
+    room : {t : List ℕ} → t ≡ digits_text x → length t ≤ length b
+    room e = subst (λ (t : List ℕ). length t ≤ length b) (sym e) r
+
+    pub four_room : x.count ≡ 4 → 5 ≤ length b
+    four_room e = room (text_four e)
+
+    pub four_stores : x.count ≡ 4 → Wrote (digits_text x) b (set (set (set (set (set b 0 x.a) 1 x.b) 2 x.c) 3 x.d) 4 32) 5
+    four_stores e =
+        wrote_as (text_four e)
+        (wrote_byte
+        (wrote_byte
+        (wrote_byte (wrote_byte (wrote_byte (wrote_none b) x.a (omega (arith, four_room e))) x.b (omega (arith, four_room e))) x.c (omega (arith, four_room e)))
+        x.d (omega (arith, four_room e)))
+        32 (omega (arith, four_room e)))
+
+    module _ (f : x.count ≡ 4 → ⊥) where
+      pub three_room : x.count ≡ 3 → 4 ≤ length b
+      three_room e = room (text_three f e)
+
+      pub three_stores : x.count ≡ 3 → Wrote (digits_text x) b (set (set (set (set b 0 x.b) 1 x.c) 2 x.d) 3 32) 4
+      three_stores e =
+          wrote_as (text_three f e)
+          (wrote_byte
+          (wrote_byte (wrote_byte (wrote_byte (wrote_none b) x.b (omega (arith, three_room e))) x.c (omega (arith, three_room e))) x.d (omega (arith, three_room e)))
+          32 (omega (arith, three_room e)))
+
+      module _ (g : x.count ≡ 3 → ⊥) where
+        pub two_room : x.count ≡ 2 → 3 ≤ length b
+        two_room e = room (text_two f g e)
+
+        pub two_stores : x.count ≡ 2 → Wrote (digits_text x) b (set (set (set b 0 x.c) 1 x.d) 2 32) 3
+        two_stores e =
+            wrote_as (text_two f g e)
+            (wrote_byte (wrote_byte (wrote_byte (wrote_none b) x.c (omega (arith, two_room e))) x.d (omega (arith, two_room e))) 32 (omega (arith, two_room e)))
+
+        pub one_room : (x.count ≡ 2 → ⊥) → 2 ≤ length b
+        one_room h = room (text_one f g h)
+
+        pub one_stores : (x.count ≡ 2 → ⊥) → Wrote (digits_text x) b (set (set b 0 x.d) 1 32) 2
+        one_stores h =
+            wrote_as (text_one f g h)
+            (wrote_byte (wrote_byte (wrote_none b) x.d (omega (arith, one_room h))) 32 (omega (arith, one_room h)))
+
+pub room_at : (k : ℕ) {m : ℕ} (b : List ℕ) → k < m → m ≤ length b → k < length b
+room_at k b l h = omega (arith, l, h)
 
 -- ---- the number's text
 

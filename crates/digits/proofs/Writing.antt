@@ -1,5 +1,6 @@
 -- The last digit of a number in a buffer b, and the text of a literal by its sign.
 --   next_digit     the last digit of a number n, after those of m, a tenth of n
+--   below_zero_is  the sign, as std tests it
 --   text_positive, text_negative    a literal by its sign and magnitude; word_positive, word_negative: with one space
 --   lead_room, lead_start, lead_tail, lead_sum, lead_put, lead_kept    a text t of a byte u and a text x: the byte, and x after it
 --   any_start, any_tail, any_put, any_kept    the same with a byte v in the place of u, which must be u for the text alone
@@ -9,9 +10,11 @@ use native.Mathlib.Omega.{arith}
 use mathlib.Core.Path.{◌≡◌, refl, sym, ◌∙◌, ap}
 use mathlib.Core.Bool.{Bool, true, false, false≢true}
 use mathlib.Core.List.{List, [], ◌∷◌, ◌++◌}
+use lib.Dec.{leb-suc-zero}
 use lib.IntN.{ℤ, pos, negsuc, nat_abs}
 use lib.ListN.{length, take, drop, set}
 use borrow.Rule.Slice.PartMut.{put_mid}
+use Rattle.std.specs.Int.{is_negative as below_zero}
 use Rattle.text.specs.Decimal.{decimal}
 use Rattle.text.proofs.Decimals.{decimal_large}
 use Rattle.clause_literals.specs.Signed.{is_negative}
@@ -22,6 +25,10 @@ module _ (b : List ℕ) where
   pub next_digit : (n : ℕ) {m k v : ℕ} {e : List ℕ} → 10 ≤ n → m ≡ n / 10 → v ≡ 48 + n % 10 → k < length b → Wrote (decimal m) b e k
       → Wrote (decimal n) b (set e k v) (k + 1)
   next_digit n {v = v} h q d l W = wrote_as (rw (q, d, decimal_large n h)) (wrote_byte W v l)
+
+pub below_zero_is : (y : ℤ) → below_zero y ≡ is_negative y
+below_zero_is (pos n) = leb-suc-zero n
+below_zero_is (negsuc n) = refl
 
 -- y is x as the machine holds it, r and n are what is_negative and magnitude return
 pub text_positive : (x y : ℤ) (r : Bool) (n : ℕ) → y ≡ x → r ≡ is_negative y → r ≡ false → n ≡ nat_abs y → literal_text x ≡ decimal n

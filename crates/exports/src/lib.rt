@@ -34,6 +34,7 @@ pub fn qs_run(text: &[u8], j: usize, buf: &mut [u8]) -> Reply
 }
 
 // The check of a solver answer: how many atoms are true, the highest level, and how many variables the answer left out.
+// Kept beside `qs_fill`: both are C's names, with parameters of their own.
 pub fn qs_check(text: &[u8], answer: &[u8], assignment: &mut [u8], levels: &mut [u8]) -> Reply
     ensures { called result assignment.new levels.new
         ≡ check_replied text.now answer.now assignment.old levels.old }

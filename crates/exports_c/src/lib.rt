@@ -1,4 +1,5 @@
 // The archive for C, Rust and other languages (include/quadrensolo.h): each function is that of `exports`, under its C name.
+// Kept beside `exports`: C calls these names.
 #![tactic(auto)]
 
 ghost use Rattle.std.specs.Prelude.{◌≡◌};

@@ -82,7 +82,8 @@ pub fn read_file(rt: &HostRuntime, path: &[u8], buf: &mut [u8]) -> Front
     }
 }
 
-// Puts argument k of the program at the front of the buffer and returns its length, or 0 where it does not fit. None says that there is none.
+// Puts argument k of the program at the front of the buffer and returns its length; none where there is no such argument. One that does not fit is taken
+// for the empty argument.
 pub fn argument(rt: &HostRuntime, k: usize, buf: &mut [u8]) -> Option<usize>
     ensures { IfSome result (λ n. IsPrefixLen n buf.new) }
 {

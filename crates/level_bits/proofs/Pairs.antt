@@ -1,19 +1,19 @@
 -- What the levels and the pairs of a code in its tables (Tabled G ..) ask and write; ls are the bytes of the levels.
---   levels_room, chains_room      how much room the bits of levels and the two chains of a pair take does not depend on the levels
---   pairs_asks, pairs_in, pairs_done    one pair of many
+--   levels_taken                  of the levels of n atoms, the bits of the levels of atoms 1 to n
+--   chains_room                   how much room the two chains of a pair take does not depend on the levels
+--   pairs_asks, pairs_done    one pair of many
 --   pair_fits, partner_fits, owner_fits, pair_row    pair k, its body atom and its head
 -- Assumes nothing.
-use Prim.Native.Nat.{ℕ, zero, suc, ◌+◌, ◌*◌, ◌-◌, ◌≤◌, ◌<◌}
+use Prim.Native.Nat.{ℕ, zero, suc, ◌+◌, ◌-◌, ◌≤◌, ◌<◌}
 use native.Mathlib.Omega.{arith}
 use mathlib.Core.Path.{◌≡◌, sym, ◌∙◌, ap, ap₂, subst}
 use mathlib.Core.Bool.{So}
 use mathlib.Core.List.{List}
-use lib.ListN.{length, get_or, length-append}
-use Rattle.lists.specs.Lists.{each}
-use Rattle.lists.proofs.Tables.{length_tab, length_rows}
+use lib.ListN.{length, get_or, take, length-append}
+use lib.Seq.{length-take-le, get_or-take}
+use Rattle.lists.proofs.Tables.{length_tab, each_ext}
 use Rattle.meaning.specs.Program.{is_atom}
 use Rattle.encoding.specs.Code.{Code, pair_total, pair_body, pair_head}
-use Rattle.encoding.specs.Counter.{bit}
 use Rattle.encoding.specs.Fill.{less_at}
 use Rattle.theory.proofs.Atoms.{atom_pos, atom_le}
 use Rattle.theory.proofs.Pairs.{body_in, head_in}
@@ -21,14 +21,12 @@ use Rattle.clause_tables.specs.declared.Totals.{Totals}
 use Rattle.clause_tables.specs.Tables.{Tabled}
 use Rattle.clause_table_laws.proofs.Elements.{ranges, pairs_fit, atoms_are, pairs_are, partner_is, owner_is}
 use Rattle.level_lists.specs.Bytes.{level_byte}
-use Rattle.level_bits.specs.Bits.{byte_of, bit_bytes, less_bytes, pair_bytes, pair_at_bytes}
+use Rattle.level_bits.specs.Bits.{byte_of, bit_bytes, level_bytes, less_bytes, pair_bytes, pair_at_bytes}
 
--- of any numbers, one for each atom
-levels_length : (n w : ℕ) (f : ℕ → ℕ) → length (each n (λ a. bit_bytes w (f a))) ≡ n * w
-levels_length n w f = length_rows n w (λ a. bit_bytes w (f a)) (λ i h. length_tab w (λ j. byte_of (bit (f (suc i)) j)))
-
-pub levels_room : (n w : ℕ) (f g : ℕ → ℕ) {k : ℕ} → length (each n (λ a. bit_bytes w (f a))) ≤ k → length (each n (λ a. bit_bytes w (g a))) ≤ k
-levels_room n w f g {k} h = subst (λ (m : ℕ). m ≤ k) (levels_length n w f ∙ sym (levels_length n w g)) h
+pub levels_taken : (n w d : ℕ) (ls : List ℕ) → n ≤ length ls → level_bytes (length (take n ls)) w d (level_byte (take n ls)) ≡ level_bytes n w d (level_byte ls)
+levels_taken n w d ls h =
+    ap (λ (k : ℕ). level_bytes k w d (level_byte (take n ls))) (length-take-le n ls h)
+    ∙ each_ext n _ _ (λ i l. ap (λ (x : ℕ). bit_bytes w (x + d)) (get_or-take n ls i 0 l))
 
 chains_length : (w x y : ℕ) → length (pair_bytes w x y) ≡ w + w
 chains_length w x y =
@@ -51,9 +49,6 @@ module _ {G : Code} {t : Totals} {hs ss bs ks xs ys : List ℕ} (T : Tabled G t 
   -- pair k + 1, where there are k before it
   pub pairs_asks : (k : ℕ) → k < t.pairs → k < pair_total G
   pairs_asks k h = subst (λ (m : ℕ). k < m) (pairs_are G t hs ss bs ks xs ys T) h
-
-  pub pairs_in : (k : ℕ) → k ≤ t.pairs → k ≤ pair_total G
-  pairs_in k h = subst (λ (m : ℕ). k ≤ m) (pairs_are G t hs ss bs ks xs ys T) h
 
   pub pairs_done : (k : ℕ) → k ≤ t.pairs → t.pairs ≤ k → (k ≤ pair_total G) × (pair_total G ≤ k)
   pairs_done k h l = (subst (λ (m : ℕ). k ≤ m) (pairs_are G t hs ss bs ks xs ys T) h, subst (λ (m : ℕ). m ≤ k) (pairs_are G t hs ss bs ks xs ys T) l)

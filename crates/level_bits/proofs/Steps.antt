@@ -1,10 +1,10 @@
 -- Bits and comparisons, one bit after the other.
---   rest_start, rest_next, bit_is      what is left of a number, and its lowest bit
+--   rest_next, bit_is                  what is left of a number, and its lowest bit
 --   bits_equal, bits_differ            a bit that decides, and one that does not
---   less_start, less_next, less_goes   whether the lowest bits of x are below those of y
+--   less_next, less_goes               whether the lowest bits of x are below those of y
 -- Assumes nothing.
 use Prim.Native.Nat.{ℕ, zero, suc, ◌+◌, ◌*◌, ◌^◌, ◌/◌, ◌%◌, ◌<◌}
-use native.Mathlib.Nat.{mod-lt, mod-one, div-one}
+use native.Mathlib.Nat.{mod-lt}
 use native.Mathlib.Numerals.{add-one, one-add}
 use native.Mathlib.Omega.{arith}
 use mathlib.Core.Path.{◌≡◌, refl, sym, ◌∙◌, ap, ap₂}
@@ -16,9 +16,6 @@ use Rattle.encoding.specs.Counter.{bit}
 use Rattle.encoding.specs.Fill.{less_at}
 use Rattle.level_bits.specs.Bits.{byte_of}
 
-pub rest_start : (x : ℕ) → x ≡ x / 2 ^ 0
-rest_start x = sym (div-one x)
-
 pub rest_next : (x i : ℕ) {r : ℕ} → r ≡ x / 2 ^ i → r / 2 ≡ x / 2 ^ (i + 1)
 rest_next x i e = ap (λ (r : ℕ). r / 2) e ∙ shr-shr x i 1
 
@@ -29,9 +26,6 @@ bit_byte (suc (suc r)) h = absurd (omega arith)
 
 pub bit_is : (x i : ℕ) {r : ℕ} → r ≡ x / 2 ^ i → r % 2 ≡ byte_of (bit x (suc i))
 bit_is x i e = ap (λ (r : ℕ). r % 2) e ∙ bit_byte (x / 2 ^ i % 2) (mod-lt (x / 2 ^ i) (omega arith))
-
-pub less_start : (x y : ℕ) → 0 ≡ byte_of (less_at x y 0)
-less_start x y = sym (ap byte_of (le-ltb (x % 2 ^ 0) (y % 2 ^ 0) (omega (arith, mod-one x, mod-one y))))
 
 -- one bit above: c and d are the bits, u and v what lies below them, both below s
 above : (c d u v s : ℕ) → c < 2 → d < 2 → u < s → v < s → cond (eqb c d) (byte_of (ltb u v)) d ≡ byte_of (ltb (c * s + u) (d * s + v))

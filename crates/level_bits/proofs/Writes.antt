@@ -1,9 +1,8 @@
 -- Tables of truth values written at the front of a buffer b, one value after the other; e is the buffer as it then is.
 --   put_room, put_kept    there is room for value k + 1, and the buffer's length stays
---   put_next, put_all     value k + 1 after the first k; all of them
+--   put_next              value k + 1 after the first k
 -- Assumes nothing.
 use Prim.Native.Nat.{ℕ, suc, ◌+◌, ◌≤◌, ◌<◌}
-use native.Mathlib.Nat.{le_antisymm}
 use native.Mathlib.Numerals.{add-one}
 use native.Mathlib.Omega.{arith}
 use mathlib.Core.Path.{◌≡◌, sym, ◌∙◌, ap, subst}
@@ -30,7 +29,3 @@ module _ (p : ℕ → Bool) (n : ℕ) {b e : List ℕ} {k : ℕ} (f : Room (trut
   put_next {i} {v} h q r =
       subst (λ (j : ℕ). Wrote (truth_bytes (k + 1) p) b (set e j v) (k + 1)) (sym q)
       (wrote_as (ap (λ (x : ℕ). truth_bytes k p ++ (x ∷ [])) r ∙ ap (λ (j : ℕ). truth_bytes j p) (sym (add-one k))) (wrote_byte W v (within h)))
-
-  pub put_all : {x : ℕ} → k ≤ n → n ≤ k → x ≡ k → Wrote (truth_bytes n p) b e x
-  put_all h l q =
-      subst (λ (j : ℕ). Wrote (truth_bytes n p) b e j) (sym q) (wrote_as (ap (λ (j : ℕ). truth_bytes j p) (le_antisymm h l)) W)

@@ -3,12 +3,12 @@
 
 ghost use Rattle.std.specs.Prelude.{◌≤◌, ◌<◌, length};
 ghost use Rattle.digits.specs.Bytes.{Room, Wrote};
-ghost use Rattle.clause_tables.specs.Tables.{Ready, totals_in, code_in, atoms_in};
+ghost use Rattle.clause_tables.specs.Tables.{totals_in};
 ghost use Rattle.level_lists.specs.Bytes.{level_byte};
+ghost use Rattle.level_lists.specs.Sets.{code_of, levels_of};
 ghost use Rattle.level_bits.specs.Bits.{bit_bytes, level_bytes, less_bytes, pair_bytes, pair_at_bytes, chain_bytes};
 
-use clause_cells::{pair_body, pair_head, totals};
-use level_lists::byte_of;
+use level_lists::{AtomBytes, byte_of};
 use numbers::{Atom, Pair};
 
 // Each function below writes its bytes at the front of the buffer and returns how many they are.
@@ -55,39 +55,38 @@ fn put_pair_values(w: usize, x: u16, y: u16, buf: &mut [u8]) -> usize
 }
 
 // The bits of the level of each atom with d more: its level, or its next.
-pub fn put_level_values(n: u16, w: usize, d: u16, levels: &[u8], buf: &mut [u8]) -> usize
-    requires { (n ≤ length levels.now) × (d ≤ 1) × (Room (level_bytes n w d (level_byte levels.now)) buf.old) }
-    ensures { Wrote (level_bytes n w d (level_byte levels.now)) buf.old buf.new result }
+pub fn put_level_values(w: usize, d: u16, levels: &[u8], buf: &mut [u8]) -> usize
+    requires { (d ≤ 1) × (Room (level_bytes (length levels.now) w d (level_byte levels.now)) buf.old) }
+    ensures { Wrote (level_bytes (length levels.now) w d (level_byte levels.now)) buf.old buf.new result }
 {
     let mut to: usize = 0;
-    for a in 0..n {
-        let x = u16::from(byte_of(levels, Atom(a + 1)));
+    for level in levels {
+        let x = u16::from(*level);
         to += put_bits(w, x + d, &mut buf[to..]);
     }
     to
 }
 
 // The two chains of pair k.
-fn put_pair_at<'a>(table: &'a [u16], w: usize, k: Pair, levels: &'a [u8], buf: &mut [u8]) -> usize
-    requires { (Ready table.now) × (0 < k.0) × (k.0 ≤ (totals_in table.now).pairs) × (atoms_in table.now ≤ length levels.now)
-        × (Room (pair_at_bytes (code_in table.now) w (level_byte levels.now) k.0) buf.old) }
-    ensures { Wrote (pair_at_bytes (code_in table.now) w (level_byte levels.now) k.0)
-        buf.old buf.new result }
+fn put_pair_at(levels: AtomBytes<'_>, w: usize, k: Pair, buf: &mut [u8]) -> usize
+    requires { (0 < k.0) × (k.0 ≤ (totals_in levels.table.cells.now).pairs)
+        × (Room (pair_at_bytes (code_of levels) w (levels_of levels) k.0) buf.old) }
+    ensures { Wrote (pair_at_bytes (code_of levels.entry) w (levels_of levels.entry) k.0) buf.old buf.new result }
 {
-    let x = u16::from(byte_of(levels, pair_body(table, k)));
-    let y = u16::from(byte_of(levels, pair_head(table, k)));
+    let table = levels.table;
+    let x = u16::from(byte_of(levels.bytes, table.pair_body(k)));
+    let y = u16::from(byte_of(levels.bytes, table.pair_head(k)));
     put_pair_values(w, x, y, buf)
 }
 
 // The two chains of each pair.
-pub fn put_chains<'a>(table: &'a [u16], w: usize, levels: &'a [u8], buf: &mut [u8]) -> usize
-    requires { (Ready table.now) × (atoms_in table.now ≤ length levels.now)
-        × (Room (chain_bytes (code_in table.now) w (level_byte levels.now)) buf.old) }
-    ensures { Wrote (chain_bytes (code_in table.now) w (level_byte levels.now)) buf.old buf.new result }
+pub fn put_chains(levels: AtomBytes<'_>, w: usize, buf: &mut [u8]) -> usize
+    requires { Room (chain_bytes (code_of levels) w (levels_of levels)) buf.old }
+    ensures { Wrote (chain_bytes (code_of levels.entry) w (levels_of levels.entry)) buf.old buf.new result }
 {
     let mut to: usize = 0;
-    for k in 0..totals(table).pairs {
-        to += put_pair_at(table, w, Pair(k + 1), levels, &mut buf[to..]);
+    for k in 0..levels.table.totals().pairs {
+        to += put_pair_at(levels, w, Pair(k + 1), &mut buf[to..]);
     }
     to
 }

@@ -1,35 +1,37 @@
 -- What each family asks and writes, for a code in its tables (Tabled G ..); s are the bytes of the set, ls those of the levels.
 --   body_unmet, body_is           the body of a rule, list by list
---   founds_unmet, founds_is       whether a rule founds its head
+--   founds_is                     whether a rule founds its head
 --   is_byte                       a truth value as a byte
---   rule_asks, rule_inside, rule_row, rules_in_lem, rules_done  one rule of many
---   atom_row                      one atom of many
+--   levels_family                 the bits of the levels of the first atoms
+--   truth_row, truths_room, truths_long, truths_as    truth values of any kind, one after the other
+--   rules_of                      as many as there are rules
 --   families_room, families_written, values_written    the families one after the other
 --   levels_long, filled_is        with the levels of the stages
 -- Assumes nothing.
-use Prim.Native.Nat.{ℕ, suc, ◌+◌, ◌≤◌, ◌<◌}
+use Prim.Native.Nat.{ℕ, suc, ◌+◌, ◌≤◌}
 use native.Mathlib.Numerals.{add-one}
 use native.Mathlib.Omega.{arith}
 use mathlib.Core.Path.{◌≡◌, refl, sym, ◌∙◌, ap, ap₂, subst}
-use mathlib.Core.Bool.{Bool, true, false, not, ◌&&◌, So}
+use mathlib.Core.Bool.{Bool, true, false, ◌&&◌, So}
 use mathlib.Core.List.{List, ◌++◌}
 use mir.Val.{bool_byte}
-use lib.Dec.{eqb, ltb}
-use lib.ListN.{length, get_or, drop, length-append}
+use lib.Dec.{ltb}
+use lib.ListN.{length, take, drop, length-append}
 use Rattle.lists.specs.Lists.{all, tab, each}
 use Rattle.lists.proofs.Tables.{length_tab}
 use Rattle.meaning.specs.Program.{Rule, Atoms, is_atom, none_in, body_true}
 use Rattle.encoding.specs.Code.{Code, rl, inner, level_of, code_fill}
-use Rattle.theory.proofs.Atoms.{RuleIn, is_atom_lem}
+use Rattle.theory.proofs.Atoms.{RuleIn}
 use Rattle.clause_tables.specs.declared.Totals.{Totals}
 use Rattle.clause_tables.specs.Tables.{Tabled}
 use Rattle.clause_table_laws.proofs.Elements.{ranges, inner_all, rules_are, atoms_are, width_are, vars_are}
-use Rattle.truth_clauses.specs.Truth.{value_in}
+use Rattle.truth_literals.specs.Values.{value_in}
 use Rattle.level_lists.specs.Bytes.{set_in, level_byte}
-use Rattle.level_lists.proofs.Rules.{set_is, none_is, all_is}
+use Rattle.level_lists.proofs.Rules.{none_is, all_is}
 use Rattle.level_stages.proofs.OneRound.{tab_byte}
 use Rattle.answer_offers.specs.Offered.{value_bytes}
-use Rattle.level_bits.specs.Bits.{byte_of}
+use Rattle.level_bits.specs.Bits.{byte_of, truth_bytes, level_bytes}
+use Rattle.level_bits.proofs.Pairs.{levels_taken}
 use Rattle.level_fill.specs.Values.{founds_at, family_bytes, filled_with}
 use Rattle.level_fill.proofs.Whole.{filled_same, filled_fill, values_are, values_length}
 use Rattle.digits.specs.Bytes.{Room, Wrote}
@@ -47,9 +49,6 @@ module _ {n : ℕ} {R : Rule} (I : RuleIn n R) (s : List ℕ) {u : Bool} (e : u 
       ∙ sym (ap (λ (b : Bool). b && none_in (set_in n s) R.negative) (sym (all_is n s R.positive I.positive_in) ∙ sym e ∙ z))
 
 module _ {G : Code} {t : Totals} {hs ss bs ks xs ys : List ℕ} (T : Tabled G t hs ss bs ks xs ys) (M : Atoms) (ls : List ℕ) (r : ℕ) {u : Bool} (e : u ≡ body_true M (rl G r)) where
-  pub founds_unmet : u ≡ false → false ≡ founds_at G M (level_byte ls) r
-  founds_unmet z = sym (ap (λ (b : Bool). b && all (λ b. ltb (level_byte ls b) (level_byte ls (rl G r).head)) (inner G r)) (sym e ∙ z))
-
   pub founds_is : {v : Bool} {h y : ℕ} → u ≡ true → h ≡ (rl G r).head → y ≡ level_byte ls h → v ≡ all (λ b. ltb (level_byte ls b) y) (rl G r).positive
       → v ≡ founds_at G M (level_byte ls) r
   founds_is z q l f =
@@ -61,32 +60,34 @@ pub is_byte : (b : Bool) → bool_byte b ≡ byte_of b
 is_byte true = refl
 is_byte false = refl
 
--- rule k + 1, whose test is x and its byte v
-pub rule_row : (p : ℕ → Bool) (k : ℕ) {x : Bool} {v : ℕ} → x ≡ p (k + 1) → v ≡ byte_of x → v ≡ byte_of (p (suc k))
-rule_row p k e f = f ∙ ap byte_of (e ∙ ap p (add-one k))
+-- number k + 1, whose test is x and its byte v
+pub truth_row : (p : ℕ → Bool) (k : ℕ) {x : Bool} {v : ℕ} → x ≡ p (k + 1) → v ≡ byte_of x → v ≡ byte_of (p (suc k))
+truth_row p k e f = f ∙ ap byte_of (e ∙ ap p (add-one k))
 
--- atom a + 1 of the set
-pub atom_row : (n : ℕ) (s : List ℕ) (a : ℕ) {v : ℕ} → a < n → v ≡ byte_of (not (eqb (get_or s a 0) 0)) → v ≡ byte_of (set_in n s (suc a))
-atom_row n s a h e = e ∙ ap byte_of (set_is n s (suc a) (is_atom_lem n (suc a) (omega arith) h))
+-- the room that n truth values take
+pub truths_room : (n : ℕ) (p : ℕ → Bool) (b : List ℕ) → n ≤ length b → Room (truth_bytes n p) b
+truths_room n p b h = omega (arith, h, length_tab n (λ i. byte_of (p i)))
+
+pub truths_long : (n : ℕ) (p : ℕ → Bool) (b : List ℕ) {m : ℕ} → m ≡ n → Room (truth_bytes n p) b → m ≤ length b
+truths_long n p b e h = omega (arith, e, h, length_tab n (λ i. byte_of (p i)))
+
+-- the levels of the first n atoms
+pub levels_family : (ls : List ℕ) (d : ℕ) {m n v w : ℕ} → m ≡ n → v ≡ w → n ≤ length ls
+    → level_bytes (length (take m ls)) v d (level_byte (take m ls)) ≡ level_bytes n w d (level_byte ls)
+levels_family ls d {m} {n} {v} {w} e f h = ap₂ (λ (k u : ℕ). level_bytes (length (take k ls)) u d (level_byte (take k ls))) e f ∙ levels_taken n w d ls h
+
+-- as many truth values as there are
+pub truths_as : {n m r : ℕ} {b e : List ℕ} (p : ℕ → Bool) → m ≡ n → Wrote (truth_bytes m p) b e r → Wrote (truth_bytes n p) b e r
+truths_as p e W = wrote_as (ap (λ (m : ℕ). truth_bytes m p) e) W
 
 -- ---- of the tables
 
 module _ {G : Code} {t : Totals} {hs ss bs ks xs ys : List ℕ} (T : Tabled G t hs ss bs ks xs ys) where
-  pub rule_asks : (k : ℕ) → k < t.sizes.m → (0 < k + 1) × (k + 1 ≤ t.sizes.m)
-  rule_asks k h = (omega arith, omega (arith, h))
-
   atoms : t.sizes.n ≡ G.n
   atoms = atoms_are G t hs ss bs ks xs ys T
 
-  pub rule_inside : (k : ℕ) → k < t.sizes.m → k < length G.rules
-  rule_inside k h = subst (λ (m : ℕ). k < m) (rules_are G t hs ss bs ks xs ys T) h
-
-  pub rules_in_lem : (k : ℕ) → k ≤ t.sizes.m → k ≤ length G.rules
-  rules_in_lem k h = subst (λ (m : ℕ). k ≤ m) (rules_are G t hs ss bs ks xs ys T) h
-
-  -- as many as there are
-  pub rules_done : (k : ℕ) → k ≤ t.sizes.m → t.sizes.m ≤ k → (k ≤ length G.rules) × (length G.rules ≤ k)
-  rules_done k h l = (subst (λ (m : ℕ). k ≤ m) (rules_are G t hs ss bs ks xs ys T) h, subst (λ (m : ℕ). m ≤ k) (rules_are G t hs ss bs ks xs ys T) l)
+  pub rules_of : {m : ℕ} → m ≡ t.sizes.m → m ≡ length G.rules
+  rules_of e = e ∙ rules_are G t hs ss bs ks xs ys T
 
   -- ---- all families, with w the width
   module _ (s ls : List ℕ) {w : ℕ} (q : w ≡ t.sizes.w) where

@@ -2,7 +2,5 @@
 pub mod Whole
 -- Families: what each family asks and writes
 pub mod Families
--- Cases: what each function writes is a family
-pub mod Cases
 -- Computed: facts that compute
 pub mod Computed

@@ -1,111 +1,150 @@
 // The filled-out assignment of a set of atoms and their levels, family by family into a lent buffer (document 01, "Check and filling out").
 #![tactic(auto)]
 
-ghost use Rattle.std.specs.Prelude.{◌≤◌, ◌<◌, ◌≡◌, ◌++◌, length, drop};
+ghost use Rattle.std.specs.Prelude.{ℕ, Bool, ◌≤◌, ◌<◌, ◌≡◌, ◌++◌, length, drop};
 ghost use Rattle.lists.specs.Lists.{tab};
 ghost use Rattle.meaning.specs.Program.{body_true};
-ghost use Rattle.encoding.specs.Code.{rl, level_of, code_fill};
+ghost use Rattle.encoding.specs.Code.{level_of, code_fill};
 ghost use Rattle.digits.specs.Bytes.{Room, Wrote};
-ghost use Rattle.clause_tables.specs.Tables.{Ready, code_in, atoms_in, rules_in, vars_in};
-ghost use Rattle.level_lists.specs.Bytes.{set_in, level_byte};
+ghost use Rattle.clause_tables.specs.Tables.{rules_in, vars_in};
+ghost use Rattle.level_lists.specs.Bytes.{level_byte};
+ghost use Rattle.level_lists.specs.Sets.{atoms_of, code_of, set_of, rule_of};
 ghost use Rattle.answer_offers.specs.Offered.{value_bytes};
-ghost use Rattle.level_fill.specs.Values.{atom_bytes, body_bytes, founds_at, founds_bytes, filled_with};
+ghost use Rattle.level_bits.specs.Bits.{truth_bytes};
+ghost use Rattle.level_fill.specs.Values.{TestsBy, atom_bytes, body_bytes, founds_at, founds_bytes, family_of, filled_with};
 
-use clause_cells::{head, totals};
 use level_bits::{put_chains, put_level_values};
-use level_lists::{byte_of, negatives_out, positives_below, positives_in};
-use numbers::Rule;
+use level_lists::{AtomBytes, RuleOver, byte_of};
+use numbers::{Atom, Rule};
 
-// Whether the body of rule r is true.
-fn body_true<'a>(table: &'a [u16], r: Rule, set: &'a [u8]) -> bool
-    requires { (Ready table.now) × (0 < r.0) × (r.0 ≤ rules_in table.now) × (atoms_in table.now ≤ length set.now) }
-    ensures { result ≡ body_true (set_in (atoms_in table.now) set.now) (rl (code_in table.now) r.0) }
+// Whether the body of a rule is true.
+fn body_true(r: RuleOver<'_>) -> bool
+    ensures { result ≡ body_true (set_of r.entry.atoms) (rule_of r.entry) }
 {
-    positives_in(table, r, set) && negatives_out(table, r, set)
+    r.positives_in() && r.negatives_out()
 }
 
-// Whether rule r founds its head: its body is true and each of its B has a smaller level than the head.
-fn rule_founds<'a>(table: &'a [u16], r: Rule, set: &'a [u8], levels: &'a [u8]) -> bool
-    requires { (Ready table.now) × (0 < r.0) × (r.0 ≤ rules_in table.now) × (atoms_in table.now ≤ length set.now)
-        × (atoms_in table.now ≤ length levels.now) }
-    ensures { result ≡ founds_at (code_in table.now) (set_in (atoms_in table.now) set.now)
-        (level_byte levels.now) r.0 }
+// Whether a rule founds its head: its body is true and each of its B has a smaller level than the head.
+fn rule_founds(r: RuleOver<'_>, levels: &[u8]) -> bool
+    requires { atoms_of r.atoms ≤ length levels.now }
+    ensures { result ≡ founds_at (code_of r.entry.atoms) (set_of r.entry.atoms) (level_byte levels.now) r.entry.rule.0 }
 {
-    let h = head(table, r);
+    let h = r.atoms.table.head(r.rule);
     let y = byte_of(levels, h);
-    body_true(table, r, set) && positives_below(table, r, levels, y)
+    body_true(r) && r.positives_below(levels, y)
 }
 
 // Each function below writes its bytes at the front of the buffer and returns how many they are.
 
-// The values of the atoms.
-fn put_atom_values(n: u16, set: &[u8], buf: &mut [u8]) -> usize
-    requires { (n ≤ length set.now) × (Room (atom_bytes n (set_in n set.now)) buf.old) }
-    ensures { Wrote (atom_bytes n (set_in n set.now)) buf.old buf.new result }
+// What a test says of each number from 1 to n.
+fn put_truths<F: Fn(u16) -> bool>(n: u16, test: F, buf: &mut [u8]) -> usize
+    requires { ((k : ℕ) → 0 < k → k ≤ n → F.pre test k) × (n ≤ length buf.old) }
+    ensures { (p : ℕ → Bool) → TestsBy n p (λ k b. F.post test k b) → Wrote (truth_bytes n p) buf.old buf.new result }
 {
-    for a in 0..usize::from(n) {
-        buf[a] = u8::from(set[a] != 0);
+    for k in 0..n {
+        buf[usize::from(k)] = u8::from(test(k + 1));
     }
     usize::from(n)
 }
 
-// Kept as two functions, put_bodies and put_founds: one over a closure needs a contract that ranges over all tests that the closure may compute.
+// The values of the atoms.
+fn put_atom_values(set: AtomBytes<'_>, buf: &mut [u8]) -> usize
+    requires { Room (atom_bytes (atoms_of set) (set_of set)) buf.old }
+    ensures { Wrote (atom_bytes (atoms_of set.entry) (set_of set.entry)) buf.old buf.new result }
+{
+    let s = set.table.totals().sizes;
+    put_truths(
+        s.n,
+        |a|
+            requires { (0 < a) × (a ≤ length set.bytes.now) }
+        { byte_of(set.bytes, Atom(a)) != 0 },
+        buf,
+    )
+}
 
 // Of each rule, whether its body is true.
-fn put_bodies<'a>(table: &'a [u16], set: &'a [u8], buf: &mut [u8]) -> usize
-    requires { (Ready table.now) × (atoms_in table.now ≤ length set.now)
-        × (Room (body_bytes (code_in table.now) (set_in (atoms_in table.now) set.now)) buf.old) }
-    ensures { Wrote (body_bytes (code_in table.now) (set_in (atoms_in table.now) set.now))
-        buf.old buf.new result }
+fn put_bodies(set: AtomBytes<'_>, buf: &mut [u8]) -> usize
+    requires { Room (body_bytes (code_of set) (set_of set)) buf.old }
+    ensures { Wrote (body_bytes (code_of set.entry) (set_of set.entry)) buf.old buf.new result }
 {
-    let m = totals(table).sizes.m;
-    for r in 0..m {
-        buf[usize::from(r)] = u8::from(body_true(table, Rule(r + 1), set));
-    }
-    usize::from(m)
+    let s = set.table.totals().sizes;
+    put_truths(
+        s.m,
+        |r|
+            requires { (0 < r) × (r ≤ rules_in set.table.cells.now) }
+        {
+            body_true(RuleOver {
+                atoms: set,
+                rule: Rule(r),
+            })
+        },
+        buf,
+    )
 }
 
 // Of each rule, whether it founds its head.
-fn put_founds<'a>(table: &'a [u16], set: &'a [u8], levels: &'a [u8], buf: &mut [u8]) -> usize
-    requires { (Ready table.now) × (atoms_in table.now ≤ length set.now) × (atoms_in table.now ≤ length levels.now)
-        × (Room (founds_bytes (code_in table.now) (set_in (atoms_in table.now) set.now) (level_byte levels.now)) buf.old) }
-    ensures { Wrote
-        (founds_bytes (code_in table.now) (set_in (atoms_in table.now) set.now) (level_byte levels.now))
-        buf.old buf.new result }
+fn put_founds(set: AtomBytes<'_>, levels: &[u8], buf: &mut [u8]) -> usize
+    requires { (atoms_of set ≤ length levels.now) × (Room (founds_bytes (code_of set) (set_of set) (level_byte levels.now)) buf.old) }
+    ensures { Wrote (founds_bytes (code_of set.entry) (set_of set.entry) (level_byte levels.now)) buf.old buf.new result }
 {
-    let m = totals(table).sizes.m;
-    for r in 0..m {
-        buf[usize::from(r)] = u8::from(rule_founds(table, Rule(r + 1), set, levels));
+    let s = set.table.totals().sizes;
+    put_truths(
+        s.m,
+        |r|
+            requires { (0 < r) × (r ≤ rules_in set.table.cells.now) × (atoms_of set ≤ length levels.now) }
+        {
+            let rule = RuleOver {
+                atoms: set,
+                rule: Rule(r),
+            };
+            rule_founds(rule, levels)
+        },
+        buf,
+    )
+}
+
+// Family k of the six that follow one another.
+fn put_family(set: AtomBytes<'_>, levels: &[u8], k: u16, buf: &mut [u8]) -> usize
+    requires { (0 < k) × (k ≤ 6) × (atoms_of set ≤ length levels.now) × (Room (family_of set levels.now k) buf.old) }
+    ensures { Wrote (family_of set.entry levels.now k) buf.old buf.new result }
+{
+    let s = set.table.totals().sizes;
+    let n = usize::from(s.n);
+    let w = usize::from(s.w);
+    match k {
+        1 => put_atom_values(set, buf),
+        2 => put_bodies(set, buf),
+        3 => put_founds(set, levels, buf),
+        4 => put_level_values(w, 0, &levels[..n], buf),
+        5 => put_level_values(w, 1, &levels[..n], buf),
+        _ => {
+            let of_atoms = AtomBytes {
+                table: set.table,
+                bytes: levels,
+            };
+            put_chains(of_atoms, w, buf)
+        }
     }
-    usize::from(m)
 }
 
 // The filled-out values of the set, for levels of any kind.
-fn put_values<'a>(table: &'a [u16], set: &'a [u8], levels: &'a [u8], buf: &mut [u8]) -> usize
-    requires { (Ready table.now) × (atoms_in table.now ≤ length set.now) × (atoms_in table.now ≤ length levels.now)
-        × (vars_in table.now ≤ length buf.old) }
-    ensures { Wrote (value_bytes
-        (filled_with (code_in table.now) (set_in (atoms_in table.now) set.now) (level_byte levels.now)))
-        buf.old buf.new result }
+fn put_values(set: AtomBytes<'_>, levels: &[u8], buf: &mut [u8]) -> usize
+    requires { (atoms_of set ≤ length levels.now) × (vars_in set.table.cells.now ≤ length buf.old) }
+    ensures { Wrote (value_bytes (filled_with (code_of set.entry) (set_of set.entry) (level_byte levels.now))) buf.old buf.new result }
 {
-    let s = totals(table).sizes;
-    let w = usize::from(s.w);
-    let mut to = put_atom_values(s.n, set, buf);
-    to += put_bodies(table, set, &mut buf[to..]);
-    to += put_founds(table, set, levels, &mut buf[to..]);
-    to += put_level_values(s.n, w, 0, levels, &mut buf[to..]);
-    to += put_level_values(s.n, w, 1, levels, &mut buf[to..]);
-    to + put_chains(table, w, levels, &mut buf[to..])
+    let mut to: usize = 0;
+    for k in 0..6 {
+        to += put_family(set, levels, k + 1, &mut buf[to..]);
+    }
+    to
 }
 
 // Writes the filled-out assignment of the set, whose levels are given, to the first V bytes.
-pub fn put_filled<'a>(table: &'a [u16], set: &'a [u8], levels: &'a [u8], assignment: &mut [u8])
-    requires { (Ready table.now) × (atoms_in table.now ≤ length set.now)
-        × (levels.now ≡ tab (atoms_in table.now) (level_of (code_in table.now) (set_in (atoms_in table.now) set.now))
-        ++ drop (atoms_in table.now) levels.now) × (vars_in table.now ≤ length assignment.old) }
+pub fn put_filled(set: AtomBytes<'_>, levels: &[u8], assignment: &mut [u8])
+    requires { (levels.now ≡ tab (atoms_of set) (level_of (code_of set) (set_of set)) ++ drop (atoms_of set) levels.now)
+        × (vars_in set.table.cells.now ≤ length assignment.old) }
     ensures { assignment.new
-        ≡ value_bytes (code_fill (code_in table.now) (set_in (atoms_in table.now) set.now))
-        ++ drop (vars_in table.now) assignment.old }
+        ≡ value_bytes (code_fill (code_of set.entry) (set_of set.entry)) ++ drop (vars_in set.entry.table.cells.now) assignment.old }
 {
-    put_values(table, set, levels, assignment);
+    put_values(set, levels, assignment);
 }

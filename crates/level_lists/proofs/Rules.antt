@@ -23,7 +23,7 @@ use Rattle.lists.specs.Lists.{all}
 use Rattle.lists.proofs.Tests.{all_at, all_in, all_ext}
 use Rattle.meaning.specs.Program.{Rule, rule_at, is_atom, none_in}
 use Rattle.theory.proofs.Atoms.{RuleIn, rule_in_lem, atom_pos, atom_le, is_atom_lem}
-use Rattle.truth_clauses.specs.Truth.{value_in}
+use Rattle.truth_literals.specs.Values.{value_in}
 use Rattle.clause_tables.specs.declared.Totals.{Totals}
 use Rattle.clause_tables.specs.Tables.{Tabled}
 use Rattle.clause_walk.proofs.Tabs.{head_is as its_head}

@@ -10,7 +10,7 @@ use Rattle.std.specs.Prelude.{ℕ, pred, Bool, ◌&&◌, cond, List, eqb, leb, l
 use Rattle.lists.specs.Lists.{all}
 use Rattle.meaning.specs.Program.{Rule, Atoms, none_in}
 use Rattle.encoding.specs.Fill.{true_in}
-use Rattle.truth_clauses.specs.Truth.{value_in}
+use Rattle.truth_literals.specs.Values.{value_in}
 
 abbrev pub set_in : ℕ → List ℕ → Atoms
 set_in n s = true_in n (value_in s)

@@ -3,14 +3,14 @@
 
 ghost use Rattle.std.specs.Prelude.{pred, ◌≤◌, ◌<◌, ◌≡◌, ltb, length, set as put};
 ghost use Rattle.std.proofs.Math.Bool.{So};
+ghost use Rattle.std.proofs.Props.{props};
 ghost use Rattle.lists.specs.Lists.{all};
 ghost use Rattle.meaning.specs.Program.{is_atom, none_in};
-ghost use Rattle.encoding.specs.Code.{rl};
-ghost use Rattle.clause_tables.specs.Tables.{Ready, code_in, atoms_in, rules_in};
-ghost use Rattle.truth_clauses.specs.Truth.{value_in};
-ghost use Rattle.level_lists.specs.Bytes.{set_in, level_byte, is_within, enters};
+ghost use Rattle.clause_tables.specs.Tables.{atoms_in, rules_in};
+ghost use Rattle.truth_literals.specs.Values.{value_in};
+ghost use Rattle.level_lists.specs.Bytes.{level_byte, is_within, list_of, enters};
 
-use clause_cells::{body, list_start};
+use clause_cells::Table;
 use numbers::{Atom, Rule};
 
 // The byte of atom a.
@@ -30,6 +30,7 @@ pub fn put_byte(bytes: &mut [u8], a: Atom, x: u8)
 }
 
 // Whether each atom of a list has a byte from lo on and below hi.
+// Kept as a loop: with `atoms.iter().all(..)` the proof that each atom has a byte, which the closure asks, did not close.
 fn all_within<'a>(atoms: &'a [u16], bytes: &'a [u8], lo: u16, hi: u16) -> bool
     requires { So (all (is_atom (length bytes.now)) atoms.now) }
     ensures { result ≡ all (is_within bytes.now lo hi) atoms.now }
@@ -43,53 +44,76 @@ fn all_within<'a>(atoms: &'a [u16], bytes: &'a [u8], lo: u16, hi: u16) -> bool
     true
 }
 
-// The B atoms of rule r, and its C atoms.
-fn positives(table: &[u16], r: Rule) -> &[u16]
-    requires { (Ready table.now) × (0 < r.0) × (r.0 ≤ rules_in table.now) }
-    ensures { result.now ≡ (rl (code_in table.now) r.0).positive }
+// Whether each atom of a list is in the set that the bytes hold.
+fn all_in<'a>(atoms: &'a [u16], bytes: &'a [u8]) -> bool
+    requires { So (all (is_atom (length bytes.now)) atoms.now) }
+    ensures { result ≡ all (value_in bytes.now) atoms.now }
 {
-    let first = list_start(table, r, 0);
-    let end = list_start(table, r, 1);
-    body(table, first, end)
+    all_within(atoms, bytes, 1, 256)
 }
 
-fn negatives(table: &[u16], r: Rule) -> &[u16]
-    requires { (Ready table.now) × (0 < r.0) × (r.0 ≤ rules_in table.now) }
-    ensures { result.now ≡ (rl (code_in table.now) r.0).negative }
-{
-    let first = list_start(table, r, 1);
-    let end = list_start(table, r, 2);
-    body(table, first, end)
+// The two lists of a rule's body, by number: its B atoms, and its C atoms.
+const POSITIVE: u16 = 0;
+
+const NEGATIVE: u16 = 1;
+
+// The table of a program, and a byte for each of its atoms: a set, or levels.
+#[derive(Clone, Copy)]
+pub struct AtomBytes<'a> {
+    pub table: Table<'a>,
+    pub bytes: &'a [u8],
+    pub ghost long: { atoms_in table.cells.now ≤ length bytes.now } by { Prim.hlevel props },
 }
 
-// Of rule r: whether each C atom has byte 0, whether no B atom has, and whether each B atom has a byte below y.
-pub fn negatives_out<'a>(table: &'a [u16], r: Rule, bytes: &'a [u8]) -> bool
-    requires { (Ready table.now) × (0 < r.0) × (r.0 ≤ rules_in table.now) × (atoms_in table.now ≤ length bytes.now) }
-    ensures { result ≡ none_in (value_in bytes.now) (rl (code_in table.now) r.0).negative }
-{
-    all_within(negatives(table, r), bytes, 0, 1)
+// A rule of the table, beside such bytes.
+#[derive(Clone, Copy)]
+pub struct RuleOver<'a> {
+    pub atoms: AtomBytes<'a>,
+    pub rule: Rule,
+    pub ghost some: { 0 < rule.0 } by { Prim.hlevel props },
+    pub ghost within: { rule.0 ≤ rules_in atoms.table.cells.now } by { Prim.hlevel props },
 }
 
-pub fn positives_in<'a>(table: &'a [u16], r: Rule, bytes: &'a [u8]) -> bool
-    requires { (Ready table.now) × (0 < r.0) × (r.0 ≤ rules_in table.now) × (atoms_in table.now ≤ length bytes.now) }
-    ensures { result ≡ all (value_in bytes.now) (rl (code_in table.now) r.0).positive }
-{
-    all_within(positives(table, r), bytes, 1, 256)
-}
+// Kept as a function for each question: they differ in the list, in the bytes asked for and in what is promised, and share `list` and all_within.
+impl<'a> RuleOver<'a> {
+    ghost use Rattle.level_lists.specs.Sets.{set_of, rule_of};
 
-pub fn positives_below<'a>(table: &'a [u16], r: Rule, bytes: &'a [u8], y: u8) -> bool
-    requires { (Ready table.now) × (0 < r.0) × (r.0 ≤ rules_in table.now) × (atoms_in table.now ≤ length bytes.now) }
-    ensures { result ≡ all (λ b. ltb (level_byte bytes.now b) y) (rl (code_in table.now) r.0).positive }
-{
-    all_within(positives(table, r), bytes, 0, u16::from(y))
-}
+    // List k of its body.
+    fn list(self, k: u16) -> &'a [u16]
+        requires { k ≤ 1 }
+        ensures { result.now ≡ list_of (rule_of self.entry) k }
+    {
+        let table = self.atoms.table;
+        let first = table.list_start(self.rule, k);
+        let end = table.list_start(self.rule, k + 1);
+        table.body(first, end)
+    }
 
-// Whether rule r is kept and each of its B has a level below i.
-pub fn rule_enters<'a>(table: &'a [u16], r: Rule, i: u8, set: &'a [u8], levels: &'a [u8]) -> bool
-    requires { (Ready table.now) × (0 < r.0) × (r.0 ≤ rules_in table.now) × (atoms_in table.now ≤ length set.now)
-        × (atoms_in table.now ≤ length levels.now) }
-    ensures { result ≡ enters (set_in (atoms_in table.now) set.now) levels.now i
-        (rl (code_in table.now) r.0) }
-{
-    negatives_out(table, r, set) && all_within(positives(table, r), levels, 1, u16::from(i))
+    // Whether each C atom has byte 0, whether no B atom has, and whether each B atom has a level below y, or none.
+    pub fn negatives_out(self) -> bool
+        ensures { result ≡ none_in (value_in self.entry.atoms.bytes.now) (rule_of self.entry).negative }
+    {
+        all_within(self.list(NEGATIVE), self.atoms.bytes, 0, 1)
+    }
+
+    pub fn positives_in(self) -> bool
+        ensures { result ≡ all (value_in self.entry.atoms.bytes.now) (rule_of self.entry).positive }
+    {
+        all_in(self.list(POSITIVE), self.atoms.bytes)
+    }
+
+    pub fn positives_below(self, levels: &[u8], y: u8) -> bool
+        requires { atoms_in self.atoms.table.cells.now ≤ length levels.now }
+        ensures { result ≡ all (λ b. ltb (level_byte levels.now b) y) (rule_of self.entry).positive }
+    {
+        all_within(self.list(POSITIVE), levels, 0, u16::from(y))
+    }
+
+    // Whether the rule is kept, for the set that the bytes hold, and each of its B has a level below i.
+    pub fn enters(self, i: u8, levels: &[u8]) -> bool
+        requires { atoms_in self.atoms.table.cells.now ≤ length levels.now }
+        ensures { result ≡ enters (set_of self.entry.atoms) levels.now i (rule_of self.entry) }
+    {
+        self.negatives_out() && all_within(self.list(POSITIVE), levels, 1, u16::from(i))
+    }
 }

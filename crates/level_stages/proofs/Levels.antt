@@ -27,7 +27,7 @@ use Rattle.meaning.specs.Stage.{Definite, definite, reduct, stage, least_model, 
 use Rattle.theory.proofs.Atoms.{RuleIn, rule_in_lem, is_atom_lem}
 use Rattle.theory.proofs.Stages.{stage_zero, stage_step, stage_le}
 use Rattle.theory.proofs.LeastModel.{level_le}
-use Rattle.truth_clauses.specs.Truth.{value_in}
+use Rattle.truth_literals.specs.Values.{value_in}
 use Rattle.level_lists.specs.Bytes.{set_in, level_byte, is_below, enters}
 use Rattle.level_stages.specs.Levels.{fires, level_after, first_difference}
 use Rattle.level_lists.proofs.Rules.{set_is}

@@ -1,9 +1,9 @@
 -- The turns of the rules of a code in its tables, and its rounds (Tabled G ..); s are the bytes of the set, ls those of the levels.
 --   Turned, Staged            what holds within a round, and between rounds
 --   headed, unmet, fired      one rule's turn
---   begins, asks, goes, ends  a round
+--   begins, goes, ends        a round
 --   first_round, next_round, last_round, rounds_over    the rounds
---   zeroed, staged            the bytes zeroed first
+--   zeroed                    the bytes zeroed first
 --   difference_is             the first difference is that of set and least model
 --   stable_read               there is none exactly if the set is a stable model
 --   own_tail                  bytes that begin with a table, by their own rest
@@ -24,7 +24,7 @@ use Rattle.meaning.specs.Stage.{Stable, reduct, level_in, level, differ}
 use Rattle.theory.proofs.Atoms.{RuleIn}
 use Rattle.theory.proofs.Decided.{decided}
 use Rattle.theory.proofs.Whole.{level_whole}
-use Rattle.truth_clauses.specs.Truth.{value_in}
+use Rattle.truth_literals.specs.Values.{value_in}
 use Rattle.lists.proofs.Bools.{and_left}
 use Rattle.clause_tables.specs.declared.Totals.{Totals}
 use Rattle.clause_tables.specs.Tables.{Limited, Tabled}
@@ -83,9 +83,6 @@ module _ {G : Code} {t : Totals} {hs ss bs ks xs ys : List ℕ} (T : Tabled G t 
     begins h = record { within = omega arith; same = refl; bytes = round_none t.sizes.n M ls i h; flag = refl }
 
     module _ {k : ℕ} {cs : List ℕ} {g : Bool} (B : Turned G t s ls i k cs g) where
-      pub asks : k < t.sizes.m → t.sizes.n ≤ length ls → (0 < k + 1) × (k + 1 ≤ t.sizes.m) × (t.sizes.n ≤ length cs)
-      asks h l = (omega arith, omega (arith, h), subst (λ (j : ℕ). t.sizes.n ≤ j) (sym B.same) l)
-
       pub goes : {ds : List ℕ} {x y : Bool} → 0 < i → k < t.sizes.m → length ds ≡ length cs
           → (x ≡ fires M cs i (rule_at G.rules (k + 1))) × (ds ≡ fired_bytes M i (rule_at G.rules (k + 1)) cs) → y ≡ (g || x) → Turned G t s ls i (k + 1) ds y
       goes {ds} {x} {y} z h l turn e =
@@ -122,9 +119,6 @@ module _ {G : Code} {t : Totals} {hs ss bs ks xs ys : List ℕ} (T : Tabled G t 
     first_round q = record { within = omega arith; same = refl; bytes = zeros_are t.sizes.n (program_of G) fit M (drop t.sizes.n e) q }
 
     module _ {i : ℕ} {cs : List ℕ} (B : Staged G t s e i cs) where
-      pub round_asks : t.sizes.n ≤ length e → t.sizes.n ≤ length cs
-      round_asks l = subst (λ (j : ℕ). t.sizes.n ≤ j) (sym B.same) l
-
       module _ {ds : List ℕ} {g : Bool} (h : i < t.sizes.n)
           (q : (g ≡ any (fires M cs (i + 1)) G.rules) × (ds ≡ bytes_after t.sizes.n M cs (i + 1) G.rules)) where
         pub next_round : length ds ≡ length cs → Staged G t s e (i + 1) ds
@@ -140,9 +134,6 @@ module _ {G : Code} {t : Totals} {hs ss bs ks xs ys : List ℕ} (T : Tabled G t 
     -- e was zeroed before, to ds
     pub zeroed : {ds : List ℕ} → ds ≡ tab t.sizes.n (λ a. 0) ++ drop t.sizes.n e → ds ≡ tab t.sizes.n (λ a. 0) ++ drop t.sizes.n ds
     zeroed = own_tail t.sizes.n (λ a. 0) (drop t.sizes.n e)
-
-    pub staged : {ds cs : List ℕ} → ds ≡ tab t.sizes.n (λ a. 0) ++ drop t.sizes.n e → cs ≡ tab t.sizes.n (level_of G M) ++ drop t.sizes.n ds → Done cs
-    staged q r = r ∙ ap (λ (l : List ℕ). tab t.sizes.n (level_of G M) ++ l) (tail_is t.sizes.n (λ a. 0) (drop t.sizes.n e) q)
 
   -- ---- the first difference
   as_program : (n : ℕ) (ls rest : List ℕ) → ls ≡ tab n (level_of G (set_in n s)) ++ rest → ls ≡ tab n (level (program_of G) (set_in n s)) ++ rest

@@ -8,7 +8,7 @@ use Rattle.std.specs.Prelude.{ℕ, pred, Bool, not, ◌&&◌, cond, List, eqb, s
 use Rattle.std.specs.Bool.{beq}
 use Rattle.lists.specs.Lists.{any, first}
 use Rattle.meaning.specs.Program.{Rule, Atoms}
-use Rattle.truth_clauses.specs.Truth.{value_in}
+use Rattle.truth_literals.specs.Values.{value_in}
 use Rattle.level_lists.specs.Bytes.{level_byte, enters}
 
 abbrev pub fires : Atoms → List ℕ → ℕ → Rule → Bool

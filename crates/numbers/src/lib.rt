@@ -55,17 +55,3 @@ pub fn nonzero(k: u16) -> Option<u16>
         _ => Some(k),
     }
 }
-
-// The variable of an atom.
-pub fn atom_var(a: Atom) -> Var
-    ensures { result.0 ≡ a.0 }
-{
-    Var(a.0)
-}
-
-// A number as an index or a count.
-pub fn wide(x: u16) -> usize
-    ensures { result ≡ x }
-{
-    x as usize
-}

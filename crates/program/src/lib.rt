@@ -8,6 +8,7 @@ use numbers::{Atom, BODIES, HEADS, Rule, STARTS};
 
 // A program: n atoms, its rules in text order, and the body atoms of all rules, those of rule r (from 0) at starts[2r] to starts[2r + 1]
 // for its positive list and at starts[2r + 1] to starts[2r + 2] for its negative one. What lies past the counts is 0.
+// Kept as flat arrays beside their counts: document 01 names this form.
 #[derive(Drop)]
 pub struct Program {
     pub atoms: u16,

@@ -20,6 +20,7 @@ use refusals::TextRefusal;
 pub const MAX_TEXT: usize = 65536;
 
 // Reads on to the end of the text, byte by byte: counts and arrays at the end. The counts of the program are left as they are.
+// Kept as three: the text is read, the stand is a copy, and the program is lent to be written.
 fn finish(text: &[u8], s: Stand, program: &mut Program) -> Counts
     ensures { Ends (tally result) program.new.heads program.new.starts program.new.bodies
         (read_rest s program.old.heads program.old.starts program.old.bodies text.now) }

@@ -30,19 +30,10 @@ pub struct ShortNumber {
 // ---- the text
 
 // Whether the bytes from `at` on begin with `word`.
-// Kept as a loop: std's `starts_with` and `==` of slices call a function for a word of more than a few bytes; this is unrolled at each word.
 pub fn has<'a>(text: &'a [u8], at: usize, word: &'a [u8]) -> bool
     ensures { result ≡ has_at text.now at word.now }
 {
-    if text.len() < word.len() || text.len() - word.len() < at {
-        return false;
-    }
-    for (k, b) in word.iter().enumerate() {
-        if text[at + k] != *b {
-            return false;
-        }
-    }
-    true
+    at <= text.len() && text[at..].starts_with(word)
 }
 
 // The number of one to three digits, the first not 0, that begins with the bytes a, b and c.

@@ -54,12 +54,12 @@ fn grown(value: u16, b: u8) -> u16
     ensures { result ≡ grown_of value b }
 {
     if 999 < value {
-        return 1000;
+        1000
+    } else if b < b'0' {
+        0
+    } else {
+        (value * 10 + u16::from(b - b'0')).min(1000)
     }
-    if b < b'0' {
-        return 0;
-    }
-    (value * 10 + u16::from(b - b'0')).min(1000)
 }
 
 // The number being read after byte b with action `act`, which begins it or goes on; there is none otherwise.

@@ -1,101 +1,55 @@
--- Truth of a clause slot by slot, and the first false clause place by place, from the tables.
+-- Truth of a clause literal by literal, and the first false clause place by place, from the tables.
 -- Assumes nothing.
 use Prim.Native.Nat.{ℕ, zero, suc, pred, ◌+◌, ◌-◌, ◌≤◌, ◌<◌}
-use native.Mathlib.Nat.{le_trans, le_antisymm, not-suc-le-zero}
+use native.Mathlib.Nat.{not-suc-le-zero}
 use native.Mathlib.Numerals.{add-one}
 use native.Mathlib.Omega.{arith}
 use mathlib.Core.Path.{◌≡◌, refl, sym, ◌∙◌, ap, ap₂, subst}
 use mathlib.Core.Bool.{Bool, true, false, not, ◌||◌, So}
-use mathlib.Core.List.{List, [], ◌∷◌}
-use lib.IntN.{ℤ, nat_abs}
+use mathlib.Core.List.{List, [], ◌∷◌, map}
+use lib.IntN.{ℤ}
+use Rattle.std.specs.List.{list_any}
 use lib.ListN.{length}
-use Rattle.lists.specs.Lists.{all, any, each, sum}
-use Rattle.lists.proofs.Bools.{and_left}
-use Rattle.lists.proofs.Tests.{up_to_lem, any_append, any_each, any_to_in}
-use Rattle.theory.proofs.Atoms.{atom_le}
+use Rattle.lists.specs.Lists.{all, sum}
+use Rattle.lists.proofs.Bools.{and_left, and_right}
+use Rattle.lists.proofs.Tests.{up_to_lem}
+use Rattle.theory.proofs.Atoms.{atom_pos}
 use Rattle.meaning.specs.Program.{is_atom}
-use Rattle.encoding.specs.Code.{Code, clauses_of, variables_of}
-use Rattle.encoding.specs.Literal.{Literal, literal_true, clause_true, variable}
-use Rattle.encoding.proofs.Literals.{number_size}
-use Rattle.clause_walk.specs.Walk.{slots, slot, clause_at, At}
-use Rattle.clause_slots.specs.SlotNumber.{slot_number}
+use Rattle.encoding.specs.Code.{Code, clauses_of}
+use Rattle.encoding.specs.Literal.{Literal, literal_number, clause_true, variable}
 use Rattle.clause_tables.specs.declared.Totals.{Totals}
-use Rattle.clause_tables.specs.Tables.{Tabled}
-use Rattle.clause_table_laws.proofs.Elements.{vars_are}
-use Rattle.clause_table_laws.proofs.Bounds.{slot_in}
-use Rattle.clause_heads.specs.NextHead.{past_empty}
-use Rattle.clause_layout.proofs.Passed.{passed, passed_each}
-use Rattle.clause_text.specs.Lines.{literals_in}
-use Rattle.clause_text.proofs.Clause.{held_next, slot_in as slot-in-clause}
+use Rattle.clause_tables.specs.Tables.{Tabled, totals_in}
+use Rattle.clause_layout.specs.declared.TableClause.{TableClause}
+use Rattle.clause_layout.specs.Clauses.{literals_of}
+use Rattle.clause_iter.proofs.Numbers.{Turn, literals_within, number_some, number_in, number_small}
 use Rattle.clause_places.specs.declared.Place.{Place}
 use Rattle.clause_places.specs.Places.{place_at}
-use Rattle.clause_places.proofs.Numbers.{number_is, own_number, placed_at, placed_clause, clauses_many}
-use Rattle.truth_clauses.specs.Truth.{value_in, code_true, code_false, code_first_false}
+use Rattle.clause_places.proofs.Numbers.{number_is, own_number, clauses_many}
+use Rattle.truth_literals.specs.Clauses.{LiteralIn}
+use Rattle.truth_literals.proofs.Values.{literal_true_lem}
+use Rattle.truth_clauses.specs.Truth.{value_in, number_true, code_true, code_false, code_first_false}
 use Rattle.truth_clauses.specs.Standing.{TrueTo, Standing, FalseItem}
 use Rattle.clause_counts.specs.Counts.{item_size, group_size}
 use Rattle.truth_clauses.proofs.Fronts.{first_here, first_nowhere, front_true, item_listed}
 
-or_false : (a b : Bool) → a ≡ false → b ≡ false → (a || b) ≡ false
-or_false a b p q = ap₂ ◌||◌ p q
+-- ---- literal by literal
 
-held_in : (n : ℕ) (ls : List Literal) → So (all (λ z. is_atom n (variable z)) ls) → nat_abs (slot_number ls) ≤ n
-held_in n [] u = omega arith
-held_in n (z ∷ ls) u = subst (λ (k : ℕ). k ≤ n) (sym (number_size z)) (atom_le n (variable z) (and_left (is_atom n (variable z)) (all (λ z. is_atom n (variable z)) ls) u))
+any_true : (bs : List ℕ) (n : ℕ) (ls : List Literal) → So (all (λ l. is_atom n (variable l)) ls) → list_any (number_true bs) (map literal_number ls) ≡ clause_true (value_in bs) ls
+any_true bs n [] u = refl
+any_true bs n (l ∷ ls) u =
+    ap₂ ◌||◌ (literal_true_lem bs l refl (atom_pos n (variable l) (and_left (is_atom n (variable l)) (all (λ l. is_atom n (variable l)) ls) u)) refl)
+    (any_true bs n ls (and_right (is_atom n (variable l)) (all (λ l. is_atom n (variable l)) ls) u))
+
+-- a clause is true if one of its numbers is
+pub numbers_true : (c : TableClause) (bs : List ℕ) → list_any (number_true bs) (map literal_number (literals_of c)) ≡ clause_true (value_in bs) (literals_of c)
+numbers_true c bs = any_true bs (totals_in c.block.table.cells.now).vars (literals_of c) (literals_within c)
+
+-- its numbers are of variables that have bytes
+pub number_asks : (c : TableClause) (bs : List ℕ) → (totals_in c.block.table.cells.now).vars ≤ length bs → (k : ℕ) (z : ℤ) → Turn (literals_of c) k z → LiteralIn bs z
+number_asks c bs v k z h = (number_small c k z h, number_some c k z h, omega (arith, number_in c k z h, v))
 
 module _ {G : Code} {t : Totals} {hs ss bs ks xs ys : List ℕ} (T : Tabled G t hs ss bs ks xs ys) where
-  module _ {g a i y : ℕ} (A : At G g a i y) (vs : List ℕ) where
-    -- some literal of the first l slots is true
-    abbrev true_in : ℕ → Bool
-    true_in l = any (literal_true (value_in vs)) (each l (slot G g a i y))
-
-    module _ {x : ℤ} {k l : ℕ} (e : k ≡ slots G g a i y) (h : l < k) (q : x ≡ slot_number (slot G g a i y (l + 1))) where
-      slot_is : literals_in x ≡ slot G g a i y (suc l)
-      slot_is = held_next T A e h q ∙ ap (slot G g a i y) (add-one l)
-
-      one_more : {d : Bool} → d ≡ any (literal_true (value_in vs)) (literals_in x) → true_in (suc l) ≡ (true_in l || d)
-      one_more u =
-          any_append (literal_true (value_in vs)) (each l (slot G g a i y)) (slot G g a i y (suc l))
-          ∙ ap (λ (b : Bool). true_in l || b) (sym (u ∙ ap (any (literal_true (value_in vs))) slot_is))
-
-      pub none_yet : {d : Bool} {r : ℕ} → d ≡ any (literal_true (value_in vs)) (literals_in x) → d ≡ false → true_in l ≡ false
-          → r ≡ past_empty t.sizes.m hs g a i (l + 1) → true_in r ≡ false
-      none_yet {d} {r} u z f p =
-          ap (λ (c : List Literal). any (literal_true (value_in vs)) c) (passed_each (passed T A (omega arith) (slot-in-clause T A e h) p))
-          ∙ ap true_in (add-one l) ∙ one_more u ∙ or_false (true_in l) d f z
-
-      -- a true literal among the slots makes the clause true
-      pub some_true_lem : {d : Bool} → d ≡ any (literal_true (value_in vs)) (literals_in x) → d ≡ true → true ≡ clause_true (value_in vs) (clause_at G g a i y)
-      some_true_lem {d} u z =
-          sym
-          (any_each (literal_true (value_in vs)) (slots G g a i y) (slot G g a i y)
-          ∙ any_to_in (slots G g a i y) (λ j. any (literal_true (value_in vs)) (slot G g a i y j)) l (subst (λ (n : ℕ). l < n) e h) (ap (any (literal_true (value_in vs))) (sym slot_is) ∙ sym u ∙ z))
-
-      -- its variable has a byte
-      pub variable_fits : t.vars ≤ length vs → nat_abs x ≤ length vs
-      variable_fits v =
-          le_trans
-          (subst (λ (z : ℤ). nat_abs z ≤ t.vars) (sym q)
-          (subst (λ (k : ℕ). nat_abs (slot_number (slot G g a i y (l + 1))) ≤ k) (sym (vars_are G t hs ss bs ks xs ys T))
-          (held_in (variables_of G) (slot G g a i y (l + 1)) in_slot)))
-          v
-        where
-          in_slot : So (all (λ z. is_atom (variables_of G) (variable z)) (slot G g a i y (l + 1)))
-          in_slot = slot_in G T.limits g a i y (l + 1) A (omega arith) (slot-in-clause T A e h)
-
-    -- all slots are passed, and none holds a true literal
-    pub all_false : {k l : ℕ} → k ≡ slots G g a i y → l ≤ k → k ≤ l → true_in l ≡ false → false ≡ clause_true (value_in vs) (clause_at G g a i y)
-    all_false e h n f = sym (ap true_in (sym (le_antisymm h n ∙ e)) ∙ f)
-
   -- ---- place by place
-
-  module _ {c : Place} (e : c ≡ place_at G c.number) (p : 0 < c.number) (h : c.number ≤ t.clauses) where
-    pub place_asks : At G c.coordinates.group c.coordinates.item c.coordinates.block c.coordinates.clause
-    place_asks = placed_at T e p h
-
-    pub place_true : (vs : List ℕ) {r : Bool}
-        → r ≡ clause_true (value_in vs) (clause_at G c.coordinates.group c.coordinates.item c.coordinates.block c.coordinates.clause)
-        → r ≡ code_true G vs c.number
-    place_true vs u = u ∙ ap (clause_true (value_in vs)) (placed_clause T e p h)
 
   -- a place that was found by its number
   pub found_asks : {c : Place} {j : ℕ} → c ≡ place_at G j → 0 < j → j ≤ t.clauses → (c ≡ place_at G c.number) × (0 < c.number) × (c.number ≤ t.clauses)

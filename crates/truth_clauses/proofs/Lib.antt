@@ -1,11 +1,7 @@
--- Found: numbers of which 0 stands for none, as options
--- Values: truth of slots
 -- Fronts: the clauses before an item
 -- Computed: the tests on the fact, computed
 -- Numbered: the clauses of an item by their numbers
 -- Clauses: truth of a clause, and the first false one
-pub mod Found
-pub mod Values
 pub mod Fronts
 pub mod Computed
 pub mod Numbered

@@ -7,7 +7,7 @@
 --   visited_less                                the loop ends
 --   head_all, founded_all                       every clause of an item
 -- Of a table (TableOf G tb):
---   atom_fits, rule_fits_lem, sizes_fit         the bounds of its numbers
+--   atom_fits, rule_fits_lem                    the bounds of its numbers
 --   atom_in, rule_in_lem                        the variables of an atom and of a rule have bytes
 --   rule_named                                  the variable of a rule, by the code's sizes
 --   from_none, from_rule                        the first rule and the next one follow
@@ -26,7 +26,6 @@ use Rattle.lists.specs.Lists.{all_to, any_to}
 use Rattle.encoding.specs.Code.{Code, code_sizes, pair_total}
 use Rattle.encoding.specs.Literal.{Assignment, var, −◌, literal_true}
 use Rattle.encoding.specs.Variables.{Sizes, var_count}
-use Rattle.clause_literals.specs.Sizes.{sizes_of, Bounded}
 use Rattle.clause_walk.specs.Walk.{heads_of, head_at}
 use Rattle.clause_slots.specs.SlotNumber.{rule_var}
 use Rattle.clause_tables.specs.declared.Totals.{Totals}
@@ -208,10 +207,7 @@ module _ {G : Code} {tb : List ℕ} (T : TableOf G tb) where
 
   -- counts that were taken from the table
   module _ {t : Totals} (e : t ≡ totals_in tb) where
-    pub sizes_fit : Bounded t.sizes
-    sizes_fit = bounded (told T e)
-
-    module _ (founds : Bool) (r : ℕ) {y : ℕ} (q : y ≡ rule_var (sizes_of t.sizes) founds r) where
+    module _ (founds : Bool) (r : ℕ) {y : ℕ} (q : y ≡ rule_var (t.sizes) founds r) where
       pub rule_named : y ≡ rule_var (code_sizes G) founds r
       rule_named = q ∙ ap (λ (S : Sizes). rule_var S founds r) (sizes_are (told T e))
 

@@ -15,8 +15,7 @@ use lib.ListN.{length}
 use Rattle.lists.specs.Lists.{all_to}
 use Rattle.encoding.specs.Literal.{Assignment}
 use Rattle.encoding.specs.Variables.{Sizes, level_var, next_var, below_var, next_below_var, var_count}
-use Rattle.clause_literals.specs.declared.Sizes.{Sizes as Held}
-use Rattle.clause_literals.specs.Sizes.{sizes_of}
+use Rattle.clause_literals.specs.Sizes.{Bounded}
 use Rattle.clause_literals.proofs.Products.{twice_atoms_fit, below_fits as small-below}
 use Rattle.clause_chains.specs.declared.Chain.{Chain}
 use Rattle.clause_chains.specs.Chain.{chain_with}
@@ -65,43 +64,40 @@ module _ (bs : List ℕ) (w z x y : ℕ) (H : ChainIn bs w z x y) {c : Chain} wh
       before = ap (λ (c : Chain). c.g.0) q ∙ ap (λ (k : ℕ). z + pred k) (add-one i)
 
 -- those of a pair, of its body atom and of its head
-module _ {bs : List ℕ} {s : Held} {k b h : ℕ} (H : PairIn bs s k b h) where
-  abbrev S : Sizes
-  S = sizes_of s
-
+module _ {bs : List ℕ} {S : Sizes} {k b h : ℕ} (H : PairIn bs S k b h) (B : Bounded S) where
   small : var_count S 0 ≤ 2890
-  small = omega (arith, H.bounded.atoms, H.bounded.rules, twice_atoms_fit s H.bounded)
+  small = omega (arith, B.atoms, B.rules, twice_atoms_fit S B)
 
   fewer : var_count S 0 ≤ length bs
   fewer = le_trans (count_grows S 0 k (omega arith)) H.bytes
 
-  level_after_lem : (a : ℕ) → 0 < a → a ≤ s.n → {v : ℕ} → v ≡ level_var S a 0 → After bs s.w v
+  level_after_lem : (a : ℕ) → 0 < a → a ≤ S.n → {v : ℕ} → v ≡ level_var S a 0 → After bs S.w v
   level_after_lem a p l e = (omega (arith, e, f, small), omega (arith, e, f, fewer))
     where
-      f : level_var S a s.w ≤ var_count S 0
-      f = level_fits S a s.w 0 p l (le_refl s.w)
+      f : level_var S a S.w ≤ var_count S 0
+      f = level_fits S a S.w 0 p l (le_refl S.w)
 
-  pub body_after : {v : ℕ} → v ≡ level_var S b 0 → After bs s.w v
+  pub body_after : {v : ℕ} → v ≡ level_var S b 0 → After bs S.w v
   body_after e = level_after_lem b H.body_some H.body_among e
 
-  pub head_after : {v : ℕ} → v ≡ level_var S h 0 → After bs s.w v
+  pub head_after : {v : ℕ} → v ≡ level_var S h 0 → After bs S.w v
   head_after e = level_after_lem h H.head_some H.head_among e
 
-  pub next_after : {v : ℕ} → v ≡ next_var S b 0 → After bs s.w v
+  pub next_after : {v : ℕ} → v ≡ next_var S b 0 → After bs S.w v
   next_after e = (omega (arith, e, f, small), omega (arith, e, f, fewer))
     where
-      f : next_var S b s.w ≤ var_count S 0
-      f = next_fits S b s.w 0 H.body_some H.body_among (le_refl s.w)
+      f : next_var S b S.w ≤ var_count S 0
+      f = next_fits S b S.w 0 H.body_some H.body_among (le_refl S.w)
 
-  below_small : below_var S k s.w ≤ 9883
-  below_small = small-below s H.bounded k s.w H.few H.bounded.bits
+  below_small : below_var S k S.w ≤ 9883
+  below_small = small-below S B k S.w H.few B.bits
 
-  pub below_after : {v : ℕ} → v ≡ below_var S k 0 → After bs s.w v
-  below_after e = (omega (arith, e, below_small), omega (arith, e, below_fits S k s.w k H.some (le_refl k) (le_refl s.w), H.bytes))
+  pub below_after : {v : ℕ} → v ≡ below_var S k 0 → After bs S.w v
+  below_after e = (omega (arith, e, below_small), omega (arith, e, below_fits S k S.w k H.some (le_refl k) (le_refl S.w), H.bytes))
 
-  pub next_below_after : {v : ℕ} → v ≡ next_below_var S k 0 → After bs s.w v
+  pub next_below_after : {v : ℕ} → v ≡ next_below_var S k 0 → After bs S.w v
   next_below_after e =
-      (omega (arith, e, below_small, H.bounded.bits), omega (arith, e, next_below_fits S k s.w k H.some (le_refl k) (le_refl s.w), H.bytes))
+      (omega (arith, e, below_small, B.bits), omega (arith, e, next_below_fits S k S.w k H.some (le_refl k) (le_refl S.w), H.bytes))
 
 -- ---- the two chains of a pair
 

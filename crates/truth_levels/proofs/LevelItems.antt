@@ -19,7 +19,6 @@ use Rattle.encoding.specs.Literal.{Assignment}
 use Rattle.encoding.specs.Variables.{Sizes, level_var, next_var, below_var, next_below_var, var_count}
 use Rattle.theory.proofs.Atoms.{atom_pos, atom_le}
 use Rattle.theory.proofs.Pairs.{body_in, head_in}
-use Rattle.clause_literals.specs.Sizes.{sizes_of}
 use Rattle.clause_walk.specs.Walk.{group_of, item_count, block_count, slot3, slots4, slot4, chain_size, chain_slots, chain_slot, chain_bit, BlockAt}
 use Rattle.clause_chains.specs.declared.Chain.{Chain}
 use Rattle.clause_chains.proofs.Chains.{with_first, with_second}
@@ -27,7 +26,7 @@ use Rattle.clause_tables.specs.declared.Totals.{Totals}
 use Rattle.clause_tables.specs.Tables.{Tabled}
 use Rattle.clause_table_laws.proofs.Elements.{ranges, width_are, width_pos, vars_are, partner_is, owner_is, pairs_fit}
 use Rattle.clause_layout.specs.BlockChain.{chain_of_block}
-use Rattle.clause_layout.proofs.Groups.{sizes_are, bounded, size_zero, size_next, size_pair, slots_zero, slots_next, slots_pair, slot_zero, slot_next}
+use Rattle.clause_layout.proofs.Groups.{sizes_are, size_zero, size_next, size_pair, slots_zero, slots_next, slots_pair, slot_zero, slot_next}
 use Rattle.clause_layout.proofs.BlockChains.{chain_pair, slot_chain}
 use Rattle.truth_literals.specs.Clauses.{bit_true}
 use Rattle.truth_literals.specs.Items.{block_true, item_true}
@@ -79,7 +78,7 @@ module _ {G : Code} {t : Totals} {hs ss bs ks xs ys : List ℕ} (T : Tabled G t 
   w = t.sizes.w
 
   abbrev S : Sizes
-  S = sizes_of t.sizes
+  S = t.sizes
 
   width_of : w ≡ G.w
   width_of = width_are G t hs ss bs ks xs ys T
@@ -123,7 +122,6 @@ module _ {G : Code} {t : Totals} {hs ss bs ks xs ys : List ℕ} (T : Tabled G t 
   level_asks : {a : ℕ} → 0 < a → a ≤ G.n → (vs : List ℕ) → t.vars ≤ length vs → LevelIn vs t.sizes a
   level_asks {a} p h vs f =
       record {
-        bounded = bounded T;
         some = p;
         among = subst (λ (n : ℕ). a ≤ n) atoms_of h;
         bytes = le_trans (count_grows S 0 (pair_total G) (omega arith)) (subst (λ (n : ℕ). n ≤ length vs) vars_of f);
@@ -163,7 +161,6 @@ module _ {G : Code} {t : Totals} {hs ss bs ks xs ys : List ℕ} (T : Tabled G t 
     pub pair_asks : (vs : List ℕ) → t.vars ≤ length vs → PairIn vs t.sizes a b h
     pair_asks vs f =
         record {
-          bounded = bounded T;
           some_bit = width_pos G t hs ss bs ks xs ys T;
           some = p;
           few = le_trans in_pairs (pairs_fit G T.limits);

@@ -19,8 +19,6 @@ use Rattle.lists.proofs.Bools.{and_assoc, or_assoc}
 use Rattle.lists.proofs.Tests.{any_to_ext}
 use Rattle.encoding.specs.Literal.{Assignment, Literal, var, −◌, literal_true}
 use Rattle.encoding.specs.Variables.{Sizes, level_var, next_var}
-use Rattle.clause_literals.specs.declared.Sizes.{Sizes as Held}
-use Rattle.clause_literals.specs.Sizes.{sizes_of}
 use Rattle.clause_walk.specs.Walk.{signed, three}
 use Rattle.truth_literals.specs.Clauses.{Has, two_true, three_true}
 use Rattle.truth_literals.proofs.Gathered.{all_more, any_more, all_done}
@@ -29,12 +27,12 @@ use Rattle.truth_levels.specs.Levels.{LevelIn, zero_clause, zero_true, next_clau
 
 -- ---- the variables of an atom's level, and of its next
 
-module _ {bs : List ℕ} {s : Held} {a : ℕ} (H : LevelIn bs s a) (i : ℕ) (l : i < s.w) {v : ℕ} where
-  pub level_has : v ≡ level_var (sizes_of s) a (i + 1) → Has bs v
-  level_has e = level_in_lem (sizes_of s) a i 0 H.some H.among l H.bytes e
+module _ {bs : List ℕ} {S : Sizes} {a : ℕ} (H : LevelIn bs S a) (i : ℕ) (l : i < S.w) {v : ℕ} where
+  pub level_has : v ≡ level_var S a (i + 1) → Has bs v
+  level_has e = level_in_lem S a i 0 H.some H.among l H.bytes e
 
-  pub next_has : v ≡ next_var (sizes_of s) a (i + 1) → Has bs v
-  next_has e = next_in (sizes_of s) a i 0 H.some H.among l H.bytes e
+  pub next_has : v ≡ next_var S a (i + 1) → Has bs v
+  next_has e = next_in S a i 0 H.some H.among l H.bytes e
 
 -- ---- group 3
 

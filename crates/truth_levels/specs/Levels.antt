@@ -5,17 +5,15 @@
 --   chain_bit_true A z x y i    every clause of bit i of a chain is true, where z, x and y are the variables before those of its first bit
 --   chain_true A w z x y        every clause of such a chain of w bits is true
 --   pair_true A S k b h         group 5: every clause of pair k, with body atom b and head h, is true
---   LevelIn bs s a              the variables of atom a, of its level and of its next have bytes in bs
+--   LevelIn bs S a              the variables of atom a, of its level and of its next have bytes in bs
 --   After bs w v                the w variables after variable v have bytes
 --   ChainIn bs w z x y          the variables of such a chain of w bits have bytes
---   PairIn bs s k b h           those of pair k, with body atom b and head h, have bytes
+--   PairIn bs S k b h           those of pair k, with body atom b and head h, have bytes
 -- Assumes nothing.
 use Rattle.std.specs.Prelude.{ℕ, pred, ◌+◌, ◌*◌, ◌^◌, ◌≤◌, ◌<◌, Bool, ◌&&◌, List, length}
 use Rattle.lists.specs.Lists.{all_to, any_to}
 use Rattle.encoding.specs.Literal.{Assignment, literal_true}
 use Rattle.encoding.specs.Variables.{Sizes, level_var, next_var, below_var, next_below_var, var_count}
-use Rattle.clause_literals.specs.declared.Sizes.{Sizes as Held}
-use Rattle.clause_literals.specs.Sizes.{sizes_of, Bounded}
 use Rattle.clause_walk.specs.Walk.{slot3, slots4, slot4}
 use Rattle.clause_chains.specs.Chain.{chain_with}
 use Rattle.truth_literals.specs.Clauses.{bit_true}
@@ -50,11 +48,10 @@ pair_true A S k b h =
 
 -- ---- variables that have bytes
 
-pub record LevelIn (bs : List ℕ) (s : Held) (a : ℕ) : Type 0 where
-  pub bounded : Bounded s
+pub record LevelIn (bs : List ℕ) (S : Sizes) (a : ℕ) : Type 0 where
   pub some : 0 < a
-  pub among : a ≤ s.n
-  pub bytes : var_count (sizes_of s) 0 ≤ length bs
+  pub among : a ≤ S.n
+  pub bytes : var_count S 0 ≤ length bs
 
 -- the w variables after variable v have bytes, and numbers below 2^16
 abbrev pub After : List ℕ → ℕ → ℕ → Type 0
@@ -63,13 +60,12 @@ After bs w v = (v + w < 2 ^ 16) × (v + w ≤ length bs)
 abbrev pub ChainIn : List ℕ → ℕ → ℕ → ℕ → ℕ → Type 0
 ChainIn bs w z x y = (0 < w) × (w ≤ 7) × (After bs w z) × (After bs w x) × (After bs w y)
 
-pub record PairIn (bs : List ℕ) (s : Held) (k b h : ℕ) : Type 0 where
-  pub bounded : Bounded s
-  pub some_bit : 0 < s.w
+pub record PairIn (bs : List ℕ) (S : Sizes) (k b h : ℕ) : Type 0 where
+  pub some_bit : 0 < S.w
   pub some : 0 < k
   pub few : k ≤ 500
   pub body_some : 0 < b
-  pub body_among : b ≤ s.n
+  pub body_among : b ≤ S.n
   pub head_some : 0 < h
-  pub head_among : h ≤ s.n
-  pub bytes : var_count (sizes_of s) k ≤ length bs
+  pub head_among : h ≤ S.n
+  pub bytes : var_count S k ≤ length bs

@@ -3,31 +3,32 @@
 
 ghost use Rattle.std.specs.Prelude.{pred, ◌+◌, ◌^◌, ◌<◌, ◌≡◌, ◌||◌, ◌&&◌};
 ghost use Rattle.encoding.specs.Literal.{var, −◌};
-ghost use Rattle.clause_literals.specs.Sizes.{sizes_of};
 ghost use Rattle.clause_chains.specs.Chain.{chain_with};
 ghost use Rattle.truth_literals.specs.Values.{value_in};
 ghost use Rattle.truth_literals.specs.Clauses.{Has, two_true, three_true};
 ghost use Rattle.truth_levels.specs.Levels.{LevelIn, PairIn, ChainIn, zero_true, next_true, nexts_true, chain_true, pair_true};
 
 use clause_chains::Chain;
-use clause_literals::{Sizes, below_var, level_var, literal, negated, next_below_var, next_var};
+use clause_literals::{Sizes, literal, negated};
 use numbers::{Atom, Pair, Var};
 use truth_literals::{first_bit_holds, is_true, next_bit_holds, three_hold, two_hold};
 
 // Group 3, atom a: whether every clause is true.
 pub fn zero_holds(s: Sizes, a: Atom, assignment: &[u8]) -> bool
     requires { LevelIn assignment.now s a.0 }
-    ensures { result ≡ zero_true (value_in assignment.now) (sizes_of s) a.0 }
+    ensures { result ≡ zero_true (value_in assignment.now) s a.0 }
 {
+    let w = s.w;
     let x = literal(Var::from(a));
     let mut ok = true;
-    for y in 0..s.w {
-        ok &= two_hold(x, negated(level_var(s, a, y + 1)), assignment);
+    for y in 0..w {
+        ok &= two_hold(x, negated(s.level_var(a, y + 1)), assignment);
     }
     ok
 }
 
 // Group 4, with a bit of a next, u, and that bit of its level, v: whether both clauses of a lower bit x are true.
+// Kept as a fact about each variable: a call is about three of them, and no two calls about the same.
 fn lower_holds(x: Var, u: Var, v: Var, assignment: &[u8]) -> bool
     requires { (Has assignment.now x.0) × (Has assignment.now u.0) × (Has assignment.now v.0) }
     ensures { result
@@ -52,14 +53,16 @@ fn long_hold(low: bool, u: Var, v: Var, assignment: &[u8]) -> bool
 // Group 4, atom a: whether every clause of bit i + 1 is true.
 fn bit_of_next_holds(s: Sizes, a: Atom, i: u16, assignment: &[u8]) -> bool
     requires { (LevelIn assignment.now s a.0) × (i < s.w) }
-    ensures { result ≡ next_true (value_in assignment.now) (sizes_of s) a.0 (i + 1) }
+    ensures { result ≡ next_true (value_in assignment.now) s a.0 (i + 1) }
 {
-    let u = next_var(s, a, i + 1);
-    let v = level_var(s, a, i + 1);
+    // Reads a field: from here on the bounds of s are known.
+    let _ = &s.w;
+    let u = s.next_var(a, i + 1);
+    let v = s.level_var(a, i + 1);
     let mut ok = true;
     let mut low = false;
     for j in 0..i {
-        let x = level_var(s, a, j + 1);
+        let x = s.level_var(a, j + 1);
         ok &= lower_holds(x, u, v, assignment);
         low |= !is_true(assignment, x);
     }
@@ -69,10 +72,11 @@ fn bit_of_next_holds(s: Sizes, a: Atom, i: u16, assignment: &[u8]) -> bool
 // Group 4, atom a: whether every clause is true.
 pub fn next_holds(s: Sizes, a: Atom, assignment: &[u8]) -> bool
     requires { LevelIn assignment.now s a.0 }
-    ensures { result ≡ nexts_true (value_in assignment.now) (sizes_of s) a.0 }
+    ensures { result ≡ nexts_true (value_in assignment.now) s a.0 }
 {
+    let w = s.w;
     let mut ok = true;
-    for i in 0..s.w {
+    for i in 0..w {
         ok &= bit_of_next_holds(s, a, i, assignment);
     }
     ok
@@ -106,11 +110,11 @@ fn chain_holds(w: u16, z: Var, x: Var, y: Var, assignment: &[u8]) -> bool
 // Group 5, pair k of body atom b and head h: whether every clause of both chains is true.
 pub fn pair_holds(s: Sizes, k: Pair, b: Atom, h: Atom, assignment: &[u8]) -> bool
     requires { PairIn assignment.now s k.0 b.0 h.0 }
-    ensures { result ≡ pair_true (value_in assignment.now) (sizes_of s) k.0 b.0 h.0 }
+    ensures { result ≡ pair_true (value_in assignment.now) s k.0 b.0 h.0 }
 {
     let w = s.w;
-    let x = level_var(s, b, 0);
-    let y = level_var(s, h, 0);
-    chain_holds(w, below_var(s, k, 0), x, y, assignment)
-        & chain_holds(w, next_below_var(s, k, 0), next_var(s, b, 0), y, assignment)
+    let x = s.level_var(b, 0);
+    let y = s.level_var(h, 0);
+    chain_holds(w, s.below_var(k, 0), x, y, assignment)
+        & chain_holds(w, s.next_below_var(k, 0), s.next_var(b, 0), y, assignment)
 }

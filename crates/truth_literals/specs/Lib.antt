@@ -4,3 +4,5 @@
 pub mod Values
 pub mod Clauses
 pub mod Items
+-- Valued: a table with values of its variables
+pub mod Valued

@@ -1,15 +1,26 @@
-// Truth of single literals, of clauses of two and three, and of a chain's bit, under an assignment (document 01, "Check and filling out").
+// Values of the variables of a table, and truth of single literals, of clauses of two and three, and of a chain's bit (document 01, "Check and filling out").
 #![tactic(auto)]
 
-ghost use Rattle.std.specs.Prelude.{◌≡◌, ◌||◌};
+ghost use Rattle.std.specs.Prelude.{◌≤◌, ◌≡◌, ◌||◌, length};
+ghost use Rattle.std.proofs.Props.{props};
 ghost use Rattle.encoding.specs.Literal.{−◌, literal_true};
 ghost use Rattle.clause_walk.specs.Walk.{signed};
+ghost use Rattle.clause_tables.specs.Tables.{vars_in};
 ghost use Rattle.truth_literals.specs.Values.{value_in, number_true};
 ghost use Rattle.truth_literals.specs.Clauses.{Has, LiteralIn, two_true, pairs_true, BitIn, bit_true};
 
+use clause_cells::Table;
 use clause_chains::Chain;
 use clause_literals::{is_negative, literal, magnitude, negated, with_sign};
 use numbers::Var;
+
+// A table with the values of its variables: a byte for each, and maybe more.
+#[derive(Clone, Copy)]
+pub struct ValuedTable<'a> {
+    pub table: Table<'a>,
+    pub values: &'a [u8],
+    pub ghost long: { vars_in table.cells.now ≤ length values.now } by { Prim.hlevel props },
+}
 
 // Whether the byte of variable v, counted from 1, is not 0.
 fn byte_set(assignment: &[u8], v: usize) -> bool
@@ -28,6 +39,7 @@ pub fn is_true(assignment: &[u8], v: Var) -> bool
 }
 
 // Whether the literal x is true: its sign and its variable's value.
+// Kept as a fact about each literal: it is of the literal and the assignment together, and each call has another literal.
 pub fn holds(x: i32, assignment: &[u8]) -> bool
     requires { LiteralIn assignment.now x }
     ensures { result ≡ number_true assignment.now x }
@@ -39,6 +51,7 @@ pub fn holds(x: i32, assignment: &[u8]) -> bool
 // Kept as & and |: this and the crates above join conditions without branches, since the check of an answer is measured against hand-tuned Rust.
 
 // Whether a clause of two literals is true, and of three.
+// Kept as a fact about each literal, as in `holds`.
 pub fn two_hold(x: i32, y: i32, assignment: &[u8]) -> bool
     requires { (LiteralIn assignment.now x) × (LiteralIn assignment.now y) }
     ensures { result ≡ (number_true assignment.now x || number_true assignment.now y) }

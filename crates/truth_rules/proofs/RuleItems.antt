@@ -21,12 +21,11 @@ use Rattle.encoding.specs.Code.{Code, code_sizes, rl, pair_total, before}
 use Rattle.encoding.specs.Literal.{Assignment}
 use Rattle.encoding.specs.Variables.{Sizes, body_var, var_count}
 use Rattle.theory.proofs.Atoms.{atom_pos, atom_le}
-use Rattle.clause_literals.specs.Sizes.{sizes_of, Bounded}
 use Rattle.clause_walk.specs.Walk.{head_of, positives, inner_count, body_of, body_count, item_count, block_count, size, slots, slot, slots1, slot1, size6, slots6, slot6, group_of, BlockAt}
 use Rattle.clause_tables.specs.declared.Totals.{Totals}
 use Rattle.clause_tables.specs.Tables.{Tabled}
 use Rattle.clause_table_laws.proofs.Elements as elements
-use Rattle.clause_layout.proofs.Groups.{sizes_are, bounded, rule1, rule6, rule_fits_lem as fits, span_asks, span1, body_is as list_is, end_in}
+use Rattle.clause_layout.proofs.Groups.{sizes_are, rule1, rule6, rule_fits_lem as fits, span_asks, span1, body_is as list_is, end_in}
 use Rattle.truth_literals.specs.Clauses.{Has}
 use Rattle.truth_literals.specs.Items.{item_true}
 use Rattle.truth_literals.proofs.Items.{block_of_lem, block_at, item_one}
@@ -83,21 +82,21 @@ module _ {G : Code} {t : Totals} {hs ss bs ks xs ys : List ℕ} (T : Tabled G t 
     in_rules : a ≤ length G.rules
     in_rules = rule1 T R refl
 
-    pub body_rule : (Bounded t.sizes) × (a ≤ 500)
-    body_rule = (bounded T, fits T R in_rules)
+    pub body_rule : a ≤ 500
+    body_rule = fits T R in_rules
 
     module _ {b c d : ℕ} (e : b ≡ get_or ss (2 * (a - 1) + 0) 0) (f : c ≡ get_or ss (2 * (a - 1) + 1) 0) (g : d ≡ get_or ss (2 * (a - 1) + 2) 0) where
       pub body_lists : (b ≤ c) × (b ≤ d) × (d ≤ 500)
       body_lists = (omega (arith, e, f, list_up 1 (omega arith)), omega (arith, e, g, list_up 2 (omega arith)), omega (arith, g, end_in T R in_rules))
         where
           list_up : (k : ℕ) → k ≤ 2 → get_or ss (2 * (a - 1) + 0) 0 ≤ get_or ss (2 * (a - 1) + k) 0
-          list_up k l = (span_asks T R in_rules p k l).4
+          list_up k l = (span_asks T R in_rules k l).3
 
       module _ {us : List ℕ} (q : us ≡ take (d - b) (drop b bs)) where
         body_are : us ≡ body_of G a
         body_are = q ∙ ap₂ (λ (d b : ℕ). take (d - b) (drop b bs)) g e ∙ list_is T R in_rules
 
-        module _ {v : ℕ} (u : v ≡ body_var (sizes_of t.sizes) a) where
+        module _ {v : ℕ} (u : v ≡ body_var t.sizes a) where
           var_is : v ≡ body_var (code_sizes G) a
           var_is = u ∙ ap (λ (S : Sizes). body_var S a) (sizes_are T)
 
@@ -129,7 +128,7 @@ module _ {G : Code} {t : Totals} {hs ss bs ks xs ys : List ℕ} (T : Tabled G t 
     rule_fits_lem = fits T R6 in_rules6
 
     pub rule_starts : get_or ss (2 * (a - 1) + 0) 0 ≤ get_or ss (2 * (a - 1) + 1) 0
-    rule_starts = (span_asks T R6 in_rules6 p 1 (omega arith)).4
+    rule_starts = (span_asks T R6 in_rules6 1 (omega arith)).3
 
     module _ {h k b : ℕ} (e : h ≡ get_or hs (a - 1) 0) (f : k ≡ get_or ks (a - 1) 0) (g : b ≡ get_or ss (2 * (a - 1) + 1) 0 - get_or ss (2 * (a - 1) + 0) 0) where
       head_is : h ≡ head_of G a
@@ -141,15 +140,15 @@ module _ {G : Code} {t : Totals} {hs ss bs ks xs ys : List ℕ} (T : Tabled G t 
       pairs_are : b ≡ inner_count G a
       pairs_are = g ∙ span1 T R6 in_rules6 ∙ sym (elements.inner_positives G T.limits a)
 
-      pub rule_item : (A : Assignment) → rule_true A (sizes_of t.sizes) a h k b ≡ item_true G A 6 a
+      pub rule_item : (A : Assignment) → rule_true A t.sizes a h k b ≡ item_true G A 6 a
       rule_item A =
           ap₂ (λ (S : Sizes) (h : ℕ). rule_true A S a h k b) (sizes_are T) head_is
           ∙ ap₂ (rule_true A (code_sizes G) a (head_of G a)) before_is pairs_are
           ∙ rule_of G a p i A
 
       pub rule_asks : (vs : List ℕ) → t.vars ≤ length vs
-          → (Bounded t.sizes) × (0 < a) × (a ≤ t.sizes.m) × (0 < h) × (h ≤ t.sizes.n) × (k + b ≤ 500) × (var_count (sizes_of t.sizes) (k + b) ≤ length vs)
-      rule_asks vs l = (bounded T, p, rule_among, omega (arith, head_is, x.0), omega (arith, head_is, x.1, atoms_are), few, enough)
+          → (0 < a) × (a ≤ t.sizes.m) × (0 < h) × (h ≤ t.sizes.n) × (k + b ≤ 500) × (var_count t.sizes (k + b) ≤ length vs)
+      rule_asks vs l = (p, rule_among, omega (arith, head_is, x.0), omega (arith, head_is, x.1, atoms_are), few, enough)
         where
           rule_among : a ≤ t.sizes.m
           rule_among = subst (λ (n : ℕ). a ≤ n) (sym (elements.rules_are G t hs ss bs ks xs ys T)) in_rules6
@@ -166,7 +165,7 @@ module _ {G : Code} {t : Totals} {hs ss bs ks xs ys : List ℕ} (T : Tabled G t 
           few : k + b ≤ 500
           few = le_trans in_pairs (elements.pairs_fit G T.limits)
 
-          enough : var_count (sizes_of t.sizes) (k + b) ≤ length vs
+          enough : var_count t.sizes (k + b) ≤ length vs
           enough =
               subst (λ (S : Sizes). var_count S (k + b) ≤ length vs) (sym (sizes_are T))
               (le_trans (count_grows (code_sizes G) (k + b) (pair_total G) in_pairs) (bytes l))

@@ -3,12 +3,11 @@
 
 ghost use Rattle.std.specs.Prelude.{◌+◌, ◌≤◌, ◌<◌, ◌≡◌, length};
 ghost use Rattle.encoding.specs.Variables.{var_count};
-ghost use Rattle.clause_literals.specs.Sizes.{sizes_of, Bounded};
 ghost use Rattle.truth_literals.specs.Values.{value_in};
 ghost use Rattle.truth_literals.specs.Clauses.{Has};
 ghost use Rattle.truth_rules.specs.Rules.{AtomsIn, body_item_true, founds_true, fact_true, bound_true, rule_true};
 
-use clause_literals::{Sizes, below_var, body_var, founds_var, level_var, next_below_var};
+use clause_literals::Sizes;
 use numbers::{Atom, Pair, Rule, Var};
 use truth_literals::{implies, stands};
 
@@ -29,15 +28,16 @@ pub fn body_holds<'a>(t: Var, atoms: &'a [u16], p: usize, assignment: &'a [u8]) 
 
 // Group 6, rule r, whose b pairs stand after k others: whether s(r) says that its body is true with every pair's level below.
 fn founds_hold(s: Sizes, r: Rule, k: u16, b: u16, assignment: &[u8]) -> bool
-    requires { (Bounded s) × (0 < r.0) × (r.0 ≤ s.m) × (k + b ≤ 500) × (var_count (sizes_of s) (k + b) ≤ length assignment.now) }
-    ensures { result ≡ founds_true (value_in assignment.now) (sizes_of s) r.0 k b }
+    requires { (0 < r.0) × (r.0 ≤ s.m) × (k + b ≤ 500) × (var_count s (k + b) ≤ length assignment.now) }
+    ensures { result ≡ founds_true (value_in assignment.now) s r.0 k b }
 {
-    let f = founds_var(s, r);
-    let t = body_var(s, r);
+    let w = s.w;
+    let f = s.founds_var(r);
+    let t = s.body_var(r);
     let mut ok = implies(f, true, t, assignment);
     let mut long = stands(true, f, assignment) | stands(false, t, assignment);
     for j in 0..b {
-        let p = below_var(s, Pair(k + (j + 1)), s.w);
+        let p = s.below_var(Pair(k + (j + 1)), w);
         ok &= implies(f, true, p, assignment);
         long |= stands(false, p, assignment);
     }
@@ -46,13 +46,14 @@ fn founds_hold(s: Sizes, r: Rule, k: u16, b: u16, assignment: &[u8]) -> bool
 
 // Whether a true body without pairs gives the head, h, level 1: its bit j is as bit j of the number 1.
 fn fact_holds(s: Sizes, r: Rule, h: Atom, assignment: &[u8]) -> bool
-    requires { (Bounded s) × (0 < r.0) × (r.0 ≤ s.m) × (0 < h.0) × (h.0 ≤ s.n) × (var_count (sizes_of s) 0 ≤ length assignment.now) }
-    ensures { result ≡ fact_true (value_in assignment.now) (sizes_of s) r.0 h.0 }
+    requires { (0 < r.0) × (r.0 ≤ s.m) × (0 < h.0) × (h.0 ≤ s.n) × (var_count s 0 ≤ length assignment.now) }
+    ensures { result ≡ fact_true (value_in assignment.now) s r.0 h.0 }
 {
-    let t = body_var(s, r);
+    let w = s.w;
+    let t = s.body_var(r);
     let mut ok = true;
-    for j in 0..s.w {
-        let v = level_var(s, h, j + 1);
+    for j in 0..w {
+        let v = s.level_var(h, j + 1);
         ok &= implies(t, j == 0, v, assignment);
     }
     ok
@@ -60,12 +61,13 @@ fn fact_holds(s: Sizes, r: Rule, h: Atom, assignment: &[u8]) -> bool
 
 // Whether a true body leaves some pair's next not below the head.
 fn bound_holds(s: Sizes, r: Rule, k: u16, b: u16, assignment: &[u8]) -> bool
-    requires { (Bounded s) × (0 < r.0) × (r.0 ≤ s.m) × (k + b ≤ 500) × (var_count (sizes_of s) (k + b) ≤ length assignment.now) }
-    ensures { result ≡ bound_true (value_in assignment.now) (sizes_of s) r.0 k b }
+    requires { (0 < r.0) × (r.0 ≤ s.m) × (k + b ≤ 500) × (var_count s (k + b) ≤ length assignment.now) }
+    ensures { result ≡ bound_true (value_in assignment.now) s r.0 k b }
 {
-    let mut low = stands(false, body_var(s, r), assignment);
+    let w = s.w;
+    let mut low = stands(false, s.body_var(r), assignment);
     for j in 0..b {
-        let q = next_below_var(s, Pair(k + (j + 1)), s.w);
+        let q = s.next_below_var(Pair(k + (j + 1)), w);
         low |= stands(false, q, assignment);
     }
     low
@@ -73,9 +75,9 @@ fn bound_holds(s: Sizes, r: Rule, k: u16, b: u16, assignment: &[u8]) -> bool
 
 // Group 6, rule r with head h and b pairs after k others: whether every clause is true.
 pub fn rule_holds(s: Sizes, r: Rule, h: Atom, k: u16, b: u16, assignment: &[u8]) -> bool
-    requires { (Bounded s) × (0 < r.0) × (r.0 ≤ s.m) × (0 < h.0) × (h.0 ≤ s.n) × (k + b ≤ 500)
-        × (var_count (sizes_of s) (k + b) ≤ length assignment.now) }
-    ensures { result ≡ rule_true (value_in assignment.now) (sizes_of s) r.0 h.0 k b }
+    requires { (0 < r.0) × (r.0 ≤ s.m) × (0 < h.0) × (h.0 ≤ s.n) × (k + b ≤ 500)
+        × (var_count s (k + b) ≤ length assignment.now) }
+    ensures { result ≡ rule_true (value_in assignment.now) s r.0 h.0 k b }
 {
     let founds = founds_hold(s, r, k, b, assignment);
     if b == 0 {

@@ -5,13 +5,14 @@
 ghost use Rattle.std.specs.Prelude.{◌≤◌, ◌≡◌, length};
 ghost use Rattle.lists.specs.Lists.{joined};
 ghost use Rattle.refusals.specs.Numbers.{text_number, text_spot};
-ghost use Rattle.clause_tables.specs.Tables.{Ready, code_in, clauses_in};
+ghost use Rattle.clause_tables.specs.Tables.{clauses_in};
 ghost use Rattle.fixed_lines.specs.Lines.{refused_text};
 ghost use Rattle.clause_runs.specs.Lines.{code_lines};
 ghost use Rattle.writer_output.specs.Output.{writer_refusal_line, writer_output, Stands, PartPut};
+ghost use Rattle.clause_cells.specs.Held.{table_code};
 
 use call_table::load_counted;
-use clause_cells::totals;
+use clause_cells::Table;
 use clause_places::{Place, start};
 use clause_runs::{RunPart, put_lines};
 use clause_tables::CELLS;
@@ -40,28 +41,25 @@ fn say_refused(verdict: Result<(), TextRefusal>) -> usize
 }
 
 // The place before the first clause.
-fn first_place(table: &[u16]) -> Place
-    requires { Ready table.now }
-    ensures { Stands (code_in table.now) result 0 }
+fn first_place(table: Table<'_>) -> Place
+    ensures { Stands (table_code table.entry) result 0 }
 {
     start(table)
 }
 
 // Puts the lines from place c on at the front of the buffer, as many as fit. `said` bytes of the clause file stand before them.
-fn next_part(table: &[u16], c: Place, said: usize, out: &mut [u8]) -> RunPart
-    requires { (Ready table.now) × (Stands (code_in table.now) c said) × (c.number ≤ clauses_in table.now) × (3008 ≤ length out.old)
-        × (length out.old ≤ 65536) }
-    ensures { PartPut (code_in table.now) c said out.old result out.new }
+fn next_part(table: Table<'_>, c: Place, said: usize, out: &mut [u8]) -> RunPart
+    requires { (Stands (table_code table) c said) × (c.number ≤ clauses_in table.cells.now) × (3008 ≤ length out.old) × (length out.old ≤ 65536) }
+    ensures { PartPut (table_code table.entry) c said out.old result out.new }
 {
     put_lines(table, c, out)
 }
 
 // Hands over all lines of the program of a table, part after part.
-fn say_lines(table: &[u16]) -> usize
-    requires { Ready table.now }
-    ensures { result ≡ length (joined (code_lines (code_in table.now))) }
+fn say_lines(table: Table<'_>) -> usize
+    ensures { result ≡ length (joined (code_lines (table_code table.entry))) }
 {
-    let t = totals(table);
+    let t = table.totals();
     let mut out = io::large_buffer();
     let mut c = first_place(table);
     let mut said: usize = 0;
@@ -78,12 +76,12 @@ fn say_lines(table: &[u16]) -> usize
 pub fn say_output(front: &[u8], total: usize) -> usize
     ensures { result ≡ length (writer_output front.now total) }
 {
-    let mut table = [0u16; CELLS];
-    let verdict = load_counted(front, total, &mut table);
+    let mut cells = [0u16; CELLS];
+    let verdict = load_counted(front, total, &mut cells);
     let Ok(()) = verdict else {
         return say_refused(verdict);
     };
-    say_lines(&table)
+    say_lines(Table { cells: &cells })
 }
 
 // Reads a program text from an open file and prints the output.

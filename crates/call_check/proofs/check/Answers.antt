@@ -7,11 +7,11 @@ use Rattle.call_table.proofs.Reading.{loaded_verdict, loaded_cells, loaded_ready
 use Rattle.call_laws.proofs.Tabled.{stored}
 use Rattle.call_check.proofs.check.Goals as goal
 
-pub slice_bounds-check_in-end : goal.slice_bounds-check_in-end
-slice_bounds-check_in-end c = loaded_cells (stored c.args.text.now) c.in_ok-load.ensures refl
+pub slice_bounds-table-end : goal.slice_bounds-table-end
+slice_bounds-table-end c = loaded_cells (stored c.args.text.now) c.in_ok-load.ensures refl
 
-pub check_in-requires : goal.check_in-requires
-check_in-requires c = loaded_ready (stored c.args.text.now) c.in_ok-load.ensures refl
+pub invariant_of-table : goal.invariant_of-table
+invariant_of-table c = record { ready = loaded_ready (stored c.args.text.now) c.in_ok-load.ensures refl }
 
 pub returns : goal.returns
 returns c = check_whole c.args.text.now c.args.answer.now c.args.assignment.now c.args.levels.now refl

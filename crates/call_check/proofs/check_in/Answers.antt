@@ -1,37 +1,39 @@
-use Rattle.call_check_rows.proofs.Rows.{short_assignment, short_levels, overlong, form_malformed, form_none, form_model, vars_few}
+use Rattle.call_check_rows.proofs.Rows.{short_assignment, short_levels, overlong, form_refused, form_model, vars_few, fresh, fresh_length}
 use Rattle.clause_tables.specs.declared.Totals.{Totals}
+use Rattle.encoding.specs.Variables.{Sizes}
+use Rattle.std.proofs.lemmas.Result.{err_from_is_err_and}
 use native.Mathlib.Omega.{arith}
-use mathlib.Core.Path.{◌≡◌, ap}
-use borrow.Author.Rules.{rules}
-use Rattle.std.specs.Prelude.{Err}
-use Rattle.answer_reader.specs.declared.AnswerFault.TheVariants.{NoModel, Malformed}
-use Rattle.clause_table_laws.proofs.Cells.{told}
+use mathlib.Core.Path.{sym, ap}
+use Rattle.clause_table_laws.proofs.Cells.{told, opened}
 use Rattle.call_check.proofs.check_in.Goals as goal
 
 pub returns-then-assignment-t : goal.returns-then-assignment-t
-returns-then-assignment-t c = short_assignment (told c.requires c.totals-t.ensures) c.args.answer.now c.args.total c.args.assignment.now c.args.levels.now c.if-assignment-t.true
+returns-then-assignment-t c = short_assignment (told c.args.table.ready c.totals-t.ensures) c.args.answer.now c.args.total c.args.assignment.now c.args.levels.now c.if-assignment-t.true
 
 pub returns-then-levels-n : goal.returns-then-levels-n
-returns-then-levels-n c = short_levels (told c.requires c.totals-t.ensures) c.args.answer.now c.args.total c.args.assignment.now c.args.levels.now c.if-assignment-t.false c.if-levels-n.true
+returns-then-levels-n c = rw c.from-n.ensures (short_levels (opened c.args.table.ready c.s.view_is c.totals-t.ensures) c.args.answer.now c.args.total c.args.assignment.now c.args.levels.now c.if-assignment-t.false (omega arith))
 
 pub returns-then-total-gt-MAX_TEXT : goal.returns-then-total-gt-MAX_TEXT
-returns-then-total-gt-MAX_TEXT c = overlong (told c.requires c.totals-t.ensures) c.args.answer.now c.args.total c.args.assignment.now c.args.levels.now c.if-assignment-t.false c.if-levels-n.false (omega (arith, c.if-total-gt-MAX_TEXT.true))
+returns-then-total-gt-MAX_TEXT c = overlong (opened c.args.table.ready c.s.view_is c.totals-t.ensures) c.args.answer.now c.args.total c.args.assignment.now c.args.levels.now c.if-assignment-t.false (omega arith) (omega arith)
 
-pub read_form-x-requires : goal.read_form-x-requires
-read_form-x-requires c = (vars_few (told c.requires c.totals-t.ensures), vars_few (told c.requires c.totals-t.ensures))
+pub slice_bounds-array-end : goal.slice_bounds-array-end
+slice_bounds-array-end c = vars_few (opened c.args.table.ready c.s.view_is c.totals-t.ensures)
+
+pub slice_bounds-values-end : goal.slice_bounds-values-end
+slice_bounds-values-end c = sym (fresh_length (opened c.args.table.ready c.s.view_is c.totals-t.ensures))
+
+pub read_form-requires : goal.read_form-requires
+read_form-requires c = omega (arith, fresh_length (opened c.args.table.ready c.s.view_is c.totals-t.ensures), vars_few (opened c.args.table.ready c.s.view_is c.totals-t.ensures))
+
+pub invariant_of-valued : goal.invariant_of-valued
+invariant_of-valued c = record { long = omega (arith, fresh_length (opened c.args.table.ready c.s.view_is c.totals-t.ensures), ap (λ (t : Totals). t.vars) c.totals-t.ensures, c.read_form.auto.values) }
 
 pub assigned-requires : goal.assigned-requires
-assigned-requires c = (c.requires, omega (arith, vars_few (told c.requires c.totals-t.ensures), ap (λ (t : Totals). t.vars) c.totals-t.ensures, c.read_form-x.auto.assignment), omega (arith, c.if-assignment-t.false, ap (λ (t : Totals). t.vars) c.totals-t.ensures), omega (arith, c.if-levels-n.false, ap (λ (t : Totals). t.sizes.n) c.totals-t.ensures))
+assigned-requires c = (omega (arith, c.if-assignment-t.false, ap (λ (t : Totals). t.vars) c.totals-t.ensures), omega (arith, ap (λ (s : Sizes). s.n) c.s.view_is, ap (λ (t : Totals). t.sizes.n) c.totals-t.ensures))
 
-pub returns-in-Err-Malformed : goal.returns-in-Err-Malformed
-returns-in-Err-Malformed c =
-    let e : c.read_form-x.result.form ≡ Err (Malformed c.in-Err-Malformed.s) = search rules in
-    form_malformed (told c.requires c.totals-t.ensures) c.args.answer.now c.args.total c.args.assignment.now c.args.levels.now c.if-assignment-t.false c.if-levels-n.false (omega (arith, c.if-total-gt-MAX_TEXT.false)) c.read_form-x.ensures.0 e
+pub returns-in_err-read : goal.returns-in_err-read
+returns-in_err-read c = let p = err_from_is_err_and c.from_residual.result c.from_residual.ensures.1 in rw (p.1, p.2)
+    (form_refused (opened c.args.table.ready c.s.view_is c.totals-t.ensures) c.args.answer.now c.args.total c.args.assignment.now c.args.levels.now c.if-assignment-t.false (omega arith) (omega arith) _ c.read_form.ensures.0 c.in_err-read.was)
 
-pub returns-in-Err-NoModel : goal.returns-in-Err-NoModel
-returns-in-Err-NoModel c =
-    let e : c.read_form-x.result.form ≡ Err NoModel = search rules in
-    form_none (told c.requires c.totals-t.ensures) c.args.answer.now c.args.total c.args.assignment.now c.args.levels.now c.if-assignment-t.false c.if-levels-n.false (omega (arith, c.if-total-gt-MAX_TEXT.false)) c.read_form-x.ensures.0 e
-
-pub returns-in-Ok : goal.returns-in-Ok
-returns-in-Ok c = form_model (told c.requires c.totals-t.ensures) c.args.answer.now c.args.total c.args.assignment.now c.args.levels.now c.if-assignment-t.false c.if-levels-n.false (omega (arith, c.if-total-gt-MAX_TEXT.false)) c.read_form-x.ensures.0 c.in-Ok.is 9890 (vars_few (told c.requires c.totals-t.ensures)) c.read_form-x.ensures.1 c.read_form-x.ensures.2 c.read_form-x.ensures.3 c.assigned.ensures
+pub returns : goal.returns
+returns c = form_model (opened c.args.table.ready c.s.view_is c.totals-t.ensures) c.args.answer.now c.args.total c.args.assignment.now c.args.levels.now c.if-assignment-t.false (omega arith) (omega arith) c.read_form.ensures.0 c.in_ok-read.was (fresh (opened c.args.table.ready c.s.view_is c.totals-t.ensures)) c.read_form.ensures.1 c.assigned.ensures

@@ -1,15 +1,12 @@
 use Rattle.std.proofs.lemmas.Result.{err_from_is_err_and}
 use mathlib.Core.Path.{refl}
 use Rattle.call_fill_rows.proofs.Steps.{same_code, read_accepted, read_refused}
-use Rattle.call_table.proofs.Reading.{loaded_verdict, loaded_cells, loaded_ready, loaded_code}
+use Rattle.call_table.proofs.Reading.{loaded_verdict, loaded_ready, loaded_code}
 use Rattle.call_laws.proofs.Tabled.{stored}
 use Rattle.call_fill.proofs.fill_out.Goals as goal
 
-pub slice_bounds-fill_in-end : goal.slice_bounds-fill_in-end
-slice_bounds-fill_in-end c = loaded_cells (stored c.args.text.now) c.in_ok-load.ensures refl
-
-pub fill_in-requires : goal.fill_in-requires
-fill_in-requires c = loaded_ready (stored c.args.text.now) c.in_ok-load.ensures refl
+pub invariant_of-table : goal.invariant_of-table
+invariant_of-table c = record { ready = loaded_ready (stored c.args.text.now) c.in_ok-load.ensures refl }
 
 pub returns : goal.returns
 returns c = read_accepted c.args.text.now c.args.set.now c.args.assignment.now c.args.levels.now refl (loaded_verdict c.in_ok-load.ensures refl)

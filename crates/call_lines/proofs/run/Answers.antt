@@ -5,11 +5,11 @@ use Rattle.call_laws.proofs.Tabled.{stored}
 use mathlib.Core.Path.{refl}
 use Rattle.call_lines.proofs.run.Goals as goal
 
-pub slice_bounds-run_in-end : goal.slice_bounds-run_in-end
-slice_bounds-run_in-end c = loaded_cells (stored c.args.text.now) c.in_ok-load.ensures refl
+pub slice_bounds-table-end : goal.slice_bounds-table-end
+slice_bounds-table-end c = loaded_cells (stored c.args.text.now) c.in_ok-load.ensures refl
 
-pub run_in-requires : goal.run_in-requires
-run_in-requires c = loaded_ready (stored c.args.text.now) c.in_ok-load.ensures refl
+pub invariant_of-table : goal.invariant_of-table
+invariant_of-table c = record { ready = loaded_ready (stored c.args.text.now) c.in_ok-load.ensures refl }
 
 pub returns : goal.returns
 returns c = run_accepted c.args.text.now c.in_ok-load.ensures.verdict_is c.args.j c.args.buf.now refl

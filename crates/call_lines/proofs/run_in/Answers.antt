@@ -8,19 +8,19 @@ use Rattle.clause_tables.specs.declared.Totals.{Totals}
 use Rattle.call_lines.proofs.run_in.Goals as goal
 
 pub returns-then-t-j : goal.returns-then-t-j
-returns-then-t-j c = run_past (told c.requires c.totals-t.ensures) c.args.j c.args.buf.now c.if-t-j.true
+returns-then-t-j c = run_past (told c.args.table.ready c.totals-t.ensures) c.args.j c.args.buf.now c.if-t-j.true
 
-pub place_of-c-requires : goal.place_of-c-requires
-place_of-c-requires c = (c.requires, omega (arith, c.if-t-j.false, ap (λ (t : Totals). t.clauses) c.totals-t.ensures))
+pub place_of-place-requires : goal.place_of-place-requires
+place_of-place-requires c = (omega (arith, c.if-t-j.false, ap (λ (t : Totals). t.clauses) c.totals-t.ensures))
 
 pub put_lines-part-requires : goal.put_lines-part-requires
-put_lines-part-requires c = (c.requires, own_number (told c.requires c.totals-t.ensures) c.place_of-c.ensures, omega (arith, placed_within (told c.requires c.totals-t.ensures) c.args.j c.place_of-c.ensures c.if-t-j.false, ap (λ (t : Totals). t.clauses) c.totals-t.ensures))
+put_lines-part-requires c = (own_number (told c.args.table.ready c.totals-t.ensures) c.place_of-place.ensures, omega (arith, placed_within (told c.args.table.ready c.totals-t.ensures) c.args.j c.place_of-place.ensures c.if-t-j.false, ap (λ (t : Totals). t.clauses) c.totals-t.ensures))
 
-pub line_length-need-requires : goal.line_length-need-requires
-line_length-need-requires c = (c.requires, own_number (told c.requires c.totals-t.ensures) c.place_of-c.ensures, omega (arith, placed_within (told c.requires c.totals-t.ensures) c.args.j c.place_of-c.ensures c.if-t-j.false, ap (λ (t : Totals). t.clauses) c.totals-t.ensures))
+pub invariant_of-line : goal.invariant_of-line
+invariant_of-line c = record { stands = own_number (told c.args.table.ready c.totals-t.ensures) c.place_of-place.ensures; within = omega (arith, placed_within (told c.args.table.ready c.totals-t.ensures) c.args.j c.place_of-place.ensures c.if-t-j.false, ap (λ (t : Totals). t.clauses) c.totals-t.ensures) }
 
 pub returns-then-part-eq0 : goal.returns-then-part-eq0
-returns-then-part-eq0 c = (run_refused (told c.requires c.totals-t.ensures) c.args.j c.args.buf.now c.if-t-j.false (ap (λ (q : RunPart). q.lines) (placed_part (told c.requires c.totals-t.ensures) c.args.j c.place_of-c.ensures c.args.buf.now c.put_lines-part.ensures).0) c.if-part-eq0.true (need_is (told c.requires c.totals-t.ensures) c.args.j c.place_of-c.ensures c.line_length-need.ensures), (placed_part (told c.requires c.totals-t.ensures) c.args.j c.place_of-c.ensures c.args.buf.now c.put_lines-part.ensures).1)
+returns-then-part-eq0 c = (run_refused (told c.args.table.ready c.totals-t.ensures) c.args.j c.args.buf.now c.if-t-j.false (ap (λ (q : RunPart). q.lines) (placed_part (told c.args.table.ready c.totals-t.ensures) c.args.j c.place_of-place.ensures c.args.buf.now c.put_lines-part.ensures).0) c.if-part-eq0.true (need_is (told c.args.table.ready c.totals-t.ensures) c.args.j c.place_of-place.ensures c.line_length.ensures), (placed_part (told c.args.table.ready c.totals-t.ensures) c.args.j c.place_of-place.ensures c.args.buf.now c.put_lines-part.ensures).1)
 
 pub returns : goal.returns
-returns c = (run_written (told c.requires c.totals-t.ensures) c.args.j c.args.buf.now c.if-t-j.false (ap (λ (q : RunPart). q.lines) (placed_part (told c.requires c.totals-t.ensures) c.args.j c.place_of-c.ensures c.args.buf.now c.put_lines-part.ensures).0) (ap (λ (q : RunPart). q.bytes) (placed_part (told c.requires c.totals-t.ensures) c.args.j c.place_of-c.ensures c.args.buf.now c.put_lines-part.ensures).0) c.if-part-eq0.false, (placed_part (told c.requires c.totals-t.ensures) c.args.j c.place_of-c.ensures c.args.buf.now c.put_lines-part.ensures).1)
+returns c = (run_written (told c.args.table.ready c.totals-t.ensures) c.args.j c.args.buf.now c.if-t-j.false (ap (λ (q : RunPart). q.lines) (placed_part (told c.args.table.ready c.totals-t.ensures) c.args.j c.place_of-place.ensures c.args.buf.now c.put_lines-part.ensures).0) (ap (λ (q : RunPart). q.bytes) (placed_part (told c.args.table.ready c.totals-t.ensures) c.args.j c.place_of-place.ensures c.args.buf.now c.put_lines-part.ensures).0) c.if-part-eq0.false, (placed_part (told c.args.table.ready c.totals-t.ensures) c.args.j c.place_of-place.ensures c.args.buf.now c.put_lines-part.ensures).1)

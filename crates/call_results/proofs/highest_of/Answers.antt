@@ -1,9 +1,9 @@
-use mathlib.Core.Path.{◌∙◌}
-use Rattle.call_results.proofs.Counting.{highest_more, highest_all}
+use Prim.Native.Nat.{max}
+use Rattle.std.specs.List.{fold}
+use Rattle.std.proofs.Common.{rules}
+use mathlib.Core.Path.{◌≡◌, ◌∙◌}
+use Rattle.call_results.proofs.Counting.{fold_is}
 use Rattle.call_results.proofs.highest_of.Goals as goal
 
-pub loop-a-preserved : goal.loop-a-preserved
-loop-a-preserved c = highest_more c.args.levels.now c.loop-a.a c.loop-a.invariant (c.from.ensures ∙ c.byte_of.ensures) c.max-x.ensures
-
 pub returns : goal.returns
-returns c = highest_all c.args.levels.now c.loop-a.a c.args.n c.loop-a.invariant c.loop-a.auto.a-end c.loop-a-test.false
+returns c = let e : c.fold.result ≡ fold (λ a y. max a y) 0 c.args.levels.now = search rules in e ∙ fold_is c.args.levels.now

@@ -1,10 +1,9 @@
 use Rattle.checker_model.proofs.Assumed.{assumed_none, assumed_some}
-use Rattle.digits.proofs.Wrote.{room_as, room_front, wrote_none, wrote_as, wrote_after, after_start, after_room, after_sum, after_kept}
+use Rattle.digits.proofs.Wrote.{room_as, room_front, wrote_none, wrote_as, wrote_after, after_room}
 use Rattle.text.specs.Decimal.{decimal}
 use Rattle.lists.specs.Ascii.{ascii}
 use mathlib.Core.List.{◌++◌}
 use mathlib.Core.Path.{sym}
-use borrow.Author.Rules.{rules}
 use Rattle.checker_model.proofs.put_assumed.Goals as goal
 
 pub returns-then-count-eq0 : goal.returns-then-count-eq0
@@ -14,26 +13,10 @@ pub put_word-to-requires : goal.put_word-to-requires
 unfolding ascii
 put_word-to-requires c = room_front (ascii "(assumed ") (decimal c.args.count ++ ascii ")\n") (room_as (sym (assumed_some c.args.count c.if-count-eq0.false)) c.requires)
 
-pub slice_bounds-put_closing-count : goal.slice_bounds-put_closing-count
-unfolding ascii
-slice_bounds-put_closing-count c = after_start c.put_word-to.ensures (decimal c.args.count ++ ascii ")\n") (room_as (sym (assumed_some c.args.count c.if-count-eq0.false)) c.requires)
-
-pub slice_bounds-put_closing-start : goal.slice_bounds-put_closing-start
-unfolding ascii
-slice_bounds-put_closing-start c = after_start c.put_word-to.ensures (decimal c.args.count ++ ascii ")\n") (room_as (sym (assumed_some c.args.count c.if-count-eq0.false)) c.requires)
-
 pub put_closing-requires : goal.put_closing-requires
 unfolding ascii
 put_closing-requires c = after_room c.put_word-to.ensures (decimal c.args.count ++ ascii ")\n") (room_as (sym (assumed_some c.args.count c.if-count-eq0.false)) c.requires)
 
-pub overflow_add-result : goal.overflow_add-result
+pub returns-else-count-eq0 : goal.returns-else-count-eq0
 unfolding ascii
-overflow_add-result c = search (rules, after_sum c.put_word-to.ensures (decimal c.args.count ++ ascii ")\n") (room_as (sym (assumed_some c.args.count c.if-count-eq0.false)) c.requires) c.put_closing.ensures.count)
-
-pub shape_of-buf : goal.shape_of-buf
-unfolding ascii
-shape_of-buf c = after_kept c.put_word-to.ensures (decimal c.args.count ++ ascii ")\n") (room_as (sym (assumed_some c.args.count c.if-count-eq0.false)) c.requires) c.put_closing.ensures
-
-pub returns : goal.returns
-unfolding ascii
-returns c = wrote_as (sym (assumed_some c.args.count c.if-count-eq0.false)) (wrote_after c.put_word-to.ensures (decimal c.args.count ++ ascii ")\n") c.put_closing.ensures)
+returns-else-count-eq0 c = wrote_as (sym (assumed_some c.args.count c.if-count-eq0.false)) (wrote_after c.put_word-to.ensures (decimal c.args.count ++ ascii ")\n") c.put_closing.ensures)

@@ -11,8 +11,11 @@ use Rattle.checker_output.proofs.put_output.Goals as goal
 pub slice_bounds-put_checked-end : goal.slice_bounds-put_checked-end
 slice_bounds-put_checked-end c = loaded_cells (counted_stored c.args.text.now c.args.size) c.in-Ok.ensures refl
 
+pub invariant_of-put_checked : goal.invariant_of-put_checked
+invariant_of-put_checked c = record { ready = loaded_ready (counted_stored c.args.text.now c.args.size) c.in-Ok.ensures refl }
+
 pub put_checked-requires : goal.put_checked-requires
-put_checked-requires c = (loaded_ready (counted_stored c.args.text.now c.args.size) c.in-Ok.ensures refl, c.requires)
+put_checked-requires c = c.requires
 
 pub put_refused-requires : goal.put_refused-requires
 put_refused-requires c = omega (arith, c.requires)

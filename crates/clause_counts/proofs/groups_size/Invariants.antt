@@ -6,4 +6,4 @@ use Prim.Native.Nat.{pred}
 use Rattle.clause_counts.proofs.groups_size.Given as goal
 
 abbrev pub invariant-loop-h : goal.invariant-loop-h
-invariant-loop-h l = l.n ≡ sum (pred l.h) (group_size (code_in l.table))
+invariant-loop-h l = l.n ≡ sum (pred l.h) (group_size (code_in l.table.cells.now))

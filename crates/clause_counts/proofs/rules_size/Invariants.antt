@@ -5,4 +5,4 @@ use mathlib.Core.Path.{◌≡◌}
 use Rattle.clause_counts.proofs.rules_size.Given as goal
 
 abbrev pub invariant-loop-r : goal.invariant-loop-r
-invariant-loop-r l = l.n ≡ sum l.r (item_size (code_in l.table) l.g)
+invariant-loop-r l = l.n ≡ sum l.r (item_size (code_in l.table.cells.now) l.g)

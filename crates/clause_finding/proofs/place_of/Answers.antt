@@ -7,19 +7,22 @@ pub returns-then-j-eq0 : goal.returns-then-j-eq0
 returns-then-j-eq0 c = first_place _ c.args.j c.if-j-eq0.true c.start.ensures
 
 pub find_item-a-requires : goal.find_item-a-requires
-find_item-a-requires c = (c.requires.0, c.find_group-g.ensures.at.some, c.find_group-g.ensures.at.within, c.find_group-g.ensures.inside)
+find_item-a-requires c = (c.find_group-g.ensures.at.some, c.find_group-g.ensures.at.within, c.find_group-g.ensures.inside)
 
 pub find_block-i-requires : goal.find_block-i-requires
-find_block-i-requires c = (c.requires.0, c.find_group-g.ensures.at.some, c.find_group-g.ensures.at.within, c.find_item-a.ensures.at.some, c.find_item-a.ensures.at.within, c.find_item-a.ensures.inside)
+find_block-i-requires c = (c.find_group-g.ensures.at.some, c.find_group-g.ensures.at.within, c.find_item-a.ensures.at.some, c.find_item-a.ensures.at.within, c.find_item-a.ensures.inside)
 
-pub overflow_cast-i : goal.overflow_cast-i
-overflow_cast-i c = omega (arith, found_fits _ c.find_group-g.ensures c.find_item-a.ensures c.find_block-i.ensures (arrays c.requires.0).limits)
+pub overflow_cast-clause : goal.overflow_cast-clause
+overflow_cast-clause c = omega (arith, found_fits _ c.find_group-g.ensures c.find_item-a.ensures c.find_block-i.ensures (arrays c.args.table.ready).limits)
 
-pub overflow_add-i : goal.overflow_add-i
-overflow_add-i c = omega (arith, found_fits _ c.find_group-g.ensures c.find_item-a.ensures c.find_block-i.ensures (arrays c.requires.0).limits)
+pub overflow_add-clause : goal.overflow_add-clause
+overflow_add-clause c = omega (arith, found_fits _ c.find_group-g.ensures c.find_item-a.ensures c.find_block-i.ensures (arrays c.args.table.ready).limits)
 
-pub coordinates_at-requires : goal.coordinates_at-requires
-coordinates_at-requires c = (c.requires.0, found_at _ c.find_group-g.ensures c.find_item-a.ensures c.find_block-i.ensures)
+pub invariant_of-block : goal.invariant_of-block
+invariant_of-block c = record { stands = (found_at _ c.find_group-g.ensures c.find_item-a.ensures c.find_block-i.ensures).block_at }
+
+pub invariant_of-clause : goal.invariant_of-clause
+invariant_of-clause c = record { stands = found_at _ c.find_group-g.ensures c.find_item-a.ensures c.find_block-i.ensures }
 
 pub returns : goal.returns
-returns c = placed _ c.args.j c.if-j-eq0.false c.find_group-g.ensures c.find_item-a.ensures c.find_block-i.ensures c.coordinates_at.ensures
+returns c = placed _ c.args.j c.if-j-eq0.false c.find_group-g.ensures c.find_item-a.ensures c.find_block-i.ensures c.coordinates_of.ensures

@@ -11,13 +11,13 @@ use Rattle.clause_table_laws.proofs.Cells.{arrays}
 use Rattle.clause_places.proofs.head_block.Goals as goal
 
 pub next_head-j-requires : goal.next_head-j-requires
-next_head-j-requires c = front_fits (heads_in c.args.table.now) (heads_length _ _ _ _ _ _ _ _ (arrays c.requires.0)) c.args.m c.heads.ensures c.requires.1
+next_head-j-requires c = front_fits (heads_in c.args.table.cells.now) (heads_length _ _ _ _ _ _ _ _ (arrays c.args.table.ready)) c.args.m c.heads.ensures c.requires.0
 
 pub overflow_add-result : goal.overflow_add-result
-overflow_add-result c = omega (arith, c.next_head-j.ensures ∙ ap (λ (hs : List ℕ). next_head hs c.args.c.item c.args.c.block) c.heads.ensures, next_in (heads_in c.args.table.now) c.args.m c.args.c.item c.args.c.block (omega (arith, c.requires.1, heads_length _ _ _ _ _ _ _ _ (arrays c.requires.0))) c.requires.2, c.requires.1)
+overflow_add-result c = omega (arith, c.next_head-j.ensures ∙ ap (λ (hs : List ℕ). next_head hs c.args.c.item c.args.c.block) c.heads.ensures, next_in (heads_in c.args.table.cells.now) c.args.m c.args.c.item c.args.c.block (omega (arith, c.requires.0, heads_length _ _ _ _ _ _ _ _ (arrays c.args.table.ready))) c.requires.1, c.requires.0)
 
 pub overflow_sub-result : goal.overflow_sub-result
-overflow_sub-result c = omega (arith, c.next_head-j.ensures ∙ ap (λ (hs : List ℕ). next_head hs c.args.c.item c.args.c.block) c.heads.ensures, next_in (heads_in c.args.table.now) c.args.m c.args.c.item c.args.c.block (omega (arith, c.requires.1, heads_length _ _ _ _ _ _ _ _ (arrays c.requires.0))) c.requires.2)
+overflow_sub-result c = omega (arith, c.next_head-j.ensures ∙ ap (λ (hs : List ℕ). next_head hs c.args.c.item c.args.c.block) c.heads.ensures, next_in (heads_in c.args.table.cells.now) c.args.m c.args.c.item c.args.c.block (omega (arith, c.requires.0, heads_length _ _ _ _ _ _ _ _ (arrays c.args.table.ready))) c.requires.1)
 
 pub returns : goal.returns
-returns c = head_block_is c.args.m (heads_in c.args.table.now) c.args.c (c.next_head-j.ensures ∙ ap (λ (hs : List ℕ). next_head hs c.args.c.item c.args.c.block) c.heads.ensures)
+returns c = head_block_is c.args.m (heads_in c.args.table.cells.now) c.args.c (c.next_head-j.ensures ∙ ap (λ (hs : List ℕ). next_head hs c.args.c.item c.args.c.block) c.heads.ensures)

@@ -6,13 +6,13 @@ use Rattle.clause_table_laws.proofs.Cells.{arrays}
 use Rattle.clause_places.proofs.next_coordinates.Goals as goal
 
 pub loop-at-init : goal.loop-at-init
-loop-at-init c = (c.requires.1, refl)
+loop-at-init c = (c.requires, refl)
 
 pub returns-then-is_over : goal.returns-then-is_over
-returns-then-is_over c = c.group_start.ensures ∙ nothing_follows (arrays c.requires.0) c.loop-at.at c.loop-at-test.true (sym c.is_over.ensures ∙ c.if-is_over.true) ∙ ap first_of c.loop-at.invariant.1
+returns-then-is_over c = c.group_start.ensures ∙ nothing_follows (arrays c.args.table.ready) c.loop-at.at c.loop-at-test.true (sym c.is_over.ensures ∙ c.if-is_over.true) ∙ ap first_of c.loop-at.invariant.1
 
 pub step-at-requires : goal.step-at-requires
-step-at-requires c = (c.requires.0, c.loop-at.invariant.0, c.loop-at-test.true, sym c.is_over.ensures ∙ c.if-is_over.false)
+step-at-requires c = (c.loop-at.invariant.0, c.loop-at-test.true, sym c.is_over.ensures ∙ c.if-is_over.false)
 
 pub loop-at-smaller : goal.loop-at-smaller
 loop-at-smaller c = c.step-at.ensures.nearer
@@ -21,7 +21,7 @@ pub loop-at-preserved : goal.loop-at-preserved
 loop-at-preserved c = (c.step-at.ensures.within, c.step-at.ensures.same ∙ c.loop-at.invariant.1)
 
 pub overflow_add-result : goal.overflow_add-result
-overflow_add-result c = omega (arith, clause_adds (arrays c.requires.0) c.loop-at.at c.loop-at.invariant.0 c.loop-at-test.false)
+overflow_add-result c = omega (arith, clause_adds (arrays c.args.table.ready) c.loop-at.at c.loop-at.invariant.0 c.loop-at-test.false)
 
 pub returns : goal.returns
-returns c = clause_follows (arrays c.requires.0) c.loop-at.at c.loop-at.invariant.0 c.loop-at-test.false ∙ ap first_of c.loop-at.invariant.1
+returns c = clause_follows (arrays c.args.table.ready) c.loop-at.at c.loop-at.invariant.0 c.loop-at-test.false ∙ ap first_of c.loop-at.invariant.1

@@ -5,4 +5,4 @@ use Rattle.lists.specs.Lists.{each}
 use Rattle.clause_runs.proofs.put_item.Given as goal
 
 abbrev pub invariant-loop-i : goal.invariant-loop-i
-invariant-loop-i l = Wrote (each l.i (block_text (code_in l.table) l.g l.a)) l.initial.buf l.buf l.at
+invariant-loop-i l = Wrote (each l.i (block_text (code_in l.table.cells.now) l.g l.a)) l.initial.buf l.buf l.at

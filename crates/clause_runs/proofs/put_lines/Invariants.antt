@@ -7,7 +7,7 @@ use mathlib.Core.Path.{◌≡◌}
 use Rattle.clause_runs.proofs.put_lines.Given as goal
 
 abbrev pub invariant-loop-run : goal.invariant-loop-run
-invariant-loop-run l = (l.run.place ≡ place_at (code_in l.table) l.run.place.number) × (l.run.place.number ≤ suc l.t.clauses) × Going (code_lines (code_in l.table)) l.initial.run.place.number l.initial.buf l.run.place.number l.run.lines l.run.bytes l.buf
+invariant-loop-run l = (l.run.place ≡ place_at (code_in l.table.cells.now) l.run.place.number) × (l.run.place.number ≤ suc l.t.clauses) × Going (code_lines (code_in l.table.cells.now)) l.initial.run.place.number l.initial.buf l.run.place.number l.run.lines l.run.bytes l.buf
 
 abbrev pub decreases-loop-run : goal.decreases-loop-run
 decreases-loop-run l = suc l.t.clauses - l.run.place.number

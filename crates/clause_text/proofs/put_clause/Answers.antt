@@ -1,55 +1,49 @@
-use Rattle.clause_layout.proofs.Groups.{bounded}
-use Rattle.clause_table_laws.proofs.Cells.{told}
-use Rattle.clause_text.proofs.Clause.{slot_in, slot_small, past_within, past_less, part_fits, text_next, end_small, end_fits, line_text_lem, line_kept, length_fits}
-use Rattle.digits.proofs.Wrote.{wrote_after, after_start, after_room}
-use Rattle.clause_text.specs.Lines.{literals_in}
-use Rattle.digits.specs.Bytes.{literals_text}
 use lib.Seq.{lt-length-set}
-use mathlib.Core.Path.{refl}
+use mathlib.Core.Path.{◌∙◌, refl, ap}
 use native.Mathlib.Omega.{arith}
-use Rattle.clause_literals.proofs.Signed.{read_back}
-use mir.Val.{to_z, of_z}
-use mir.Syntax.{w32}
+use Rattle.std.proofs.lemmas.List.{length_push}
+use Rattle.clause_iter.specs.Left.{numbers_left}
+use Rattle.clause_iter.proofs.Numbers.{yields_next, yields_end, number_small}
+use Rattle.digits.proofs.Wrote.{wrote_after, after_room}
+use Rattle.clause_text.proofs.Clause.{turn_bits, part_fits, text_next, sum_fits, end_small, end_fits, line_text_lem}
 use Rattle.clause_text.proofs.put_clause.Goals as goal
 
-pub slot-x-requires : goal.slot-x-requires
-slot-x-requires c = (c.requires.0, c.requires.1, omega arith, slot_in (told c.requires.0 c.totals-t.ensures) c.requires.1 c.slots-k.ensures c.loop-l-test.true)
-
-pub slice_bounds-put_slot-count : goal.slice_bounds-put_slot-count
-slice_bounds-put_slot-count c = after_start c.loop-l.invariant.1 (literals_text (literals_in (to_z w32 (of_z w32 c.slot-x.result)))) (part_fits (told c.requires.0 c.totals-t.ensures) c.requires.1 c.args.buf.now c.requires.2 _ c.slots-k.ensures c.loop-l-test.true (read_back c.slot-x.type_inv c.slot-x.ensures))
-
-pub slice_bounds-put_slot-start : goal.slice_bounds-put_slot-start
-slice_bounds-put_slot-start c = after_start c.loop-l.invariant.1 (literals_text (literals_in (to_z w32 (of_z w32 c.slot-x.result)))) (part_fits (told c.requires.0 c.totals-t.ensures) c.requires.1 c.args.buf.now c.requires.2 _ c.slots-k.ensures c.loop-l-test.true (read_back c.slot-x.type_inv c.slot-x.ensures))
-
-pub put_slot-to-requires : goal.put_slot-to-requires
-put_slot-to-requires c = let t = told c.requires.0 c.totals-t.ensures in (slot_small t c.requires.1 c.slots-k.ensures c.loop-l-test.true (read_back c.slot-x.type_inv c.slot-x.ensures), after_room c.loop-l.invariant.1 (literals_text (literals_in (to_z w32 (of_z w32 c.slot-x.result)))) (part_fits t c.requires.1 c.args.buf.now c.requires.2 _ c.slots-k.ensures c.loop-l-test.true (read_back c.slot-x.type_inv c.slot-x.ensures)))
+pub put_literal-to-requires : goal.put_literal-to-requires
+put_literal-to-requires c =
+    let h = turn_bits c.args.c _ _ (yields_next c.args.c c.into_iter-x-iterator.result (ap numbers_left c.into_iter-x-iterator.ensures.into_iter_gives ∙ c.of-x-items.ensures) c.loop-x.yielded c.loop-x.x-iterator c.next.new.self c.loop-x.yielded_by c.in-Some.x c.in-Some.is c.next.ensures.steps) in
+    (number_small c.args.c _ _ h, after_room c.loop-x.invariant _ (part_fits c.args.c c.args.buf.now c.requires _ _ h))
 
 pub overflow_add-to : goal.overflow_add-to
-overflow_add-to c = omega (arith, length_fits (told c.requires.0 c.totals-t.ensures) c.requires.1 _ c.slots-k.ensures c.loop-l-test.true (read_back c.slot-x.type_inv c.slot-x.ensures) c.loop-l.invariant.1.count c.put_slot-to.ensures.count)
+overflow_add-to c =
+    let h = turn_bits c.args.c _ _ (yields_next c.args.c c.into_iter-x-iterator.result (ap numbers_left c.into_iter-x-iterator.ensures.into_iter_gives ∙ c.of-x-items.ensures) c.loop-x.yielded c.loop-x.x-iterator c.next.new.self c.loop-x.yielded_by c.in-Some.x c.in-Some.is c.next.ensures.steps) in
+    omega (arith, sum_fits c.args.c c.args.buf.now c.requires _ _ h c.loop-x.invariant.count c.put_literal-to.ensures.count)
 
-pub past_empty-l-requires : goal.past_empty-l-requires
-past_empty-l-requires c = (c.requires.0, (bounded (told c.requires.0 c.totals-t.ensures)).rules, omega arith)
-
-pub loop-l-smaller : goal.loop-l-smaller
-loop-l-smaller c = past_less (told c.requires.0 c.totals-t.ensures) c.requires.1 c.slots-k.ensures c.loop-l-test.true c.past_empty-l.ensures
-
-pub loop-l-preserved : goal.loop-l-preserved
-loop-l-preserved c = let t = told c.requires.0 c.totals-t.ensures in (past_within t c.requires.1 c.slots-k.ensures c.loop-l-test.true c.past_empty-l.ensures, text_next t c.requires.1 c.args.buf.now c.requires.2 _ c.slots-k.ensures c.loop-l-test.true (read_back c.slot-x.type_inv c.slot-x.ensures) c.past_empty-l.ensures (wrote_after c.loop-l.invariant.1 (literals_text (literals_in (to_z w32 (of_z w32 c.slot-x.result)))) c.put_slot-to.ensures))
+pub loop-x-preserved : goal.loop-x-preserved
+loop-x-preserved c =
+    let h = turn_bits c.args.c _ _ (yields_next c.args.c c.into_iter-x-iterator.result (ap numbers_left c.into_iter-x-iterator.ensures.into_iter_gives ∙ c.of-x-items.ensures) c.loop-x.yielded c.loop-x.x-iterator c.next.new.self c.loop-x.yielded_by c.in-Some.x c.in-Some.is c.next.ensures.steps) in
+    text_next c.args.c c.args.buf.now c.requires _ _ h (length_push c.loop-x.yielded c.in-Some.x) (wrote_after c.loop-x.invariant _ c.put_literal-to.ensures)
 
 pub bounds-buf-to : goal.bounds-buf-to
-bounds-buf-to c = omega (arith, end_fits (told c.requires.0 c.totals-t.ensures) c.requires.1 c.args.buf.now c.requires.2 c.slots-k.ensures c.loop-l.invariant.0 c.loop-l-test.false c.loop-l.invariant.1)
+bounds-buf-to c =
+    let n = yields_end c.args.c c.into_iter-x-iterator.result (ap numbers_left c.into_iter-x-iterator.ensures.into_iter_gives ∙ c.of-x-items.ensures) c.loop-x.yielded c.loop-x.x-iterator c.next.new.self c.loop-x.yielded_by c.in-None.is c.next.ensures.steps in
+    omega (arith, end_fits c.args.c c.args.buf.now c.requires n c.loop-x.invariant)
 
 pub overflow_add-buf : goal.overflow_add-buf
-overflow_add-buf c = omega (arith, end_small (told c.requires.0 c.totals-t.ensures) c.requires.1 c.args.buf.now c.requires.2 c.slots-k.ensures c.loop-l.invariant.0 c.loop-l-test.false c.loop-l.invariant.1)
+overflow_add-buf c =
+    let n = yields_end c.args.c c.into_iter-x-iterator.result (ap numbers_left c.into_iter-x-iterator.ensures.into_iter_gives ∙ c.of-x-items.ensures) c.loop-x.yielded c.loop-x.x-iterator c.next.new.self c.loop-x.yielded_by c.in-None.is c.next.ensures.steps in
+    omega (arith, end_small c.args.c c.args.buf.now c.requires n c.loop-x.invariant)
 
 pub bounds-buf-to-2 : goal.bounds-buf-to-2
-bounds-buf-to-2 c = lt-length-set c.loop-l.buf c.loop-l.to _ (omega (arith, end_fits (told c.requires.0 c.totals-t.ensures) c.requires.1 c.args.buf.now c.requires.2 c.slots-k.ensures c.loop-l.invariant.0 c.loop-l-test.false c.loop-l.invariant.1))
+bounds-buf-to-2 c =
+    let n = yields_end c.args.c c.into_iter-x-iterator.result (ap numbers_left c.into_iter-x-iterator.ensures.into_iter_gives ∙ c.of-x-items.ensures) c.loop-x.yielded c.loop-x.x-iterator c.next.new.self c.loop-x.yielded_by c.in-None.is c.next.ensures.steps in
+    lt-length-set c.loop-x.buf c.loop-x.to _ (omega (arith, end_fits c.args.c c.args.buf.now c.requires n c.loop-x.invariant))
 
 pub overflow_add-result : goal.overflow_add-result
-overflow_add-result c = omega (arith, end_small (told c.requires.0 c.totals-t.ensures) c.requires.1 c.args.buf.now c.requires.2 c.slots-k.ensures c.loop-l.invariant.0 c.loop-l-test.false c.loop-l.invariant.1)
-
-pub shape_of-buf : goal.shape_of-buf
-shape_of-buf c = line_kept (told c.requires.0 c.totals-t.ensures) c.requires.1 c.args.buf.now c.requires.2 c.slots-k.ensures c.loop-l.invariant.0 c.loop-l-test.false c.loop-l.invariant.1 _ _ refl refl
+overflow_add-result c =
+    let n = yields_end c.args.c c.into_iter-x-iterator.result (ap numbers_left c.into_iter-x-iterator.ensures.into_iter_gives ∙ c.of-x-items.ensures) c.loop-x.yielded c.loop-x.x-iterator c.next.new.self c.loop-x.yielded_by c.in-None.is c.next.ensures.steps in
+    omega (arith, end_small c.args.c c.args.buf.now c.requires n c.loop-x.invariant)
 
 pub returns : goal.returns
-returns c = line_text_lem (told c.requires.0 c.totals-t.ensures) c.requires.1 c.args.buf.now c.requires.2 c.slots-k.ensures c.loop-l.invariant.0 c.loop-l-test.false c.loop-l.invariant.1 _ _ refl refl
+returns c =
+    let n = yields_end c.args.c c.into_iter-x-iterator.result (ap numbers_left c.into_iter-x-iterator.ensures.into_iter_gives ∙ c.of-x-items.ensures) c.loop-x.yielded c.loop-x.x-iterator c.next.new.self c.loop-x.yielded_by c.in-None.is c.next.ensures.steps in
+    line_text_lem c.args.c c.args.buf.now c.requires n c.loop-x.invariant _ _ refl refl

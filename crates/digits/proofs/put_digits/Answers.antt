@@ -1,28 +1,58 @@
-use Rattle.digits.proofs.DigitLaws.{text_four, text_three, text_two, text_one}
-use Rattle.digits.proofs.Wrote.{room_as, wrote_as}
+use Rattle.digits.proofs.DigitLaws.{four_room, three_room, two_room, one_room, four_stores, three_stores, two_stores, one_stores, room_at}
 use native.Mathlib.Omega.{arith}
+use borrow.Author.Rules.{rules}
 use Rattle.digits.proofs.put_digits.Goals as goal
 
-pub put_word-requires : goal.put_word-requires
-put_word-requires c = room_as (text_four c.args.x c.in-4.is) c.requires
+pub bounds-buf-0 : goal.bounds-buf-0
+bounds-buf-0 c = search (rules, room_at 0 c.args.buf.now (omega arith) (four_room c.args.x c.args.buf.now c.requires c.in-4.is))
+
+pub bounds-buf-1 : goal.bounds-buf-1
+bounds-buf-1 c = search (rules, room_at 1 c.args.buf.now (omega arith) (four_room c.args.x c.args.buf.now c.requires c.in-4.is))
+
+pub bounds-buf-2 : goal.bounds-buf-2
+bounds-buf-2 c = search (rules, room_at 2 c.args.buf.now (omega arith) (four_room c.args.x c.args.buf.now c.requires c.in-4.is))
+
+pub bounds-buf-3 : goal.bounds-buf-3
+bounds-buf-3 c = search (rules, room_at 3 c.args.buf.now (omega arith) (four_room c.args.x c.args.buf.now c.requires c.in-4.is))
+
+pub bounds-buf-4 : goal.bounds-buf-4
+bounds-buf-4 c = search (rules, room_at 4 c.args.buf.now (omega arith) (four_room c.args.x c.args.buf.now c.requires c.in-4.is))
 
 pub returns-in-4 : goal.returns-in-4
-returns-in-4 c = wrote_as (text_four c.args.x c.in-4.is) c.put_word.ensures
+returns-in-4 c = four_stores c.args.x c.args.buf.now c.requires c.in-4.is
 
-pub put_word-requires-in-3 : goal.put_word-requires-in-3
-put_word-requires-in-3 c = room_as (text_three c.args.x (λ e. omega (arith, e)) c.in-3.is) c.requires
+pub bounds-buf-0-in-3 : goal.bounds-buf-0-in-3
+bounds-buf-0-in-3 c = search (rules, room_at 0 c.args.buf.now (omega arith) (three_room c.args.x c.args.buf.now c.requires (λ e. omega (arith, e)) c.in-3.is))
+
+pub bounds-buf-1-in-3 : goal.bounds-buf-1-in-3
+bounds-buf-1-in-3 c = search (rules, room_at 1 c.args.buf.now (omega arith) (three_room c.args.x c.args.buf.now c.requires (λ e. omega (arith, e)) c.in-3.is))
+
+pub bounds-buf-2-in-3 : goal.bounds-buf-2-in-3
+bounds-buf-2-in-3 c = search (rules, room_at 2 c.args.buf.now (omega arith) (three_room c.args.x c.args.buf.now c.requires (λ e. omega (arith, e)) c.in-3.is))
+
+pub bounds-buf-3-in-3 : goal.bounds-buf-3-in-3
+bounds-buf-3-in-3 c = search (rules, room_at 3 c.args.buf.now (omega arith) (three_room c.args.x c.args.buf.now c.requires (λ e. omega (arith, e)) c.in-3.is))
 
 pub returns-in-3 : goal.returns-in-3
-returns-in-3 c = wrote_as (text_three c.args.x (λ e. omega (arith, e)) c.in-3.is) c.put_word-in-3.ensures
+returns-in-3 c = three_stores c.args.x c.args.buf.now c.requires (λ e. omega (arith, e)) c.in-3.is
 
-pub put_word-requires-in-2 : goal.put_word-requires-in-2
-put_word-requires-in-2 c = room_as (text_two c.args.x (λ e. omega (arith, e)) (λ e. omega (arith, e)) c.in-2.is) c.requires
+pub bounds-buf-0-in-2 : goal.bounds-buf-0-in-2
+bounds-buf-0-in-2 c = search (rules, room_at 0 c.args.buf.now (omega arith) (two_room c.args.x c.args.buf.now c.requires (λ e. omega (arith, e)) (λ e. omega (arith, e)) c.in-2.is))
+
+pub bounds-buf-1-in-2 : goal.bounds-buf-1-in-2
+bounds-buf-1-in-2 c = search (rules, room_at 1 c.args.buf.now (omega arith) (two_room c.args.x c.args.buf.now c.requires (λ e. omega (arith, e)) (λ e. omega (arith, e)) c.in-2.is))
+
+pub bounds-buf-2-in-2 : goal.bounds-buf-2-in-2
+bounds-buf-2-in-2 c = search (rules, room_at 2 c.args.buf.now (omega arith) (two_room c.args.x c.args.buf.now c.requires (λ e. omega (arith, e)) (λ e. omega (arith, e)) c.in-2.is))
 
 pub returns-in-2 : goal.returns-in-2
-returns-in-2 c = wrote_as (text_two c.args.x (λ e. omega (arith, e)) (λ e. omega (arith, e)) c.in-2.is) c.put_word-in-2.ensures
+returns-in-2 c = two_stores c.args.x c.args.buf.now c.requires (λ e. omega (arith, e)) (λ e. omega (arith, e)) c.in-2.is
 
-pub put_word-requires-in_default : goal.put_word-requires-in_default
-put_word-requires-in_default c = room_as (text_one c.args.x (λ e. omega (arith, e)) (λ e. omega (arith, e)) (λ e. omega (arith, e))) c.requires
+pub bounds-buf-0-in_default : goal.bounds-buf-0-in_default
+bounds-buf-0-in_default c = search (rules, room_at 0 c.args.buf.now (omega arith) (one_room c.args.x c.args.buf.now c.requires (λ e. omega (arith, e)) (λ e. omega (arith, e)) (λ e. omega (arith, e))))
+
+pub bounds-buf-1-in_default : goal.bounds-buf-1-in_default
+bounds-buf-1-in_default c = search (rules, room_at 1 c.args.buf.now (omega arith) (one_room c.args.x c.args.buf.now c.requires (λ e. omega (arith, e)) (λ e. omega (arith, e)) (λ e. omega (arith, e))))
 
 pub returns-in_default : goal.returns-in_default
-returns-in_default c = wrote_as (text_one c.args.x (λ e. omega (arith, e)) (λ e. omega (arith, e)) (λ e. omega (arith, e))) c.put_word-in_default.ensures
+returns-in_default c = one_stores c.args.x c.args.buf.now c.requires (λ e. omega (arith, e)) (λ e. omega (arith, e)) (λ e. omega (arith, e))

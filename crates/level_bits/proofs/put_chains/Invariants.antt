@@ -6,4 +6,4 @@ use Rattle.digits.specs.Bytes.{Wrote}
 use Rattle.level_bits.proofs.put_chains.Given as goal
 
 abbrev pub invariant-loop-k : goal.invariant-loop-k
-invariant-loop-k l = Wrote (each l.k (pair_at_bytes (code_in l.table) l.w (level_byte l.levels))) l.initial.buf l.buf l.to
+invariant-loop-k l = Wrote (each l.k (pair_at_bytes (code_in l.levels.table.cells.now) l.w (level_byte l.levels.bytes.now))) l.initial.buf l.buf l.to

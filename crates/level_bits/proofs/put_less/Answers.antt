@@ -1,17 +1,12 @@
-use native.Mathlib.Omega.{arith}
-use Rattle.level_bits.proofs.Steps.{rest_start, less_start, less_next, less_goes, bits_equal, bits_differ}
+use Rattle.level_bits.proofs.Steps.{less_next, less_goes, bits_equal, bits_differ}
 use Rattle.encoding.specs.Fill.{less_at}
 use mathlib.Core.Path.{◌≡◌, ◌∙◌, refl}
 use mathlib.Core.Bool.{cond}
 use lib.Dec.{eqb}
 use Prim.Native.Nat.{◌%◌}
-use Rattle.level_bits.proofs.Writes.{put_room, put_kept, put_next, put_all}
-use Rattle.digits.proofs.Wrote.{wrote_none}
+use Rattle.level_bits.proofs.Writes.{put_room, put_next}
 use Rattle.level_bits.proofs.put_less.Goals as goal
 use Rattle.level_bits.proofs.put_less.Goals.{then-p-q, else-p-q}
-
-pub loop-i-init : goal.loop-i-init
-loop-i-init c = (rest_start c.args.x, rest_start c.args.y, less_start c.args.x c.args.y, wrote_none c.args.buf.now)
 
 pub bounds-buf-i : goal.bounds-buf-i
 bounds-buf-i c = put_room (less_at c.args.x c.args.y) c.args.w c.requires c.loop-i.invariant.3 c.loop-i-test.true
@@ -26,9 +21,3 @@ loop-i-preserved c =
     ] in
     let s = less_goes c.args.x c.args.y l.i l.invariant.0 l.invariant.1 l.invariant.2 e in
     (s.0, s.1, s.2, put_next (less_at c.args.x c.args.y) c.args.w c.requires l.invariant.3 c.loop-i-test.true refl (less_next c.args.x c.args.y l.i l.invariant.0 l.invariant.1 l.invariant.2 e))
-
-pub shape_of-buf : goal.shape_of-buf
-shape_of-buf c = put_kept (less_at c.args.x c.args.y) c.args.w c.requires c.loop-i.invariant.3 c.loop-i.auto.i-end
-
-pub returns : goal.returns
-returns c = put_all (less_at c.args.x c.args.y) c.args.w c.requires c.loop-i.invariant.3 c.loop-i.auto.i-end c.loop-i-test.false (omega arith)

@@ -4,5 +4,5 @@ use Rattle.lists.specs.Lists.{each}
 use Rattle.digits.specs.Bytes.{Wrote}
 use Rattle.level_bits.proofs.put_level_values.Given as goal
 
-abbrev pub invariant-loop-a : goal.invariant-loop-a
-invariant-loop-a l = Wrote (each l.a (level_at_bytes l.w l.d (level_byte l.levels))) l.initial.buf l.buf l.to
+abbrev pub invariant-loop-level : goal.invariant-loop-level
+invariant-loop-level l = Wrote (each (l.level-index) (level_at_bytes l.w l.d (level_byte l.levels))) l.initial.buf l.buf l.to

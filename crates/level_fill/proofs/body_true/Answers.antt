@@ -7,7 +7,7 @@ use Rattle.level_fill.proofs.body_true.Goals as goal
 pub returns-else-positives_in : goal.returns-else-positives_in
 returns-else-positives_in c =
     c.if-positives_in.false
-    ∙ body_unmet (rule_atoms (arrays c.requires.0) c.args.r.0 c.requires.1 c.requires.2) c.args.set.now c.positives_in.ensures c.if-positives_in.false
+    ∙ body_unmet (rule_atoms (arrays c.args.r.atoms.table.ready) c.args.r.rule.0 c.args.r.some c.args.r.within) c.args.r.atoms.bytes.now c.positives_in.ensures c.if-positives_in.false
 
 pub returns-then-positives_in : goal.returns-then-positives_in
-returns-then-positives_in c = body_is (rule_atoms (arrays c.requires.0) c.args.r.0 c.requires.1 c.requires.2) c.args.set.now c.positives_in.ensures c.if-positives_in.true c.negatives_out.ensures
+returns-then-positives_in c = body_is (rule_atoms (arrays c.args.r.atoms.table.ready) c.args.r.rule.0 c.args.r.some c.args.r.within) c.args.r.atoms.bytes.now c.positives_in.ensures c.if-positives_in.true c.negatives_out.ensures

@@ -1,25 +1,12 @@
-use Rattle.level_fill.proofs.Families.{is_byte, atom_row}
-use Rattle.level_lists.specs.Bytes.{set_in}
+use mathlib.Core.Path.{◌∙◌, ap}
 use native.Mathlib.Omega.{arith}
-use mathlib.Core.Path.{◌∙◌, refl}
-use Rattle.level_bits.proofs.Writes.{put_room, put_kept, put_next, put_all}
-use Rattle.digits.proofs.Wrote.{wrote_none}
+use Rattle.clause_tables.specs.declared.Totals.{Totals}
+use Rattle.encoding.specs.Variables.{Sizes}
+use Rattle.level_lists.specs.Sets.{atoms_of, set_of}
+use Rattle.level_fill.proofs.Families.{truths_long}
 use Rattle.level_fill.proofs.put_atom_values.Goals as goal
 
-pub loop-a-init : goal.loop-a-init
-loop-a-init c = wrote_none c.args.buf.now
-
-pub bounds-set-a : goal.bounds-set-a
-bounds-set-a c = omega (arith, c.requires.0, c.loop-a-test.true, c.from-a-end.ensures)
-
-pub bounds-buf-a : goal.bounds-buf-a
-bounds-buf-a c = put_room (set_in c.args.n c.args.set.now) c.args.n c.requires.1 c.loop-a.invariant (omega (arith, c.loop-a-test.true, c.from-a-end.ensures))
-
-pub loop-a-preserved : goal.loop-a-preserved
-loop-a-preserved c = put_next (set_in c.args.n c.args.set.now) c.args.n c.requires.1 c.loop-a.invariant (omega (arith, c.loop-a-test.true, c.from-a-end.ensures)) refl (atom_row c.args.n c.args.set.now c.loop-a.a (omega (arith, c.loop-a-test.true, c.from-a-end.ensures)) (c.from.ensures ∙ is_byte _))
-
-pub shape_of-buf : goal.shape_of-buf
-shape_of-buf c = put_kept (set_in c.args.n c.args.set.now) c.args.n c.requires.1 c.loop-a.invariant (omega arith)
-
-pub returns : goal.returns
-returns c = put_all (set_in c.args.n c.args.set.now) c.args.n c.requires.1 c.loop-a.invariant (omega arith) (omega arith) (omega arith)
+pub put_truths-requires : goal.put_truths-requires
+put_truths-requires c =
+    let e = ap (λ (s : Sizes). s.n) c.s.view_is ∙ ap (λ (t : Totals). t.sizes.n) c.totals-s.ensures in
+    (λ k p h. (p, omega (arith, h, e, c.args.set.long)), truths_long (atoms_of c.args.set) (set_of c.args.set) _ e c.requires)

@@ -6,7 +6,7 @@ use mathlib.Core.Path.{refl}
 use Rattle.level_fill.proofs.put_filled.Goals as goal
 
 pub put_values-requires : goal.put_values-requires
-put_values-requires c = (c.requires.0, c.requires.1, levels_long (arrays c.requires.0) c.args.set.now (drop (totals_in c.args.table.now).sizes.n c.args.levels.now) c.requires.2, c.requires.3)
+put_values-requires c = (levels_long (arrays c.args.set.table.ready) c.args.set.bytes.now (drop (totals_in c.args.set.table.cells.now).sizes.n c.args.levels.now) c.requires.0, c.requires.1)
 
 pub returns : goal.returns
-returns c = values_written (arrays c.requires.0) c.args.set.now c.args.levels.now refl (filled_is (arrays c.requires.0) c.args.set.now (drop (totals_in c.args.table.now).sizes.n c.args.levels.now) c.requires.2) c.put_values.ensures
+returns c = values_written (arrays c.args.set.table.ready) c.args.set.bytes.now c.args.levels.now refl (filled_is (arrays c.args.set.table.ready) c.args.set.bytes.now (drop (totals_in c.args.set.table.cells.now).sizes.n c.args.levels.now) c.requires.0) c.put_values.ensures

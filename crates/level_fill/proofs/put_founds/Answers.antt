@@ -1,33 +1,22 @@
 use borrow.Author.Rules.{rules}
-use Rattle.clause_tables.specs.declared.Totals.{Totals}
 use mathlib.Core.Path.{◌∙◌, ap}
-use Rattle.clause_table_laws.proofs.Cells.{arrays}
-use lib.ListN.{length}
 use native.Mathlib.Omega.{arith}
-use Rattle.clause_tables.specs.Tables.{code_in, atoms_in}
-use Rattle.level_lists.specs.Bytes.{set_in, level_byte}
+use Rattle.clause_table_laws.proofs.Cells.{arrays}
+use Rattle.clause_tables.specs.declared.Totals.{Totals}
+use Rattle.encoding.specs.Variables.{Sizes}
+use Rattle.level_lists.specs.Sets.{code_of, set_of}
+use Rattle.level_lists.specs.Bytes.{level_byte}
 use Rattle.level_fill.specs.Values.{founds_at}
-use Rattle.level_fill.proofs.Families.{is_byte, rule_asks, rule_inside, rule_row, rules_in_lem, rules_done}
-use Rattle.level_bits.proofs.Writes.{put_room, put_kept, put_next, put_all}
-use Rattle.digits.proofs.Wrote.{wrote_none}
+use Rattle.level_fill.proofs.Families.{rules_of, truths_long, truths_as}
 use Rattle.level_fill.proofs.put_founds.Goals as goal
 
-pub loop-r-init : goal.loop-r-init
-loop-r-init c = wrote_none c.args.buf.now
-
-pub rule_founds-requires : goal.rule_founds-requires
-rule_founds-requires c = let q = rule_asks (arrays c.requires.0) c.loop-r.r (omega (arith, c.loop-r-test.true, ap (λ (t : Totals). t.sizes.m) c.totals-m.ensures)) in (c.requires.0, q.0, q.1, c.requires.1, c.requires.2)
-
-pub bounds-buf-from : goal.bounds-buf-from
-bounds-buf-from c = search (rules, put_room (founds_at (code_in c.args.table.now) (set_in (atoms_in c.args.table.now) c.args.set.now) (level_byte c.args.levels.now)) (length (code_in c.args.table.now).rules) c.requires.3 c.loop-r.invariant (rule_inside (arrays c.requires.0) c.loop-r.r (omega (arith, c.loop-r-test.true, ap (λ (t : Totals). t.sizes.m) c.totals-m.ensures))), c.from-in-loop-r.ensures)
-
-pub loop-r-preserved : goal.loop-r-preserved
-loop-r-preserved c = put_next (founds_at (code_in c.args.table.now) (set_in (atoms_in c.args.table.now) c.args.set.now) (level_byte c.args.levels.now)) (length (code_in c.args.table.now).rules) c.requires.3 c.loop-r.invariant (rule_inside (arrays c.requires.0) c.loop-r.r (omega (arith, c.loop-r-test.true, ap (λ (t : Totals). t.sizes.m) c.totals-m.ensures))) c.from-in-loop-r.ensures (rule_row (founds_at (code_in c.args.table.now) (set_in (atoms_in c.args.table.now) c.args.set.now) (level_byte c.args.levels.now)) c.loop-r.r c.rule_founds.ensures (c.from.ensures ∙ is_byte _))
-
-pub shape_of-buf : goal.shape_of-buf
-shape_of-buf c = put_kept (founds_at (code_in c.args.table.now) (set_in (atoms_in c.args.table.now) c.args.set.now) (level_byte c.args.levels.now)) (length (code_in c.args.table.now).rules) c.requires.3 c.loop-r.invariant (rules_in_lem (arrays c.requires.0) c.loop-r.r (omega (arith, c.loop-r.auto.r-end, ap (λ (t : Totals). t.sizes.m) c.totals-m.ensures)))
+pub put_truths-requires : goal.put_truths-requires
+put_truths-requires c =
+    let e = ap (λ (s : Sizes). s.m) c.s.view_is ∙ ap (λ (t : Totals). t.sizes.m) c.totals-s.ensures in
+    (λ k p h. (p, omega (arith, h, e), c.requires.0), truths_long _ (founds_at (code_of c.args.set) (set_of c.args.set) (level_byte c.args.levels.now)) _ (rules_of (arrays c.args.set.table.ready) e) c.requires.1)
 
 pub returns : goal.returns
 returns c =
-    let q = rules_done (arrays c.requires.0) c.loop-r.r (omega (arith, c.loop-r.auto.r-end, ap (λ (t : Totals). t.sizes.m) c.totals-m.ensures)) (omega (arith, c.loop-r-test.false, ap (λ (t : Totals). t.sizes.m) c.totals-m.ensures)) in
-    put_all (founds_at (code_in c.args.table.now) (set_in (atoms_in c.args.table.now) c.args.set.now) (level_byte c.args.levels.now)) (length (code_in c.args.table.now).rules) c.requires.3 c.loop-r.invariant q.0 q.1 (omega arith)
+    let p = founds_at (code_of c.args.set) (set_of c.args.set) (level_byte c.args.levels.now) in
+    truths_as p (rules_of (arrays c.args.set.table.ready) (ap (λ (s : Sizes). s.m) c.s.view_is ∙ ap (λ (t : Totals). t.sizes.m) c.totals-s.ensures))
+    (c.put_truths.ensures p (λ k b l h q. search rules))

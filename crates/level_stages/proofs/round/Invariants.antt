@@ -3,4 +3,4 @@ use Rattle.level_stages.proofs.Turns.{Turned}
 use Rattle.level_stages.proofs.round.Given as goal
 
 abbrev pub invariant-loop-r : goal.invariant-loop-r
-invariant-loop-r l = Turned (code_in l.table) (totals_in l.table) l.set l.initial.levels l.i l.r l.levels l.given
+invariant-loop-r l = Turned (code_in l.set.table.cells.now) (totals_in l.set.table.cells.now) l.set.bytes.now l.initial.levels l.i l.r l.levels l.given

@@ -12,6 +12,6 @@ pub returns-then-b-lt48 : goal.returns-then-b-lt48
 unfolding grown_of
 returns-then-b-lt48 c = simp (le-ltb _ _ c.if-value-gt999.false, lt-ltb _ _ c.if-b-lt48.true)
 
-pub returns : goal.returns
+pub returns-else-b-lt48 : goal.returns-else-b-lt48
 unfolding grown_of
-returns c = simp (le-ltb _ _ c.if-value-gt999.false, le-ltb _ _ c.if-b-lt48.false, ← c.from.ensures) (c.min.ensures ∙ capped _)
+returns-else-b-lt48 c = simp (le-ltb _ _ c.if-value-gt999.false, le-ltb _ _ c.if-b-lt48.false, ← c.from.ensures) (c.min.ensures ∙ capped _)

@@ -4,7 +4,7 @@ use Prim.Native.Nat.{suc, ◌-◌}
 use Rattle.truth_clauses.proofs.false_from.Given as goal
 
 abbrev pub invariant-loop-at : goal.invariant-loop-at
-invariant-loop-at l = Standing (code_in l.table) (totals_in l.table) l.assignment l.at
+invariant-loop-at l = Standing (code_in l.valued.table.cells.now) (totals_in l.valued.table.cells.now) l.valued.values.now l.at
 
 abbrev pub decreases-loop-at : goal.decreases-loop-at
-decreases-loop-at l = suc (clauses_in l.table) - l.at.number
+decreases-loop-at l = suc (clauses_in l.valued.table.cells.now) - l.at.number

@@ -7,4 +7,4 @@ use mathlib.Core.Bool.{true}
 use Rattle.truth_clauses.proofs.false_item.Given as goal
 
 abbrev pub invariant-loop-a : goal.invariant-loop-a
-invariant-loop-a l = all_to l.a (item_true (code_in l.table) (value_in l.assignment) l.g) ≡ true
+invariant-loop-a l = all_to l.a (item_true (code_in l.valued.table.cells.now) (value_in l.valued.values.now) l.g) ≡ true

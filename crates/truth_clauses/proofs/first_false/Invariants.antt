@@ -6,4 +6,4 @@ use mathlib.Core.Bool.{true}
 use Rattle.truth_clauses.proofs.first_false.Given as goal
 
 abbrev pub invariant-loop-g : goal.invariant-loop-g
-invariant-loop-g l = all_to l.g (group_true (code_in l.table) (value_in l.assignment)) ≡ true
+invariant-loop-g l = all_to l.g (group_true (code_in l.valued.table.cells.now) (value_in l.valued.values.now)) ≡ true

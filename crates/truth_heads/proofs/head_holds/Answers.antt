@@ -4,7 +4,7 @@ use Rattle.clause_tables.specs.Tables.{code_in}
 use Rattle.truth_heads.proofs.head_holds.Goals as goal
 
 pub stands-requires : goal.stands-requires
-stands-requires c = atom_in c.requires.0 c.from.ensures c.requires.1 c.requires.2 c.requires.3
+stands-requires c = atom_in c.args.valued.table.ready c.from.ensures c.requires.0 c.requires.1 c.args.valued.long
 
 pub returns : goal.returns
-returns c = head_all (code_in c.args.table.now) (value_in c.args.assignment.now) c.args.a.0 c.from.ensures c.stands.ensures c.support_of-x.ensures
+returns c = head_all (code_in c.args.valued.table.cells.now) (value_in c.args.valued.values.now) c.args.a.0 c.from.ensures c.stands.ensures c.support_of-x.ensures

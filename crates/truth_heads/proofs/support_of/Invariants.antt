@@ -6,10 +6,11 @@ use Rattle.clause_walk.specs.Walk.{heads_of}
 use Rattle.encoding.specs.Code.{code_sizes}
 use lib.ListN.{length}
 use Prim.Native.Nat.{◌-◌}
+use Rattle.clause_slots.specs.SlotNumber.{is_founds}
 use Rattle.truth_heads.proofs.support_of.Given as goal
 
 abbrev pub invariant-loop-rule : goal.invariant-loop-rule
-invariant-loop-rule l = Visiting (value_in l.assignment) (code_sizes (code_in l.table)) (heads_of (code_in l.table)) l.a.0 l.founds l.rule l.each l.some
+invariant-loop-rule l = Visiting (value_in l.valued.values.now) (code_sizes (code_in l.valued.table.cells.now)) (heads_of (code_in l.valued.table.cells.now)) l.a.0 (is_founds l.which) l.rule l.each l.some
 
 abbrev pub decreases-loop-rule : goal.decreases-loop-rule
-decreases-loop-rule l = length (heads_of (code_in l.table)) - rules_before (length (heads_of (code_in l.table))) (place l.rule)
+decreases-loop-rule l = length (heads_of (code_in l.valued.table.cells.now)) - rules_before (length (heads_of (code_in l.valued.table.cells.now))) (place l.rule)

@@ -7,13 +7,13 @@ use native.Mathlib.Omega.{arith}
 use Rattle.truth_items.proofs.pair_item.Goals as goal
 
 pub pair_body-b-requires : goal.pair_body-b-requires
-pair_body-b-requires c = (c.requires.0, c.requires.1, pair_fits (arrays c.requires.0) c.requires.2)
+pair_body-b-requires c = (c.requires.0, pair_fits (arrays c.args.valued.table.ready) c.requires.1)
 
 pub pair_head-h-requires : goal.pair_head-h-requires
-pair_head-h-requires c = (c.requires.0, c.requires.1, pair_fits (arrays c.requires.0) c.requires.2)
+pair_head-h-requires c = (c.requires.0, pair_fits (arrays c.args.valued.table.ready) c.requires.1)
 
 pub pair_holds-requires : goal.pair_holds-requires
-pair_holds-requires c = pair_asks (told c.requires.0 c.totals.ensures) c.requires.1 c.requires.2 c.pair_body-b.ensures c.pair_head-h.ensures c.args.assignment.now (omega (arith, c.requires.3, ap (λ (t : Totals). t.vars) c.totals.ensures))
+pair_holds-requires c = pair_asks (told c.args.valued.table.ready c.totals.ensures) c.requires.0 c.requires.1 c.pair_body-b.ensures c.pair_head-h.ensures c.args.valued.values.now (omega (arith, ap (λ (t : Totals). t.vars) c.totals.ensures))
 
 pub returns : goal.returns
-returns c = c.pair_holds.ensures ∙ pair_item (told c.requires.0 c.totals.ensures) c.requires.1 c.requires.2 c.pair_body-b.ensures c.pair_head-h.ensures (value_in c.args.assignment.now)
+returns c = c.pair_holds.ensures ∙ pair_item (told c.args.valued.table.ready c.totals.ensures) c.requires.0 c.requires.1 c.pair_body-b.ensures c.pair_head-h.ensures (value_in c.args.valued.values.now)

@@ -1,9 +1,8 @@
 use Rattle.truth_levels.specs.Levels.{next_true}
 use Rattle.truth_literals.specs.Values.{value_in}
-use Rattle.clause_literals.specs.Sizes.{sizes_of}
 use Rattle.lists.specs.Lists.{all_to}
 use mathlib.Core.Path.{◌≡◌}
 use Rattle.truth_levels.proofs.next_holds.Given as goal
 
 abbrev pub invariant-loop-i : goal.invariant-loop-i
-invariant-loop-i l = l.ok ≡ all_to l.i (next_true (value_in l.assignment) (sizes_of l.s) l.a.0)
+invariant-loop-i l = l.ok ≡ all_to l.i (next_true (value_in l.assignment) l.s l.a.0)

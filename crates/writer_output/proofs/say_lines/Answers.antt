@@ -9,7 +9,7 @@ pub loop-c-init : goal.loop-c-init
 loop-c-init c = (c.large_buffer-out.ensures, c.first_place-c.ensures)
 
 pub next_part-part-requires : goal.next_part-part-requires
-next_part-part-requires c = (c.requires, c.loop-c.invariant.1, omega (arith, c.loop-c-test.true, ap (λ (t : Totals). t.clauses) c.totals-t.ensures), omega (arith, c.loop-c.invariant.0), omega (arith, c.loop-c.invariant.0))
+next_part-part-requires c = (c.loop-c.invariant.1, omega (arith, c.loop-c-test.true, ap (λ (t : Totals). t.clauses) c.totals-t.ensures), omega (arith, c.loop-c.invariant.0), omega (arith, c.loop-c.invariant.0))
 
 pub slice_bounds-out-end : goal.slice_bounds-out-end
 slice_bounds-out-end c = c.next_part-part.ensures.counts.0
@@ -20,10 +20,10 @@ slice_bounds-write_all-end c = c.next_part-part.ensures.counts.1
 pub overflow_add-said : goal.overflow_add-said
 overflow_add-said c =
     let s = c.next_part-part.ensures.stands in
-    omega (arith, s.bounded, s.within, total_short (told c.requires c.totals-t.ensures), total_is (told c.requires c.totals-t.ensures))
+    omega (arith, s.bounded, s.within, total_short (told c.args.table.ready c.totals-t.ensures), total_is (told c.args.table.ready c.totals-t.ensures))
 
 pub loop-c-smaller : goal.loop-c-smaller
 loop-c-smaller c = omega (arith, c.next_part-part.ensures.onward, c.loop-c-test.true)
 
 pub returns : goal.returns
-returns c = stands_end (told c.requires c.totals-t.ensures) c.loop-c.invariant.1 (omega (arith, c.loop-c-test.false))
+returns c = stands_end (told c.args.table.ready c.totals-t.ensures) c.loop-c.invariant.1 (omega (arith, c.loop-c-test.false))

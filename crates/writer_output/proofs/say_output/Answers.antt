@@ -14,8 +14,8 @@ returns-in_default c = c.say_refused.ensures ∙ ap length (refused_output c.arg
 pub slice_bounds-say_lines-end : goal.slice_bounds-say_lines-end
 slice_bounds-say_lines-end c = loaded_cells (counted_stored c.args.front.now c.args.total) c.load_counted-verdict.ensures c.in-Ok.is
 
-pub say_lines-requires : goal.say_lines-requires
-say_lines-requires c = loaded_ready (counted_stored c.args.front.now c.args.total) c.load_counted-verdict.ensures c.in-Ok.is
+pub invariant_of-say_lines : goal.invariant_of-say_lines
+invariant_of-say_lines c = record { ready = loaded_ready (counted_stored c.args.front.now c.args.total) c.load_counted-verdict.ensures c.in-Ok.is }
 
 pub returns : goal.returns
 returns c = c.say_lines.ensures

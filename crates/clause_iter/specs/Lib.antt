@@ -1,0 +1,2 @@
+-- Left: the literals of a clause that are left
+pub mod Left

@@ -1,0 +1,63 @@
+// The literals of a clause, one after the other (document 01, "Clauses, in order").
+#![tactic(auto)]
+
+ghost use Rattle.std.specs.Prelude.{◌+◌, ◌<◌, ◌≡◌, ◌≢◌, [], map};
+ghost use Rattle.std.proofs.Props.{props};
+ghost use Rattle.encoding.specs.Literal.{literal_number};
+ghost use Rattle.clause_tables.specs.Tables.{totals_in};
+ghost use Rattle.clause_layout.specs.Clauses.{slots_in, slot_in, literals_of};
+
+use clause_heads::past_empty;
+use clause_layout::TableClause;
+
+// The literals of a clause that are left once some of its slots are done. The program has `rules` rules, and the clause `slots` slots.
+#[derive(Drop)]
+pub struct Literals<'a> {
+    clause: TableClause<'a>,
+    rules: u16,
+    slots: u16,
+    done: u16,
+    ghost rules_are: { rules ≡ (totals_in clause.block.table.cells.now).sizes.m } by { Prim.hlevel props },
+    ghost slots_are: { slots ≡ slots_in clause } by { Prim.hlevel props },
+    ghost next_full: { done < slots → slot_in clause (done + 1) ≢ [] } by { Prim.hlevel props },
+}
+
+impl<'a> Literals<'a> {
+    ghost use Rattle.clause_iter.specs.Left.{numbers_left};
+
+    // All literals of a clause.
+    pub fn of(clause: TableClause<'a>) -> Self
+        ensures { numbers_left result ≡ map literal_number (literals_of clause.entry) }
+    {
+        let s = clause.block.table.totals().sizes;
+        Literals {
+            clause,
+            rules: s.m,
+            slots: clause.slots(),
+            done: 0,
+        }
+    }
+}
+
+impl Iterator for Literals<'_> {
+    ghost use Rattle.std.specs.Iterator.{YieldsFirst, item_count};
+    ghost use Rattle.clause_iter.specs.Left.{numbers_left};
+
+    type Item = i32;
+
+    ghost next_gives = { YieldsFirst numbers_left };
+
+    ghost remaining = { item_count numbers_left };
+
+    // The next literal. The empty slots behind it are done with it.
+    fn next(&mut self) -> Option<i32> {
+        if self.slots <= self.done {
+            return None;
+        }
+        let l = self.done + 1;
+        let x = self.clause.slot(l);
+        let b = self.clause.block;
+        self.done = past_empty(b.table, self.rules, b.group, b.item, b.number, l);
+        x
+    }
+}

@@ -1,0 +1,2 @@
+-- Found: numbers of which 0 stands for none, as options
+pub mod Found
