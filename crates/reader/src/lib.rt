@@ -3,7 +3,7 @@
 
 ghost use Rattle.std.specs.Prelude.{◌≡◌};
 ghost use Rattle.reader_work.specs.Fold.{Ends, read_from, started};
-ghost use Rattle.reader_work.specs.Numbers.{tally};
+ghost use Rattle.reader_work.specs.Numbers.{tally, SameCounts};
 ghost use Rattle.reader_words.specs.Standing.{read_rest};
 ghost use Rattle.program.specs.Arrays.{empty_program};
 ghost use Rattle.reader.specs.Verdict.{program_of, verdict_of, refuse_of, read_of, left_of};
@@ -22,8 +22,9 @@ pub const MAX_TEXT: usize = 65536;
 // Reads on to the end of the text, byte by byte: counts and arrays at the end. The counts of the program are left as they are.
 // Kept as three: the text is read, the stand is a copy, and the program is lent to be written.
 fn finish(text: &[u8], s: Stand, program: &mut Program) -> Counts
-    ensures { Ends (tally result) program.new.heads program.new.starts program.new.bodies
+    ensures ends { Ends (tally result) program.new.heads program.new.starts program.new.bodies
         (read_rest s program.old.heads program.old.starts program.old.bodies text.now) }
+    ensures counts { SameCounts program.old program.new }
 {
     let mut x = Token {
         k: s.k,

@@ -5,6 +5,7 @@
 #![tactic(auto)]
 
 ghost use Rattle.std.specs.Prelude.{◌≡◌};
+ghost use Rattle.reader_work.specs.Numbers.{SameCounts};
 ghost use Rattle.reader_words.specs.Standing.{read_rest, Goes, GoesHeads, GoesStarts, GoesBodies};
 
 use numbers::{Atom, BODIES, HEADS, MAX_ATOMS, Rule, STARTS};
@@ -167,8 +168,9 @@ fn take_line_end(text: &[u8], s: Stand, starts: &mut [u16; STARTS]) -> Stand
 
 // Takes a rule line, or the front of one.
 fn take_rule(text: &[u8], s: Stand, program: &mut Program) -> Stand
-    ensures { read_rest result program.new.heads program.new.starts program.new.bodies text.now
+    ensures rest { read_rest result program.new.heads program.new.starts program.new.bodies text.now
         ≡ read_rest s program.old.heads program.old.starts program.old.bodies text.now }
+    ensures counts { SameCounts program.old program.new }
 {
     let a = take_rule_word(text, s);
     if a.k != FORM_HEAD {
@@ -192,10 +194,11 @@ fn take_rule(text: &[u8], s: Stand, program: &mut Program) -> Stand
     take_line_end(text, g, &mut program.starts)
 }
 
-// Takes the first line and the rule lines, up to what is not of the expected form.
+// Takes the first line and the rule lines, up to what is not of the expected form. Of the program the arrays are written, and not the counts.
 pub fn take_lines(text: &[u8], s: Stand, program: &mut Program) -> Stand
-    ensures { read_rest result program.new.heads program.new.starts program.new.bodies text.now
+    ensures rest { read_rest result program.new.heads program.new.starts program.new.bodies text.now
         ≡ read_rest s program.old.heads program.old.starts program.old.bodies text.now }
+    ensures counts { SameCounts program.old program.new }
 {
     let mut p = take_atoms_line(text, s);
     while p.at < text.len() {

@@ -2,8 +2,9 @@
 --   refusal_number, refusal_spot   number and spot of a refusal, both 0 for none
 --   tally c                        counts, with the number and the spot of their refusal
 --   with_arrays A h s b            the program A with the arrays h, s and b
+--   SameCounts A B                 the program B has the counts of A, whatever its arrays hold
 -- Assumes nothing.
-use Rattle.std.specs.Prelude.{ℕ, List, Option, Some, None}
+use Rattle.std.specs.Prelude.{ℕ, ◌≡◌, List, Option, Some, None}
 use Rattle.program.specs.declared.Program.{Program}
 use Rattle.refusals.specs.declared.TextRefusal.{TextRefusal}
 use Rattle.refusals.specs.Numbers.{text_number, text_spot}
@@ -24,3 +25,6 @@ tally c =
 
 abbrev pub with_arrays : Program → List ℕ → List ℕ → List ℕ → Program
 with_arrays A heads starts bodies = record { atoms = A.atoms; rules = A.rules; held = A.held; heads = heads; starts = starts; bodies = bodies }
+
+abbrev pub SameCounts : Program → Program → Type 0
+SameCounts A B = B ≡ with_arrays A B.heads B.starts B.bodies

@@ -1,6 +1,6 @@
 use Rattle.reader_form.specs.Numbers.{mode_number}
 use Rattle.reader_work.specs.Fold.{read_from}
-use Rattle.reader_work.specs.Numbers.{tally}
+use Rattle.reader_work.specs.Numbers.{tally, SameCounts}
 use Rattle.reader_words.specs.Standing.{read_rest}
 use Prim.Native.Nat.{◌≤◌, max}
 use lib.ListN.{length, drop}
@@ -12,3 +12,4 @@ invariant-loop-i l =
     (read_from (record { k = l.x.k; mode = mode_number l.mode; value = l.x.value; begin = l.x.begin; counts = tally l.c; heads = l.program.heads; starts = l.program.starts; bodies = l.program.bodies }) l.i (drop l.i l.text)
     ≡ read_rest l.fn.s l.fn.program.heads l.fn.program.starts l.fn.program.bodies l.fn.text)
     × (l.i ≤ max (length l.text) l.fn.s.at)
+    × SameCounts l.fn.program l.program

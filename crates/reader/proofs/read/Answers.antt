@@ -1,5 +1,5 @@
 use Rattle.reader.proofs.Verdicts.{read_accepted, read_refused}
-use mathlib.Core.Path.{◌∙◌, ap}
+use mathlib.Core.Path.{◌∙◌}
 use Rattle.reader.proofs.read.Goals as goal
 
 pub returns-in-Ok : goal.returns-in-Ok
