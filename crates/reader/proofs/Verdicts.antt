@@ -1,6 +1,6 @@
 -- The verdict of a state, from what the reader keeps.
 --   not_overlong              the reading of a text is refused with no number 1
---   accepted, told            the verdict, from the refusal kept
+--   verdict_is                the verdict, from the refusal kept
 --   program_left              the program that the counts and arrays make
 --   read_accepted, read_refused  the reader's answer, from its verdict and the program that is left
 --   verdict_read, program_read, verdict_long, program_long  verdict and program of a text, by its length
@@ -23,7 +23,7 @@ use Rattle.reader_form.specs.Automaton.{form_step}
 use Rattle.reader_work.specs.Work.{Tally, atoms_ended, head_ended, body_ended, opened_of, rule_shut, ended_of, bracket_of, work_of}
 use Rattle.reader_work.specs.Numbers.{refusal_number, refusal_spot}
 use Rattle.reader_work.specs.Fold.{State, advance, dead_at, ended, read_from, started, Ends}
-use Rattle.reader.specs.Verdict.{ReadVerdict, refusal_of, refuse_of, verdict_of, program_of, finished, start, read_of, left_of}
+use Rattle.reader.specs.Verdict.{ReadVerdict, verdict_told, refusal_of, refuse_of, verdict_of, program_of, finished, start, read_of, left_of}
 use Rattle.reader.specs.declared.ReadResult.{ReadResult}
 
 -- ---- the numbers
@@ -89,14 +89,19 @@ module _ (o : Option TextRefusal) {c : Tally} {h st b : List ℕ} {s : State} (e
   number_is : refusal_number o ≡ s.counts.number
   number_is = p ∙ ap (λ (c : Tally). c.number) e.ends_counts
 
-  pub accepted : o ≡ None → ◌≡◌ {A = ReadVerdict} (Ok tt) (verdict_of s)
+  accepted : o ≡ None → ◌≡◌ {A = ReadVerdict} (Ok tt) (verdict_of s)
   accepted n = rw (sym number_is ∙ ap refusal_number n)
 
-  pub told : (r : TextRefusal) → o ≡ Some r → refusal_spot o ≡ c.spot → (s.counts.number ≡ 1 → ⊥) → ◌≡◌ {A = ReadVerdict} (Err r) (verdict_of s)
+  told : (r : TextRefusal) → o ≡ Some r → refusal_spot o ≡ c.spot → (s.counts.number ≡ 1 → ⊥) → ◌≡◌ {A = ReadVerdict} (Err r) (verdict_of s)
   told r n q h =
       let a : s.counts.number ≡ text_number r = sym number_is ∙ ap refusal_number n in
       let g : s.counts.spot ≡ text_spot r = sym (q ∙ ap (λ (c : Tally). c.spot) e.ends_counts) ∙ ap refusal_spot n in
       rw (a, g, some_row r, named_by r (λ z. h (a ∙ z)))
+
+pub verdict_is : (o : Option TextRefusal) {c : Tally} {h st b : List ℕ} {s : State} → Ends c h st b s → refusal_number o ≡ c.number → refusal_spot o ≡ c.spot
+    → (s.counts.number ≡ 1 → ⊥) → verdict_told o ≡ verdict_of s
+verdict_is None e p q h = accepted None e p refl
+verdict_is (Some r) e p q h = told (Some r) e p r refl q h
 
 -- ---- the answer
 

@@ -1,10 +1,11 @@
 -- The reader's whole answer (document 01, rows 1 to 7).
 --   ReadVerdict             whether a text is a program, or why it is refused
 --   ReadResult              the verdict on a text, and its program
+--   verdict_told r          the verdict, from the refusal that the reader keeps
 --   read_of t               verdict and program of the text t: the empty one where it is refused
 --   left_of t               the program as the reading of t leaves it, refused or not
 -- Assumes nothing.
-use Rattle.std.specs.Prelude.{ℕ, cond, List, ltb, eqb, length, replicate, Result, Ok, Err, ⊤}
+use Rattle.std.specs.Prelude.{ℕ, cond, List, ltb, eqb, length, replicate, Option, Some, None, Result, Ok, Err, ⊤}
 use Rattle.text.specs.Limits.{max_text}
 use Rattle.program.specs.declared.Program.{Program}
 use Rattle.program.specs.Arrays.{empty_program}
@@ -15,6 +16,10 @@ use Rattle.reader_work.specs.Fold.{State, started, read_from}
 
 abbrev pub ReadVerdict : Type 0
 ReadVerdict = Result ⊤ TextRefusal
+
+abbrev pub verdict_told : Option TextRefusal → ReadVerdict
+verdict_told None = Ok tt
+verdict_told (Some r) = Err r
 
 -- the refusal of row `number`, from 2 to 7
 unfoldable pub refusal_of : ℕ → ℕ → TextRefusal

@@ -6,7 +6,7 @@ ghost use Rattle.reader_work.specs.Fold.{Ends, read_from, started};
 ghost use Rattle.reader_work.specs.Numbers.{tally, SameCounts};
 ghost use Rattle.reader_words.specs.Standing.{read_rest};
 ghost use Rattle.program.specs.Arrays.{empty_program};
-ghost use Rattle.reader.specs.Verdict.{program_of, verdict_of, refuse_of, read_of, left_of};
+ghost use Rattle.reader.specs.Verdict.{program_of, verdict_of, verdict_told, refuse_of, read_of, left_of};
 ghost use Rattle.reader.specs.Counted.{counted_of};
 
 use program::{Program, empty};
@@ -55,9 +55,11 @@ fn finish(text: &[u8], s: Stand, program: &mut Program) -> Counts
     c
 }
 
-// Reads the text into the program, whose arrays hold zeros. Its length is not looked at.
-pub fn read_into(text: &[u8], program: &mut Program) -> Result<(), TextRefusal>
-    ensures verdict { result ≡ verdict_of (read_from (started program.old.heads program.old.starts program.old.bodies) 0 text.now) }
+// Reads the text into the program, whose arrays hold zeros: all that is counted, and the first refusal. Its length is not looked at.
+pub fn read_into(text: &[u8], program: &mut Program) -> Counts
+    ensures counts { Ends (tally result) program.new.heads program.new.starts program.new.bodies
+        (read_from (started program.old.heads program.old.starts program.old.bodies) 0 text.now) }
+    ensures verdict { verdict_told result.refusal ≡ verdict_of (read_from (started program.old.heads program.old.starts program.old.bodies) 0 text.now) }
     ensures program { program.new ≡ program_of (read_from (started program.old.heads program.old.starts program.old.bodies) 0 text.now) }
 {
     let s = Stand {
@@ -74,10 +76,7 @@ pub fn read_into(text: &[u8], program: &mut Program) -> Result<(), TextRefusal>
     program.atoms = c.atoms;
     program.rules = c.rules;
     program.held = c.held;
-    match c.refusal {
-        None => Ok(()),
-        Some(refusal) => Err(refusal),
-    }
+    c
 }
 
 // A text's verdict, and its program: the empty one where the text is refused.
@@ -97,7 +96,10 @@ pub fn read_program(text: &[u8], program: &mut Program) -> Result<(), TextRefusa
     if MAX_TEXT < text.len() {
         return Err(TextRefusal::Overlong(text.len()));
     }
-    read_into(text, program)
+    match read_into(text, program).refusal {
+        None => Ok(()),
+        Some(refusal) => Err(refusal),
+    }
 }
 
 // A text that is refused, and the empty program.
