@@ -7,7 +7,7 @@ ghost use Rattle.reader.specs.Counted.{counted_of};
 ghost use Rattle.call_table.specs.Loaded.{Loaded, totals_read};
 
 use clause_tables::{CELLS, Totals};
-use clause_tabling::{prepare, totals_of};
+use clause_tabling::{prepare, program_totals};
 use program::empty;
 use reader::{MAX_TEXT, read_program};
 use refusals::TextRefusal;
@@ -40,5 +40,5 @@ pub fn read_totals(text: &[u8]) -> Result<Totals, TextRefusal>
 {
     let mut p = empty();
     read_program(text, &mut p)?;
-    Ok(totals_of(&p))
+    Ok(program_totals(&p))
 }

@@ -2,13 +2,15 @@
 --   rule_at_lem      rule r of the program that arrays hold is the one that they hold there
 --   Here A P r       rule r of P is held by A: its positive list begins no later than it ends, within the body atoms
 --   here             so it is for a stored program
+--   size_is          the difference of the starts is the length of the positive list
 -- Assumes nothing.
 use Prim.Native.Nat.{ℕ, zero, suc, ◌+◌, ◌-◌, ◌*◌, ◌≤◌, ◌<◌}
 use native.Mathlib.Nat.{not-suc-le-zero, le_of_suc-le-suc, add-zero}
 use native.Mathlib.Omega.{arith}
 use mathlib.Core.Path.{◌≡◌, sym, ◌∙◌, ap, subst}
 use mathlib.Core.List.{List, [], ◌∷◌, ◌++◌}
-use lib.ListN.{length, get_or, take, drop, replicate, length-append}
+use lib.ListN.{length, get_or, take, drop, replicate, length-append, length-drop}
+use lib.Seq.{length-take-le}
 use Rattle.meaning.specs.Program.{Rule, Program, no_rule, rule_at}
 use Rattle.program.specs.declared.Program.{Program as Arrays}
 use Rattle.program.specs.Arrays.{kept, ends_of, start_of, rule_in, rules_from, decoded}
@@ -77,6 +79,11 @@ pub record Here (A : Arrays) (P : Program) (r : ℕ) : Type 0 where
   pub within : start_of A (2 * r + 1) ≤ length A.bodies
   pub head_is : get_or A.heads r 0 ≡ (rule_at P.rules (suc r)).head
   pub positive_is : take (start_of A (2 * r + 1) - start_of A (2 * r)) (drop (start_of A (2 * r)) A.bodies) ≡ (rule_at P.rules (suc r)).positive
+
+pub size_is : (A : Arrays) (P : Program) (r : ℕ) → Here A P r → start_of A (2 * r + 1) - start_of A (2 * r) ≡ length (rule_at P.rules (suc r)).positive
+size_is A P r h =
+    sym (length-take-le (start_of A (2 * r + 1) - start_of A (2 * r)) (drop (start_of A (2 * r)) A.bodies) (omega (arith, h.rises, h.within, length-drop (start_of A (2 * r)) A.bodies)))
+    ∙ ap length h.positive_is
 
 pub here : (A : Arrays) → Stored A → (r : ℕ) → r < A.rules → Here A (decoded A) r
 here A s r h =

@@ -2,6 +2,7 @@
 --   width_bounded    the counters of at most 126 atoms have from 1 to 7 bits
 --   sizes_bounded    sizes with that width are within the bounds of the variables' numbers
 --   counts_bounded   what the counts of a stored program are made of is within its bounds
+--   tallied_by       the totals by a tally, from the width, V and C
 --   table_made       with the counts the table has all but the links
 --   totals_made      the counts are the totals of its code
 -- Assumes nothing.
@@ -28,7 +29,7 @@ use Rattle.clause_tables.specs.declared.Totals.{Totals}
 use Rattle.clause_tables.specs.Tables.{Stored, totals_of, regions_of}
 use Rattle.clause_tables.proofs.Sizes.{atoms_held, count_few, empty_few}
 use Rattle.clause_tabling.specs.declared.Tally.{Tally}
-use Rattle.clause_tabling.specs.Formula.{clauses_for, counts_of}
+use Rattle.clause_tabling.specs.Formula.{clauses_for, tallied, counts_of}
 use Rattle.clause_tabling.specs.Stages.{tally_of, with_pairs, with_counts}
 use Rattle.clause_tabling.proofs.Regions.{sets_region}
 use Rattle.clause_tabling.proofs.Held.{rules_many, heads_held, bodies_held}
@@ -59,6 +60,10 @@ width_bounded n w h e = (omega (arith, e, width_some n), omega (arith, e, width_
 
 pub sizes_bounded : (n m w : ℕ) → n ≤ 126 → m ≤ 500 → w ≡ width n → Bounded (record { n = n; m = m; w = w })
 sizes_bounded n m w h k e = record { atoms = h; rules = k; bits = (width_bounded n w h e).1 }
+
+pub tallied_by : (n m o : ℕ) (t : Tally) (w v c : ℕ) → w ≡ width n → v ≡ var_count (record { n = n; m = m; w = w }) t.pairs → c ≡ clauses_for n m w o t.pairs t.empty
+    → ◌≡◌ {A = Totals} (record { sizes = record { n = n; m = m; w = w }; pairs = t.pairs; vars = v; clauses = c }) (tallied n m o t)
+tallied_by n m o t w v c ew ev ec = rw (ev, ec, ew)
 
 module _ (A : Arrays) (s : Stored A) where
   atoms_are : A.atoms ≡ (decoded A).atoms
@@ -117,10 +122,7 @@ module _ (A : Arrays) (s : Stored A) where
       omega (arith, empty_all, rules_many A, empty_few (decoded A)),
     )
 
-    pub totals_made : (w v c : ℕ) → w ≡ width A.atoms → v ≡ var_count (record { n = A.atoms; m = A.rules; w = w }) all.pairs
-        → c ≡ clauses_for A.atoms A.rules w A.held all.pairs all.empty
-        → ◌≡◌ {A = Totals} (record { sizes = record { n = A.atoms; m = A.rules; w = w }; pairs = all.pairs; vars = v; clauses = c })
-        (totals_of (code_of (decoded A)))
-    totals_made w v c ew ev ec =
-        rw (ev, ec) (by_numbers (decoded A) s.limits.all_atoms A.atoms A.rules w A.held all.pairs all.empty
-        atoms_are (sym (rules_many A)) (ew ∙ ap width atoms_are) held_is pairs_all empty_all)
+    pub totals_made : tallied A.atoms A.rules A.held all ≡ totals_of (code_of (decoded A))
+    totals_made =
+        by_numbers (decoded A) s.limits.all_atoms A.atoms A.rules (width A.atoms) A.held all.pairs all.empty
+        atoms_are (sym (rules_many A)) (ap width atoms_are) held_is pairs_all empty_all

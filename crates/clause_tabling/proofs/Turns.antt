@@ -147,7 +147,7 @@ module _ (A : Arrays) (s : Stored A) (r : ℕ) (table : List ℕ) (t : Tally) (f
       → Filled A (r + 1) table' (counted t (length body))
   filled_next h body table' k e ek et =
       record {
-        sums = summed_next A s r t f.sums h body e;
+        sums = summed_next A s r t f.sums h (length body) (body_size A s r h body e);
         table_is = et ∙ same ∙ pairs_next at.is_rule ∙ ap (λ (k : ℕ). laid A (numbers_to P k) (partners k) (owners k)) (sym (add-one r));
       }
     where
@@ -158,7 +158,7 @@ module _ (A : Arrays) (s : Stored A) (r : ℕ) (table : List ℕ) (t : Tally) (f
       bodies = e ∙ at.positive_is
 
       heads : replicate (length body) (get_or A.heads r 0) ≡ hs
-      heads = ap₂ (λ (k y : ℕ). replicate k y) (body_size A s r t f.sums h body e) at.head_is
+      heads = ap₂ (λ (k y : ℕ). replicate k y) (body_size A s r h body e) at.head_is
 
       same : sets (sets (set table (1016 + r) t.pairs) (1517 + k) body) (2017 + k) (replicate (length body) (get_or A.heads r 0))
           ≡ sets (sets (laid A (numbers_to P (suc r)) (partners r) (owners r)) (1517 + K) bs) (2017 + K) hs

@@ -1,5 +1,7 @@
 -- The arrays of a program, and what the table holds while it is made.
 --   arrays_of n m o hs ss bs         the arrays of a program, from its fields
+--   StoredStarts n m o ss            counts and list starts of the arrays of a program within the limits
+--   StartTotals n m o ss t           the totals of every program within the limits that has these counts and list starts are t
 --   counted t k                      the tally t with one more rule, which has k positive body atoms
 --   tally_of P                       that of all rules of P
 --   copied t A                       the table t with the elements in use of the arrays A written into it
@@ -8,7 +10,7 @@
 --   with_pairs A                     the arrays A and the pairs of the program that they hold: all but the counts and the links
 --   with_counts A                    the counts too: all but the links
 -- Assumes nothing.
-use Rattle.std.specs.Prelude.{ℕ, suc, ◌+◌, ◌*◌, List, [], ◌∷◌, ◌++◌, map, take, replicate}
+use Rattle.std.specs.Prelude.{ℕ, suc, ◌+◌, ◌*◌, ◌≡◌, List, [], ◌∷◌, ◌++◌, map, take, replicate}
 use Rattle.std.proofs.lemmas.List.Edits.{sets}
 use Rattle.lists.specs.Lists.{tab, joined}
 use Rattle.meaning.specs.Program.{Program}
@@ -16,12 +18,21 @@ use Rattle.encoding.specs.Clauses.{pair_count, empty_bodies}
 use Rattle.encoding.specs.Code.{code_of, m, pair_list, before}
 use Rattle.program.specs.declared.Program.{Program as Arrays}
 use Rattle.program.specs.Arrays.{pad, decoded}
-use Rattle.clause_tables.specs.Tables.{regions_of}
+use Rattle.clause_tables.specs.declared.Totals.{Totals}
+use Rattle.clause_tables.specs.Tables.{Stored, totals_of, regions_of}
 use Rattle.clause_tabling.specs.declared.Tally.{Tally}
 use Rattle.clause_tabling.specs.Formula.{when_none}
 
 abbrev pub arrays_of : ℕ → ℕ → ℕ → List ℕ → List ℕ → List ℕ → Arrays
 arrays_of n m o hs ss bs = record { atoms = n; rules = m; held = o; heads = hs; starts = ss; bodies = bs }
+
+pub record StoredStarts (n m o : ℕ) (ss : List ℕ) : Type 0 where
+  pub heads : List ℕ
+  pub bodies : List ℕ
+  pub stored : Stored (arrays_of n m o heads ss bodies)
+
+abbrev pub StartTotals : ℕ → ℕ → ℕ → List ℕ → Totals → Type 0
+StartTotals n m o ss t = (hs bs : List ℕ) → Stored (arrays_of n m o hs ss bs) → t ≡ totals_of (code_of (decoded (arrays_of n m o hs ss bs)))
 
 -- with one more rule, which has k positive body atoms
 abbrev pub counted : Tally → ℕ → Tally

@@ -7,8 +7,8 @@ ghost use Rattle.std.proofs.lemmas.List.Edits.{sets};
 ghost use Rattle.encoding.specs.Code.{code_of};
 ghost use Rattle.program.specs.Arrays.{list_in, decoded};
 ghost use Rattle.clause_tables.specs.Tables.{Stored, totals_of, table_of};
-ghost use Rattle.clause_tabling.specs.Formula.{clauses_for, counts_of};
-ghost use Rattle.clause_tabling.specs.Stages.{counted, tally_of, copied, with_arrays, with_pairs};
+ghost use Rattle.clause_tabling.specs.Formula.{clauses_for, tallied, counts_of};
+ghost use Rattle.clause_tabling.specs.Stages.{StoredStarts, StartTotals, counted, tally_of, copied, with_arrays, with_pairs};
 
 use clause_links::add_links;
 use clause_literals::{Sizes, width_of};
@@ -25,13 +25,13 @@ struct Tally {
 }
 
 impl Tally {
-    // Counts one more rule, which has these positive body atoms.
-    fn count(&mut self, positive: &[u16])
-        requires { (self.old.pairs + length positive.now ≤ 500) × (self.old.empty ≤ 500) }
-        ensures { self.new ≡ counted self.old (length positive.now) }
+    // Counts one more rule, which has `size` positive body atoms.
+    fn count(&mut self, size: usize)
+        requires { (self.old.pairs + size ≤ 500) × (self.old.empty ≤ 500) }
+        ensures { self.new ≡ counted self.old size }
     {
-        self.pairs += positive.len() as u16;
-        self.empty += u16::from(positive.is_empty());
+        self.pairs += size as u16;
+        self.empty += u16::from(size == 0);
     }
 }
 
@@ -83,18 +83,18 @@ fn clause_count(n: u16, m: u16, w: u16, o: u16, k: u16, e: u16) -> u16
     o + 5 * m - e + w * e + 2 * n + n * w * (w + 2) + k * (12 * w - 5)
 }
 
-// The sizes, K, V and C of a program, from the tally of all its rules.
-fn totals_from(p: &Program, all: Tally) -> Totals
-    requires { (Stored p.now) × (all ≡ tally_of (decoded p.now)) }
-    ensures is { result ≡ totals_of (code_of (decoded p.now)) }
+// The sizes, K, V and C, of n atoms, m rules and `held` body atoms, from the tally of all rules.
+fn totals_from(n: u16, m: u16, held: u16, all: Tally) -> Totals
+    requires { (n ≤ 126) × (m ≤ 500) × (held ≤ 500) × (all.pairs ≤ 500) × (all.empty ≤ m) }
+    ensures is { result ≡ tallied n m held all }
     ensures fits { (result.vars < 2 ^ 16) × (result.clauses < 2 ^ 16) }
 {
     let sizes = Sizes {
-        n: p.atoms,
-        m: p.rules,
-        w: width_of(p.atoms),
+        n,
+        m,
+        w: width_of(n),
     };
-    let c = clause_count(sizes.n, sizes.m, sizes.w, p.held, all.pairs, all.empty);
+    let c = clause_count(n, m, sizes.w, held, all.pairs, all.empty);
     Totals {
         sizes,
         pairs: all.pairs,
@@ -127,7 +127,7 @@ fn add_pairs(p: &Program, table: &mut [u16; CELLS]) -> Tally
         table[BEFORE_AT + r] = tally.pairs;
         let body = positive(p, r);
         store(body, p.heads[r], usize::from(tally.pairs), &mut *table);
-        tally.count(body);
+        tally.count(body.len());
     }
     table[BEFORE_AT + rules] = tally.pairs;
     tally
@@ -140,19 +140,27 @@ pub fn prepare(p: &Program, table: &mut [u16; CELLS])
 {
     copy_arrays(p, &mut *table);
     let all = add_pairs(p, &mut *table);
-    put_totals(totals_from(p, all), &mut *table);
+    put_totals(totals_from(p.atoms, p.rules, p.held, all), &mut *table);
     let heads = &p.heads[..usize::from(p.rules)];
     add_links(heads, &mut *table);
 }
 
-// The sizes, K, V and C of a program that was read, with no table.
-pub fn totals_of(p: &Program) -> Totals
+// The sizes, K, V and C of a program that was read, from its counts and list starts, with no table.
+pub fn totals_of(n: u16, m: u16, held: u16, starts: &[u16]) -> Totals
+    requires { StoredStarts n m held starts.now }
+    ensures { StartTotals n m held starts.now result }
+{
+    let mut all = Tally { pairs: 0, empty: 0 };
+    for r in 0..usize::from(m) {
+        all.count(usize::from(starts[2 * r + 1] - starts[2 * r]));
+    }
+    totals_from(n, m, held, all)
+}
+
+// The same from the program.
+pub fn program_totals(p: &Program) -> Totals
     requires { Stored p.now }
     ensures { result ≡ totals_of (code_of (decoded p.now)) }
 {
-    let mut all = Tally { pairs: 0, empty: 0 };
-    for r in 0..usize::from(p.rules) {
-        all.count(positive(p, r));
-    }
-    totals_from(p, all)
+    totals_of(p.atoms, p.rules, p.held, &p.starts)
 }

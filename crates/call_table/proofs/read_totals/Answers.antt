@@ -1,8 +1,8 @@
 use Rattle.call_table.proofs.Reading.{read_given, read_stored, totals_accepted}
 use Rattle.call_table.proofs.read_totals.Goals as goal
 
-pub totals_of-requires : goal.totals_of-requires
-totals_of-requires c = read_stored c.args.text.now c.read_program.ensures.program c.in_ok-read_program.ensures.verdict
+pub program_totals-requires : goal.program_totals-requires
+program_totals-requires c = read_stored c.args.text.now c.read_program.ensures.program c.in_ok-read_program.ensures.verdict
 
 pub returns : goal.returns
-returns c = totals_accepted (read_given c.args.text.now c.read_program.ensures.program c.in_ok-read_program.ensures.verdict) c.totals_of.ensures
+returns c = totals_accepted (read_given c.args.text.now c.read_program.ensures.program c.in_ok-read_program.ensures.verdict) c.program_totals.ensures
