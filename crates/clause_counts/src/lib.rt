@@ -68,11 +68,12 @@ pub fn group_size(table: Table<'_>, g: u16) -> usize
     requires { (0 < g) × (g ≤ 5) }
     ensures { result ≡ group_size (table_code table.entry) g }
 {
-    let s = table.totals().sizes;
+    let t = table.totals();
+    let s = t.sizes;
     match g {
         1 => bodies_size(table, s.m),
         2 => usize::from(s.m) + usize::from(s.n),
-        _ => usize::from(items(table, g)) * fixed_size(usize::from(s.w), g),
+        _ => usize::from(items(t, g)) * fixed_size(usize::from(s.w), g),
     }
 }
 

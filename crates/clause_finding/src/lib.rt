@@ -107,7 +107,11 @@ fn find_rule(table: Table<'_>, g: u16, left: usize) -> PartFound
     requires { (0 < g) × (g ≤ group_count) × (is_fixed g ≡ false) × (g ≡ 2 → ⊥) × (left < group_size (table_code table) g) }
     ensures { Falls (item_count (table_code table.entry) g) (item_size (table_code table.entry) g) left result }
 {
-    find_part(items(table, g), left, |a| block_size(table, g, a, 1))
+    find_part(
+        items(table.totals(), g),
+        left,
+        |a| block_size(table, g, a, 1),
+    )
 }
 
 // The item of group g with the clause after `left` others of the group. Items of one size are passed by a division.
@@ -149,15 +153,15 @@ fn coordinates_of(c: TableClause<'_>) -> Coordinates
     ensures { result ≡ coordinates (table_code c.entry.block.table) c.entry.block.group c.entry.block.item c.entry.block.number c.entry.number }
 {
     let b = c.block;
-    let s = b.table.totals().sizes;
+    let t = b.table.totals();
     Coordinates {
         group: b.group,
         item: b.item,
         block: b.number,
         clause: c.number,
         clauses: b.size() - c.number,
-        blocks: block_count(s, b.group) - b.number,
-        items: items(b.table, b.group) - b.item,
+        blocks: block_count(t.sizes, b.group) - b.number,
+        items: items(t, b.group) - b.item,
     }
 }
 

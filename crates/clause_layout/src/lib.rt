@@ -19,6 +19,7 @@ use clause_slots::{
     RuleVar, body_slot, body_slots, head_slot, implied_slot, next_slot, next_slots, rule_size,
     rule_slot, rule_slots, zero_slot,
 };
+use clause_tables::Totals;
 use numbers::{Atom, Pair, Rule};
 
 // How many groups of clauses there are.
@@ -26,10 +27,9 @@ use numbers::{Atom, Pair, Rule};
 pub const GROUPS: u16 = 7;
 
 // How many items group g has, and how many blocks each of them has.
-pub fn items(table: Table<'_>, g: u16) -> u16
-    ensures { result ≡ items_of (totals_in table.entry.cells.now) g }
+pub fn items(t: Totals, g: u16) -> u16
+    ensures { result ≡ items_of t g }
 {
-    let t = table.totals();
     let s = t.sizes;
     match g {
         1 | 6 => s.m,

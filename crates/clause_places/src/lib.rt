@@ -121,7 +121,7 @@ fn step(table: Table<'_>, c: Coordinates) -> Coordinates
         };
     }
     let g = c.group + 1;
-    group_start(g, items(table, g))
+    group_start(g, items(t, g))
 }
 
 // The coordinates of the first clause that follows c.
@@ -147,9 +147,10 @@ fn next_coordinates(table: Table<'_>, c: Coordinates) -> Coordinates
 pub fn start(table: Table<'_>) -> Place
     ensures { result ≡ place_at (table_code table.entry) 0 }
 {
+    let t = table.totals();
     Place {
         number: 0,
-        coordinates: group_start(1, items(table, 1)),
+        coordinates: group_start(1, items(t, 1)),
     }
 }
 

@@ -82,7 +82,7 @@ fn false_item(valued: ValuedTable<'_>, g: u16) -> Option<u16>
     requires { (0 < g) × (g ≤ group_count) }
     ensures { result ≡ nonzero (first_false_item (valued_code valued.entry) (valued_in valued.entry) g) }
 {
-    for a in 0..items(valued.table, g) {
+    for a in 0..items(valued.table.totals(), g) {
         if !item_holds(valued, g, a + 1) {
             return Some(a + 1);
         }

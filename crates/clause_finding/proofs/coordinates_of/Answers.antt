@@ -1,15 +1,12 @@
-use mathlib.Core.Path.{sym, ◌∙◌, ap}
-use Rattle.clause_layout.specs.Numbers.{items_of}
-use Rattle.clause_tables.specs.declared.Totals.{Totals}
 use Rattle.clause_finding.proofs.Coded.{blocks_left, items_left, coordinates_is}
 use Rattle.clause_table_laws.proofs.Cells.{told}
 use Rattle.clause_finding.proofs.coordinates_of.Goals as goal
 
 pub returns : goal.returns
-returns c = coordinates_is (told c.args.c.block.table.ready c.totals-s.ensures) c.args.c.stands c.size.ensures c.block_count.ensures (c.items.ensures ∙ sym (ap (λ (t : Totals). items_of t c.args.c.block.group) c.totals-s.ensures))
+returns c = coordinates_is (told c.args.c.block.table.ready c.totals-t.ensures) c.args.c.stands c.size.ensures c.block_count.ensures c.items.ensures
 
 pub overflow_sub-result-2 : goal.overflow_sub-result-2
-overflow_sub-result-2 c = blocks_left (told c.args.c.block.table.ready c.totals-s.ensures) c.args.c.stands c.block_count.ensures
+overflow_sub-result-2 c = blocks_left (told c.args.c.block.table.ready c.totals-t.ensures) c.args.c.stands c.block_count.ensures
 
 pub overflow_sub-result-3 : goal.overflow_sub-result-3
-overflow_sub-result-3 c = items_left (told c.args.c.block.table.ready c.totals-s.ensures) c.args.c.stands (c.items.ensures ∙ sym (ap (λ (t : Totals). items_of t c.args.c.block.group) c.totals-s.ensures))
+overflow_sub-result-3 c = items_left (told c.args.c.block.table.ready c.totals-t.ensures) c.args.c.stands c.items.ensures

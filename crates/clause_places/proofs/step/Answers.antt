@@ -1,7 +1,4 @@
 use Prim.Native.Nat.{◌+◌}
-use mathlib.Core.Path.{sym, ◌∙◌, ap}
-use Rattle.clause_layout.specs.Numbers.{items_of}
-use Rattle.clause_tables.specs.declared.Totals.{Totals}
 use Rattle.clause_places.proofs.Steps.{item_adds, item_onward, group_onward}
 use native.Mathlib.Omega.{arith}
 use Rattle.clause_table_laws.proofs.Cells.{told}
@@ -17,4 +14,4 @@ pub overflow_add-g : goal.overflow_add-g
 overflow_add-g c = omega (arith, c.requires.0.group_in)
 
 pub returns : goal.returns
-returns c = group_onward (told c.args.table.ready c.totals-t.ensures) c.requires.0 c.requires.1 c.requires.2 c.if-c-gt0.false c.if-c-gt0-2.false (c.items.ensures ∙ sym (ap (λ (t : Totals). items_of t (c.args.c.group + 1)) c.totals-t.ensures)) c.group_start.ensures
+returns c = group_onward (told c.args.table.ready c.totals-t.ensures) c.requires.0 c.requires.1 c.requires.2 c.if-c-gt0.false c.if-c-gt0-2.false c.items.ensures c.group_start.ensures
