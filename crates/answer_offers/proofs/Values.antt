@@ -1,4 +1,5 @@
 -- The values that an answer's literals xs give the variables 1 to n (document 01, "Check and filling out"; document 02, Q-3).
+--   any_outcome, any_bytes        the outcome and the first n bytes do not depend on the buffer; the bytes after them stay
 --   bytes_unique                  values are told apart by their bytes
 --   values_length, values_complete    where each literal is fit, `values_of n xs` is the completed assignment
 --   values_alone                  the first n bytes, completed, are these values
@@ -7,14 +8,14 @@
 use Prim.Native.Nat.{ℕ, zero, suc, ◌-◌, ◌≤◌, ◌<◌}
 use native.Mathlib.Nat.{le_of_eq}
 use native.Mathlib.Omega.{arith}
-use mathlib.Core.Path.{◌≡◌, refl, sym, ◌∙◌, ap, subst}
+use mathlib.Core.Path.{◌≡◌, refl, sym, ◌∙◌, ap, ap₂, subst}
 use mathlib.Core.Logic.{◌⊎◌, inl, inr}
 use mathlib.Core.Bool.{Bool, true, false, not, So, cond, false≢true}
-use mathlib.Core.List.{List, [], ◌∷◌, map}
-use lib.Dec.{eqb}
-use lib.ListN.{length, get_or, replicate, length-map, length-replicate, get_or-replicate}
-use lib.Seq.{ext_get_or}
-use borrow.Author.Tests.{eqb-true, eq-eqb, not-true}
+use mathlib.Core.List.{List, [], ◌∷◌, ◌++◌, map}
+use lib.Dec.{eqb, ltb}
+use lib.ListN.{length, get_or, set, drop, replicate, length-map, length-set, length-replicate, get_or-replicate, get_or-append}
+use lib.Seq.{ext_get_or, set-append_left}
+use borrow.Author.Tests.{eqb-true, eq-eqb, ltb-false, not-true}
 use Rattle.lists.specs.Lists.{any}
 use Rattle.lists.proofs.Bools.{false_of}
 use Rattle.lists.proofs.Tests.{any_at, any_in}
@@ -22,12 +23,64 @@ use Rattle.lists.proofs.Tables.{length_tab, get_or_tab, get_d_map}
 use Rattle.encoding.specs.Literal.{Literal, variable, Assignment, value_of, literal_true}
 use Literal.{var, −◌}
 use Rattle.answer_form.specs.Pieces.{Spotted}
-use Rattle.answer_bytes.specs.Bytes.{completed_byte, completed}
-use Rattle.answer_values.specs.Assign.{literal_value as byte_of, nobody, literal_at, variable_at, Named, Unnamed, assigned_of, assigned_bytes}
+use Rattle.answer_bytes.specs.Bytes.{Outcome, put_outcome, put_bytes, completed_byte, completed, overwritten}
+use Rattle.answer_values.specs.Assign.{literal_value as byte_of, nobody, literal_at, variable_at, Named, Unnamed, then_outcome, then_bytes, assigned_of, assigned_bytes}
 use Rattle.answer_values.proofs.Steps.{AllNamed, byte_kept, byte_given, rest_kept}
 use Rattle.answer_values.specs.Rows.{AllFit}
-use Rattle.answer_values.proofs.Rows.{filled_none, done_assigned, named_or_not}
+use Rattle.answer_values.proofs.Rows.{done_assigned, named_or_not}
 use Rattle.answer_offers.specs.Offered.{value_bytes, is_positive, values_of, LiteralsTrue, Completes}
+
+-- ---- the bytes after the first n
+
+module _ (n : ℕ) (d : List ℕ) where
+  put_front : (v s x : ℕ) (c : List ℕ) → 0 < v → length c ≡ n → (put_outcome n v s (c ++ d) ≡ put_outcome n v s c) × (put_bytes n v x (c ++ d) ≡ put_bytes n v x c ++ d)
+  unfolding put_outcome put_bytes
+  put_front v s x c p e = go (ltb n v) refl
+    where
+      go : (a : Bool) → ltb n v ≡ a
+          → (cond a (Outcome.stray s) (cond (eqb (get_or (c ++ d) (v - 1) 0) 2) Outcome.done (Outcome.repeated s))
+          ≡ cond a (Outcome.stray s) (cond (eqb (get_or c (v - 1) 0) 2) Outcome.done (Outcome.repeated s)))
+          × (cond a (c ++ d) (cond (eqb (get_or (c ++ d) (v - 1) 0) 2) (set (c ++ d) (v - 1) x) (c ++ d))
+          ≡ cond a c (cond (eqb (get_or c (v - 1) 0) 2) (set c (v - 1) x) c) ++ d)
+      go true f = (refl, refl)
+      go false f =
+          let inside : v - 1 < length c = omega (arith, p, e, ltb-false n v f) in
+          let at = get_or-append c d 0 (v - 1) inside in (
+            ap (λ (y : ℕ). cond (eqb y 2) Outcome.done (Outcome.repeated s)) at,
+            ap₂ (λ (y : ℕ) (u : List ℕ). cond (eqb y 2) u (c ++ d)) at (set-append_left c d (v - 1) x inside) ∙ same (eqb (get_or c (v - 1) 0) 2),
+          )
+        where
+          same : (a : Bool) → cond a (set c (v - 1) x ++ d) (c ++ d) ≡ cond a (set c (v - 1) x) c ++ d
+          same true = refl
+          same false = refl
+
+  put_length : (v x : ℕ) (c : List ℕ) → length (put_bytes n v x c) ≡ length c
+  unfolding put_bytes
+  put_length v x c = go (ltb n v) (eqb (get_or c (v - 1) 0) 2)
+    where
+      go : (a e : Bool) → length (cond a c (cond e (set c (v - 1) x) c)) ≡ length c
+      go true e = refl
+      go false true = length-set c (v - 1) x
+      go false false = refl
+
+  then_front : (o : Outcome) (later c : List ℕ) → then_bytes o (later ++ d) (c ++ d) ≡ then_bytes o later c ++ d
+  then_front Outcome.done later c = refl
+  then_front (Outcome.stray s) later c = refl
+  then_front (Outcome.repeated s) later c = refl
+
+  front : (xs : List Spotted) (c : List ℕ) → AllNamed xs → length c ≡ n
+      → (assigned_of n xs (c ++ d) ≡ assigned_of n xs c) × (assigned_bytes n xs (c ++ d) ≡ assigned_bytes n xs c ++ d)
+  front [] c named e = (refl, refl)
+  front (x ∷ xs) c named e =
+      let v = variable x.literal in
+      let w = byte_of x.literal in
+      let o = put_outcome n v x.first c in
+      let p = put_front v x.first w c (named 0 (omega arith)) e in
+      let r = front xs (put_bytes n v w c) (λ k q. named (suc k) (omega (arith, q))) (put_length v w c ∙ e) in (
+        ap₂ (λ (y : Outcome) (u : List ℕ). then_outcome y (assigned_of n xs u)) p.0 p.1 ∙ ap (then_outcome o) r.0,
+        ap₂ (λ (y : Outcome) (u : List ℕ). then_bytes y (assigned_bytes n xs u) (c ++ d)) p.0 p.1
+            ∙ ap (λ (u : List ℕ). then_bytes o u (c ++ d)) r.1 ∙ then_front o (assigned_bytes n xs (put_bytes n v w c)) c,
+      )
 
 -- ---- values and bytes
 
@@ -69,13 +122,21 @@ module _ (n : ℕ) (xs : List Spotted) (named : AllNamed xs) where
   abbrev alone : List ℕ
   alone = assigned_bytes n xs (replicate n 2)
 
+  pub any_outcome : (b : List ℕ) → assigned_of n xs (overwritten n 2 b) ≡ assigned_of n xs (replicate n 2)
+  unfolding overwritten
+  any_outcome b = (front n (drop n b) xs (replicate n 2) named (length-replicate n 2)).0
+
+  pub any_bytes : (b : List ℕ) → assigned_bytes n xs (overwritten n 2 b) ≡ assigned_bytes n xs (replicate n 2) ++ drop n b
+  unfolding overwritten
+  any_bytes b = (front n (drop n b) xs (replicate n 2) named (length-replicate n 2)).1
+
   module _ (fit : AllFit n xs) where
     alone_length : length alone ≡ n
     alone_length = (rest_kept n xs (replicate n 2) named).1 ∙ length-replicate n 2
 
     alone_byte : (k : ℕ) → k < length xs → get_or alone (variable_at xs k - 1) 0 ≡ byte_of (literal_at xs k)
     alone_byte =
-        byte_given n xs (replicate n 2) (le_of_eq (sym (length-replicate n 2))) named (ap (assigned_of n xs) (sym (filled_none n 2)) ∙ done_assigned n xs [] named fit) (λ j h. (fit j h).1)
+        byte_given n xs (replicate n 2) (le_of_eq (sym (length-replicate n 2))) named (sym (any_outcome []) ∙ done_assigned n xs [] named fit) (λ j h. (fit j h).1)
 
     -- the byte of a variable that no literal names
     alone_none : (v : ℕ) → 0 < v → v ≤ n → Unnamed xs v → get_or alone (v - 1) 0 ≡ 2
