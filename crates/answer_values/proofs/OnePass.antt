@@ -4,11 +4,11 @@
 --   pass_goes, pass_ends         one literal more; no more literals
 --   read_model, read_none        the outcome and the buffer by the status
 --   read_formed                  the same of an answer of the form, whose literals begin at e
---   read_counted, read_faulty    what is answered of an answer of the form, and of one that is refused
+--   read_told                    what is told of an answer, by its form and how its literals were assigned
 --   model_read, fault_read       what that says of the form
 -- Assumes nothing.
 use Prim.Native.Nat.{ℕ, ◌≤◌}
-use mathlib.Core.Path.{◌≡◌, refl, sym, ◌∙◌, ap}
+use mathlib.Core.Path.{◌≡◌, refl, sym, ◌∙◌, ap, ap₂}
 use mathlib.Core.Bool.{Bool, true, false, cond}
 use mathlib.Core.List.{List, []}
 use lib.IntN.{ℤ, nat_abs}
@@ -20,7 +20,7 @@ use Rattle.answer_reader.specs.Results.{Formed, malformed, found_for, form_for, 
 use Rattle.answer_reader.proofs.Given.{found_satisfiable}
 use Rattle.answer_bytes.specs.declared.AssignFault.{AssignFault}
 use Rattle.answer_bytes.specs.Bytes.{Outcome, put_outcome, put_bytes, number_value, Assigned, assigned_for}
-use Rattle.answer_values.specs.Assign.{literals_from, assigned_of, assigned_bytes, next_answer, next_bytes, outcome_by, read_outcome, bytes_by, read_bytes, ValuesRead, values_read, answer_read}
+use Rattle.answer_values.specs.Assign.{literals_from, assigned_of, assigned_bytes, next_answer, next_bytes, outcome_by, read_outcome, bytes_by, read_bytes, ValuesRead, assumed_by, values_read, answer_read}
 use Rattle.answer_values.proofs.Taking.{Took, assign_goes, assign_stops}
 
 -- ---- one literal
@@ -115,13 +115,16 @@ module _ (t : List ℕ) (e : ℕ) where
 
 -- ---- what is answered
 
--- f is the form, o how the literals were assigned; k variables have no value
-module _ {f : Formed} (o : Assigned) (k : ℕ) where
-  pub read_counted : {e : ℕ} → Ok e ≡ f → {p : Assigned} → p ≡ o → {v : ValuesRead} → v ≡ values_read p k → Ok v ≡ answer_read f (values_read o k)
-  read_counted q i r = ap Ok (r ∙ ap (λ (a : Assigned). values_read a k) i) ∙ ap (λ (g : Formed). answer_read g (values_read o k)) q
-
-  pub read_faulty : {y : AnswerFault} → Err y ≡ f → Err y ≡ answer_read f (values_read o k)
-  read_faulty q = ap (λ (g : Formed). answer_read g (values_read o k)) q
+-- the answer's r is the form, and v how the literals were assigned; k variables have no value
+module _ {r : Formed} {v : ValuesRead} (k : ℕ) where
+  pub read_told : {f g : Formed} → f ≡ g → {o p : Assigned} → o ≡ p
+      → r ≡ f → v ≡ values_read o (assumed_by r k) → answer_read r v ≡ answer_read f (values_read o k)
+      → (r ≡ g) × (v ≡ values_read p (assumed_by r k)) × (answer_read r v ≡ answer_read g (values_read p k))
+  read_told i j a b c = (
+    a ∙ i,
+    b ∙ ap (λ (o : Assigned). values_read o (assumed_by r k)) j,
+    c ∙ ap₂ (λ (f : Formed) (o : Assigned). answer_read f (values_read o k)) i j,
+  )
 
 pub fault_read : {f : Formed} (v : ValuesRead) {y : AnswerFault} → answer_read f v ≡ Err y → f ≡ Err y
 fault_read {f = Ok e} v q = cc

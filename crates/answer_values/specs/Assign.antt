@@ -12,10 +12,10 @@
 --   PassesNext a t n p b q c   after the code's answer a, literals of t from position p up to q are passed over and the buffer b becomes c
 --   read_outcome n t b    the outcome of the literals of the whole answer t, done if its status is not SATISFIABLE
 --   read_bytes n t b      the buffer at that moment
---   ValuesRead            how the literals of an answer of the form were assigned: how many variables none of them names, or the fault of the first that is
---                         not assigned
---   AnswerRead            the same of any answer, or why it offers no model
---   values_read o k       by the code's answer o, where k variables have no value
+--   ValuesRead            how the literals of an answer were assigned: how many variables none of them names, or the fault of the first that is not assigned
+--   assumed_by f k        how many variables are read as false, where k have no value: k if the form f is that of a model, and 0 if it is refused
+--   values_read o k       by the code's answer o, where k variables are read as false
+--   ModelRead             the same of an answer that offers a model, or why it offers none
 --   answer_read f v       by the form f, and v if it is that of a model
 -- Assumes nothing.
 use Rattle.std.specs.Prelude.{ℕ, zero, suc, ◌<◌, ◌≡◌, Bool, cond, List, [], ◌∷◌, eqb, length, get_or, Result, Ok, Err}
@@ -139,13 +139,17 @@ read_bytes n t b = bytes_by n t b (status_of t)
 abbrev pub ValuesRead : Type 0
 ValuesRead = Result ℕ AssignFault
 
-abbrev pub AnswerRead : Type 0
-AnswerRead = Result ValuesRead AnswerFault
+abbrev pub assumed_by : Formed → ℕ → ℕ
+assumed_by (Ok e) k = k
+assumed_by (Err f) k = 0
 
 abbrev pub values_read : Assigned → ℕ → ValuesRead
 values_read (Ok x) k = Ok k
 values_read (Err f) k = Err f
 
-abbrev pub answer_read : Formed → ValuesRead → AnswerRead
+abbrev pub ModelRead : Type 0
+ModelRead = Result ValuesRead AnswerFault
+
+abbrev pub answer_read : Formed → ValuesRead → ModelRead
 answer_read (Ok e) v = Ok v
 answer_read (Err f) v = Err f

@@ -6,24 +6,51 @@ ghost use Rattle.std.specs.Prelude.{◌^◌, ◌≤◌, ◌<◌, ◌≡◌, nat_
 ghost use Rattle.answer_reader.specs.Results.{model_from, form_of};
 ghost use Rattle.answer_bytes.specs.Bytes.{put_outcome, put_bytes, unset_count, number_value, assigned_for};
 ghost use Rattle.answer_values.specs.Assign.{literals_from, assigned_of, assigned_bytes, next_answer, next_bytes};
-ghost use Rattle.answer_values.specs.Assign.{read_outcome, read_bytes, values_read, answer_read, PassesNext};
+ghost use Rattle.answer_values.specs.Assign.{read_outcome, read_bytes, assumed_by, values_read, answer_read, PassesNext};
 
 use answer_bytes::{AssignFault, put_value, unset_count};
 use answer_quick::literals_from;
 use answer_reader::{AnswerFault, Token, close, closed_form, next_from, status};
 
-// How the literals of an answer of the form were assigned: how many variables none of them names, or the fault of the first that is not assigned.
+// How the literals of an answer were assigned: how many variables none of them names, 0 if the form is refused, or the fault of the first that is not assigned.
 pub type ValuesRead = Result<usize, AssignFault>;
 
-// The same of any answer, or why it offers no model: of a refused form it is not told how literals were assigned.
-pub type AnswerRead = Result<ValuesRead, AnswerFault>;
+// The form of an answer, the index where its status line ends or why it offers no model, and how its literals were assigned, whatever the form.
+#[derive(Clone, Copy, PartialEq, Eq)]
+pub struct AnswerRead {
+    pub form: Result<usize, AnswerFault>,
+    pub values: ValuesRead,
+}
 
-// How many variables have no value, if each literal was assigned, as `outcome` says.
-fn values_read(outcome: Result<(), AssignFault>, values: &[u8]) -> ValuesRead
-    ensures { result ≡ values_read outcome (unset_count (length values.now) values.now) }
+// How many variables have no value, if the form is that of a model and each literal was assigned, as `outcome` says.
+fn values_read(
+    form: Result<usize, AnswerFault>,
+    outcome: Result<(), AssignFault>,
+    values: &[u8],
+) -> ValuesRead
+    ensures { result ≡ values_read outcome (assumed_by form (unset_count (length values.now) values.now)) }
 {
     outcome?;
-    Ok(unset_count(values))
+    match form {
+        Ok(_) => Ok(unset_count(values)),
+        Err(_) => Ok(0),
+    }
+}
+
+// What is told of an answer of this form, whose literals were assigned as `outcome` says.
+fn answer_read(
+    form: Result<usize, AnswerFault>,
+    outcome: Result<(), AssignFault>,
+    values: &[u8],
+) -> AnswerRead
+    ensures { (result.form ≡ form)
+        × (result.values ≡ values_read outcome (assumed_by result.form (unset_count (length values.now) values.now)))
+        × (answer_read result.form result.values ≡ answer_read form (values_read outcome (unset_count (length values.now) values.now))) }
+{
+    AnswerRead {
+        form,
+        values: values_read(form, outcome, values),
+    }
 }
 
 // Assigns one literal if each literal before it was assigned, as `outcome` says; else the values stay.
@@ -63,7 +90,10 @@ fn pass_literals(
 // Reads the answer from position `from` on to its end: its form, and its literals, assigned up to literal 0 or the first that is stray or repeated.
 fn read_from(answer: &[u8], from: usize, values: &mut [u8]) -> AnswerRead
     requires { (from ≤ length answer.now) × (length values.old ≤ 9890) }
-    ensures { (result ≡ answer_read (model_from from from answer.now)
+    ensures { (result.form ≡ model_from from from answer.now)
+        × (result.values ≡ values_read (assigned_for (assigned_of (length values.old) (literals_from answer.now from) values.old))
+        (assumed_by result.form (unset_count (length values.old) values.new)))
+        × (answer_read result.form result.values ≡ answer_read (model_from from from answer.now)
         (values_read (assigned_for (assigned_of (length values.old) (literals_from answer.now from) values.old)) (unset_count (length values.old) values.new)))
         × (values.new ≡ assigned_bytes (length values.old) (literals_from answer.now from) values.old) }
 {
@@ -78,22 +108,27 @@ fn read_from(answer: &[u8], from: usize, values: &mut [u8]) -> AnswerRead
                 p = behind;
             }
             Ok(Token::Last(behind)) => {
-                closed_form(from, close(answer, behind))?;
-                return Ok(values_read(outcome, values));
+                let form = closed_form(from, close(answer, behind));
+                return answer_read(form, outcome, values);
             }
-            Err(spot) => return Err(AnswerFault::Malformed(spot)),
+            Err(spot) => return answer_read(Err(AnswerFault::Malformed(spot)), outcome, values),
         }
     }
 }
 
 // Reads the whole answer. If its status is SATISFIABLE, its literals are assigned on the way; else the values stay. The variables that no literal names keep
-// their 2.
+// their 2; of a model they are counted. How literals were assigned is said of a refused form too.
 pub fn read_form(answer: &[u8], values: &mut [u8]) -> AnswerRead
     requires { length values.old ≤ 9890 }
-    ensures { (result ≡ answer_read (form_of answer.now)
+    ensures { (result.form ≡ form_of answer.now)
+        × (result.values ≡ values_read (assigned_for (read_outcome (length values.old) answer.now values.old))
+        (assumed_by result.form (unset_count (length values.old) values.new)))
+        × (answer_read result.form result.values ≡ answer_read (form_of answer.now)
         (values_read (assigned_for (read_outcome (length values.old) answer.now values.old)) (unset_count (length values.old) values.new)))
         × (values.new ≡ read_bytes (length values.old) answer.now values.old) }
 {
-    let end = status(answer)?;
-    read_from(answer, end, values)
+    match status(answer) {
+        Ok(end) => read_from(answer, end, values),
+        Err(fault) => answer_read(Err(fault), Ok(()), values),
+    }
 }

@@ -43,9 +43,10 @@ pub fn check_in(
     }
     let mut array = [2u8; 9890];
     let values = &mut array[..t.vars];
-    let read = read_form(answer, values)?;
+    let read = read_form(answer, values);
+    read.form?;
     let valued = ValuedTable { table, values };
-    assigned(valued, read, assignment, levels)
+    assigned(valued, read.values, assignment, levels)
 }
 
 // Whether the answer shows a stable model of the program: how many atoms are true, the highest level, and how many variables were left out and read as

@@ -29,7 +29,7 @@ use Rattle.answer_bytes.specs.declared.AssignFault.{AssignFault}
 use Rattle.answer_bytes.specs.declared.AssignFault.TheVariants.{Stray, Repeated}
 use Rattle.answer_bytes.specs.Refusals.{refusal_of as literal_refusal}
 use Rattle.answer_bytes.specs.Bytes.{Outcome, unset_count, completed_byte, completed, overwritten, assigned_for}
-use Rattle.answer_values.specs.Assign.{literals_from, assigned_of, assigned_bytes, read_outcome, read_bytes, ValuesRead, AnswerRead, values_read, answer_read}
+use Rattle.answer_values.specs.Assign.{literals_from, assigned_of, assigned_bytes, read_outcome, read_bytes, ValuesRead, ModelRead, values_read, answer_read}
 use Rattle.answer_form.specs.Pieces.{Spotted}
 use Rattle.answer_values.proofs.Steps.{rest_kept}
 use Rattle.answer_values.proofs.Rows.{literals_named}
@@ -273,8 +273,8 @@ module _ {G : Code} {t : Totals} {hs ss bs ks xs ys : List ℕ} (T : Tabled G t 
           by_form : {f : Formed} → form_of answer ≡ f → x ≡ form_result G answer f
           by_form q = past_levels ∙ ap (λ d. cond d (check_refused (OverlongAnswer k)) (form_result G answer (form_of answer))) (le-ltb 65536 k short) ∙ ap (form_result G answer) q
 
-          -- y is what the code answers of the answer
-          module _ {y : AnswerRead} where
+          -- y is what the code answers of the answer, by its form
+          module _ {y : ModelRead} where
             pub form_refused : (v : ValuesRead) → y ≡ answer_read (form_of answer) v → {fault : AnswerFault} → y ≡ Err fault → CheckGives G x (Err (answer_refusal fault)) b b l l
             form_refused v e {fault = NoModel} q = gives_refused G (by_form (fault_read v (sym e ∙ q))) b l refl
             form_refused v e {fault = Malformed s} q = gives_refused G (by_form (fault_read v (sym e ∙ q))) b l refl

@@ -1,9 +1,8 @@
 use native.Mathlib.Omega.{arith}
 use lib.ListN.{length}
-use mathlib.Core.Path.{refl, sym, ◌∙◌}
-use Rattle.std.proofs.lemmas.Result.{err_from_is_err_and}
+use mathlib.Core.Path.{refl, ◌∙◌}
 use Rattle.answer_reader.proofs.Whole.{model_goes, model_ends, model_breaks}
-use Rattle.answer_values.proofs.OnePass.{pass_goes, pass_ends, read_counted, read_faulty}
+use Rattle.answer_values.proofs.OnePass.{pass_goes, pass_ends, read_told}
 use Rattle.answer_values.proofs.Passing.{next_keeps}
 use Rattle.answer_values.proofs.Taking.{ok_is, given_took, last_none, left_none, took_positive, took_small}
 use Rattle.answer_values.proofs.read_from.Goals as goal
@@ -34,23 +33,13 @@ loop-x-preserved c = let w = given_took c.args.answer.now _ _ c.next_from-n.ensu
 pub returns-in-Ok-Last : goal.returns-in-Ok-Last
 returns-in-Ok-Last c = let k = next_keeps c.args.answer.now (length c.args.values.now) c.loop-x.p c.loop-x.values c.loop-x.invariant.0 c.loop-x.outcome _ _ (rw c.loop-x.auto.values at c.pass_literals-p.ensures) in
     let g = pass_ends c.args.answer.now _ (length c.args.values.now) c.pass_literals-p.new.values (last_none c.args.answer.now _ _ c.next_from-n.ensures _ (ok_is c.in-Ok-Last.is (rw c.in-Ok-Last.is at c.in-Ok-Last.field-0-is))) c.loop-x.outcome in
-    let m = model_ends c.args.answer.now c.args.from _ _ c.next_from-n.ensures _ (ok_is c.in-Ok-Last.is (rw c.in-Ok-Last.is at c.in-Ok-Last.field-0-is)) _ c.close.ensures _ c.closed_form.ensures ∙ k.form c.args.from ∙ c.loop-x.invariant.1 in (
-      read_counted _ _ (sym c.in_ok-closed_form-in-Ok-Last.was ∙ m) (g.0 ∙ k.outcome ∙ c.loop-x.invariant.2) (rw (c.pass_literals-p.auto.values, c.loop-x.auto.values) at c.values_read.ensures),
-      g.1 ∙ k.bytes ∙ c.loop-x.invariant.3,
-    )
-
-pub returns-in_err-closed_form-in-Ok-Last : goal.returns-in_err-closed_form-in-Ok-Last
-returns-in_err-closed_form-in-Ok-Last c = let k = next_keeps c.args.answer.now (length c.args.values.now) c.loop-x.p c.loop-x.values c.loop-x.invariant.0 c.loop-x.outcome _ _ (rw c.loop-x.auto.values at c.pass_literals-p.ensures) in
-    let g = pass_ends c.args.answer.now _ (length c.args.values.now) c.pass_literals-p.new.values (last_none c.args.answer.now _ _ c.next_from-n.ensures _ (ok_is c.in-Ok-Last.is (rw c.in-Ok-Last.is at c.in-Ok-Last.field-0-is))) c.loop-x.outcome in
-    let m = model_ends c.args.answer.now c.args.from _ _ c.next_from-n.ensures _ (ok_is c.in-Ok-Last.is (rw c.in-Ok-Last.is at c.in-Ok-Last.field-0-is)) _ c.close.ensures _ c.closed_form.ensures ∙ k.form c.args.from ∙ c.loop-x.invariant.1 in
-    let p = err_from_is_err_and c.from_residual.result c.from_residual.ensures.1 in (
-      rw (p.1, p.2) (read_faulty _ _ (sym c.in_err-closed_form-in-Ok-Last.was ∙ m)),
-      g.1 ∙ k.bytes ∙ c.loop-x.invariant.3,
-    )
+    let m = model_ends c.args.answer.now c.args.from _ _ c.next_from-n.ensures _ (ok_is c.in-Ok-Last.is (rw c.in-Ok-Last.is at c.in-Ok-Last.field-0-is)) _ c.close.ensures _ c.closed_form-form.ensures ∙ k.form c.args.from ∙ c.loop-x.invariant.1 in
+    let w = read_told _ m (g.0 ∙ k.outcome ∙ c.loop-x.invariant.2) c.answer_read.ensures.0 (rw (c.pass_literals-p.auto.values, c.loop-x.auto.values) at c.answer_read.ensures.1) (rw (c.pass_literals-p.auto.values, c.loop-x.auto.values) at c.answer_read.ensures.2) in
+    (w.0, w.1, w.2, g.1 ∙ k.bytes ∙ c.loop-x.invariant.3)
 
 pub returns-in-Err : goal.returns-in-Err
 returns-in-Err c = let k = next_keeps c.args.answer.now (length c.args.values.now) c.loop-x.p c.loop-x.values c.loop-x.invariant.0 c.loop-x.outcome _ _ (rw c.loop-x.auto.values at c.pass_literals-p.ensures) in
-    let g = pass_ends c.args.answer.now _ (length c.args.values.now) c.pass_literals-p.new.values (left_none c.args.answer.now _ _ c.next_from-n.ensures _ c.in-Err.is) c.loop-x.outcome in (
-      read_faulty _ _ (model_breaks c.args.answer.now c.args.from _ _ c.next_from-n.ensures _ c.in-Err.is ∙ k.form c.args.from ∙ c.loop-x.invariant.1),
-      g.1 ∙ k.bytes ∙ c.loop-x.invariant.3,
-    )
+    let g = pass_ends c.args.answer.now _ (length c.args.values.now) c.pass_literals-p.new.values (left_none c.args.answer.now _ _ c.next_from-n.ensures _ c.in-Err.is) c.loop-x.outcome in
+    let m = model_breaks c.args.answer.now c.args.from _ _ c.next_from-n.ensures _ c.in-Err.is ∙ k.form c.args.from ∙ c.loop-x.invariant.1 in
+    let w = read_told _ m (g.0 ∙ k.outcome ∙ c.loop-x.invariant.2) c.answer_read-in-Err.ensures.0 (rw (c.pass_literals-p.auto.values, c.loop-x.auto.values) at c.answer_read-in-Err.ensures.1) c.answer_read-in-Err.ensures.2 in
+    (w.0, w.1, w.2, g.1 ∙ k.bytes ∙ c.loop-x.invariant.3)
