@@ -6,3 +6,5 @@ pub mod Digits
 pub mod Written
 -- Modes: two modes are one where their numbers are
 pub mod Modes
+-- Steps: the step from any number for a mode
+pub mod Steps

@@ -3,7 +3,7 @@
 // Kept as numbers: a place is an index into the bytes of the form, and the next place is the next index.
 #![tactic(auto)]
 
-ghost use Rattle.std.specs.Prelude.{◌≡◌, ◌<◌};
+ghost use Rattle.std.specs.Prelude.{◌≡◌, ◌<◌, min};
 ghost use Rattle.reader_form.specs.Automaton.{placed, form_at, digit_test, literal_of, leave_of, digit_of, item_of, act_at, form_step};
 ghost use Rattle.reader_form.specs.Numbers.{mode_number, act_number, numbered};
 
@@ -48,6 +48,21 @@ pub enum Mode {
     Dead,
 }
 
+// The mode of a number; what is above the last one's is taken for that.
+impl From<u8> for Mode {
+    ghost from_gives = { λ n mode. mode_number mode ≡ min n 4 };
+
+    fn from(n: u8) -> Mode {
+        match n {
+            0 => Mode::AtPlace,
+            1 => Mode::InZero,
+            2 => Mode::InNumber,
+            3 => Mode::AtSpace,
+            _ => Mode::Dead,
+        }
+    }
+}
+
 // What a byte does: nothing, begin a number, go on with it, end it, begin a rule line, end a positive list, or end a rule line.
 #[derive(Clone, Copy, PartialEq, Eq)]
 pub enum Action {
@@ -58,6 +73,23 @@ pub enum Action {
     BeginRule,
     EndList,
     EndRule,
+}
+
+// The action of a number, likewise.
+impl From<u8> for Action {
+    ghost from_gives = { λ n act. act_number act ≡ min n 6 };
+
+    fn from(n: u8) -> Action {
+        match n {
+            0 => Action::Nothing,
+            1 => Action::BeginNumber,
+            2 => Action::GrowNumber,
+            3 => Action::EndNumber,
+            4 => Action::BeginRule,
+            5 => Action::EndList,
+            _ => Action::EndRule,
+        }
+    }
 }
 
 // Place k of the form, how far it is read there, and what the last byte does.
