@@ -79,11 +79,14 @@ pub fn read_into(text: &[u8], program: &mut Program) -> Counts
     c
 }
 
+// Whether a text is a program, or why it is refused.
+pub type ReadVerdict = Result<(), TextRefusal>;
+
 // A text's verdict, and its program: the empty one where the text is refused.
 // Kept beside one another: document 01 asks for verdict enums without arrays.
 #[derive(Drop)]
 pub struct ReadResult {
-    pub verdict: Result<(), TextRefusal>,
+    pub verdict: ReadVerdict,
     pub program: Program,
 }
 
