@@ -1,5 +1,6 @@
 -- The slots of a clause that hold a literal, in a code whose tables are given.
---   full_first   the first slot does
+--   slots_some   there is a first slot
+--   full_first   it does
 --   full_past    the slot behind those that `past_empty` passes does
 -- Assumes nothing.
 use Prim.Native.Nat.{ℕ, zero, suc, pred, ◌+◌, ◌-◌, ◌≤◌, ◌<◌}
@@ -8,7 +9,7 @@ use mathlib.Core.Path.{◌≡◌, refl, sym, ◌∙◌, ap, subst}
 use mathlib.Core.Bool.{Bool, true, false, cond}
 use mathlib.Core.List.{List, [], ◌∷◌}
 use mathlib.Core.Logic.{◌⊎◌, inl, inr, ◌≢◌}
-use lib.Dec.{eqb}
+use lib.Dec.{eqb, ltb, leb}
 use lib.ListN.{length, get_or, take}
 use lib.Seq.{length-take-le}
 use borrow.Author.Tests.{eq-eqb, eqb-true, eqb-false, lt-ltb}
@@ -16,13 +17,17 @@ use Rattle.lists.proofs.Tests.{le_or_lt}
 use Rattle.encoding.specs.Code.{Code, code_sizes}
 use Rattle.encoding.specs.Literal.{Literal, var, −◌}
 use Rattle.encoding.specs.Variables.{body_var, founds_var}
-use Rattle.clause_walk.specs.Walk.{heads_of, head_at, slots, slot, of_head, group_of, At}
+use Rattle.clause_walk.specs.Walk.{rule_count, heads_of, head_at, inner_count, body_count, slots, slot, of_head, bit_of, chain_bit, group_of, At}
 use Rattle.clause_tables.specs.declared.Totals.{Totals}
 use Rattle.clause_tables.specs.Tables.{Tabled}
 use Rattle.clause_table_laws.proofs.Elements as elements
 use Rattle.clause_heads.specs.NextHead.{next_head, past_others, past_empty}
 use Rattle.clause_heads.proofs.NextHeads.{next_at_lem}
 use Rattle.clause_layout.proofs.Groups.{heads_in_lem, slots_supported, supported_slot, slot_implied}
+
+cond_some : (b : Bool) {x z : ℕ} → 0 < x → 0 < z → 0 < cond b x z
+cond_some true p q = p
+cond_some false p q = q
 
 full_one : {x : Literal} {ls : List Literal} → ls ≡ x ∷ [] → ls ≢ []
 full_one p e = omega (arith, ap (λ (ls : List Literal). length ls) p, ap (λ (ls : List Literal). length ls) e)
@@ -86,6 +91,28 @@ module _ {G : Code} {t : Totals} {hs ss bs ks xs ys : List ℕ} (T : Tabled G t 
         go true c u w = full_seven (eqb-true g 7 u) (f (eqb-true g 7 u))
         go false true u w = full_two (eqb-true g 2 w) (h (eqb-true g 2 w))
         go false false u w = full_other (eqb-false g 7 u) (eqb-false g 2 w)
+
+  pub slots_some : 0 < slots G g a i y
+  unfolding slots group_of
+  slots_some = go g refl A.block_at.group_some A.block_at.group_in
+    where
+      of_group : (k : ℕ) → g ≡ k → 0 < slots G k a i y → 0 < slots G g a i y
+      of_group k e = subst (λ (k : ℕ). 0 < slots G k a i y) (sym e)
+
+      go : (k : ℕ) → g ≡ k → 0 < k → k ≤ 7 → 0 < slots G g a i y
+      go zero e p n = absurd (omega (arith, p))
+      go (suc zero) e p n = of_group 1 e (cond_some (leb y (body_count G a)) (omega arith) (omega arith))
+      go (suc (suc zero)) e p n = of_group 2 e (cond_some (leb i (rule_count G)) (omega arith) (omega arith))
+      go (suc (suc (suc zero))) e p n = of_group 3 e (omega arith)
+      go (suc (suc (suc (suc zero)))) e p n = of_group 4 e (cond_some (ltb (bit_of y) i) (omega arith) (omega arith))
+      go (suc (suc (suc (suc (suc zero))))) e p n =
+          of_group 5 e (cond_some (eqb (chain_bit G.w i) 1) (cond_some (eqb y 3) (omega arith) (omega arith)) (omega arith))
+      go (suc (suc (suc (suc (suc (suc zero)))))) e p n =
+          let b = inner_count G a in
+          of_group 6 e
+          (cond_some (leb y (suc b)) (omega arith) (cond_some (eqb y (suc (suc b))) (omega arith) (cond_some (eqb b 0) (omega arith) (omega arith))))
+      go (suc (suc (suc (suc (suc (suc (suc zero))))))) e p n = of_group 7 e (omega arith)
+      go (suc (suc (suc (suc (suc (suc (suc (suc k)))))))) e p n = absurd (omega (arith, n))
 
   pub full_first : slot G g a i y 1 ≢ []
   full_first = full 1 (λ e. inl refl) (λ e n. inl refl)

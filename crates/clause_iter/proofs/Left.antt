@@ -1,5 +1,6 @@
 -- The literals that are left once some slots of a clause are done.
 --   left_none    none is left once all slots are done
+--   left_past    passing empty slots leaves the same
 --   left_next    the literal of the next slot is the first that is left, and the others are left behind the empty slots that follow it
 --   goes_on      an iterator that gives the first of what is left has fewer left
 -- Assumes nothing.
@@ -13,7 +14,7 @@ use mathlib.Core.Logic.{◌≢◌}
 use lib.IntN.{ℤ}
 use lib.ListN.{length, drop, length-append, drop_of_length-le}
 use lib.Seq.{drop-append_seam}
-use Rattle.std.specs.Prelude.{Option, None, Some}
+use Rattle.std.specs.Prelude.{Option, None, Some, MatchOption}
 use Rattle.std.specs.Iterator.{YieldsFirst, item_count, MakesProgress}
 use Rattle.lists.specs.Lists.{each}
 use Rattle.encoding.specs.Literal.{Literal, literal_number}
@@ -67,11 +68,18 @@ module _ (f : ℕ → List Literal) (k : ℕ) where
   pub left_none : {n l : ℕ} → n ≡ k → n ≤ l → numbers l ≡ []
   left_none {n} {l} e h = ap (λ (ls : List Literal). map literal_number ls) (none_left f k l (subst (λ (j : ℕ). j ≤ l) e h))
 
+  pub left_past : (l r : ℕ) → each r f ≡ each l f → numbers r ≡ numbers l
+  left_past l r p = ap (λ (ls : List Literal). map literal_number (drop (length ls) (each k f))) p
+
   pub left_next : (l r : ℕ) (x : Option ℤ) → l < k → Slotted (f (l + 1)) → f (l + 1) ≢ [] → x ≡ slot_number (f (l + 1)) → each r f ≡ each (l + 1) f
       → YieldsFirst numbers l x r
   left_next l r x h (empty q) n e p = absurd (n q)
   left_next l r x h (holds z q u v) n e p =
       subst (λ (x : Option ℤ). YieldsFirst numbers l x r) (sym (e ∙ ap slot_number q)) (ap (λ (ls : List Literal). map literal_number ls) (one_left f k l r h z q p))
+
+  -- from slot r on, as from slot l on where the slots between are empty
+  pub left_behind : (l r t : ℕ) (x : Option ℤ) → each r f ≡ each l f → YieldsFirst numbers r x t → YieldsFirst numbers l x t
+  left_behind l r t x p = subst (λ (zs : List ℤ). MatchOption x ((zs ≡ []) × (numbers t ≡ [])) (λ z. zs ≡ z ∷ numbers t)) (left_past l r p)
 
 pub goes_on : {S A : Type 0} (rest : S → List A) {s t : S} (r : Option A) → YieldsFirst rest s r t → MakesProgress (λ _. Unit {0}) (item_count rest) s r t
 goes_on rest None h = record { on = λ f. tt; keeps = tt; rests = λ f. tt }

@@ -1,16 +1,18 @@
 // The literals of a clause, one after the other (document 01, "Clauses, in order").
 #![tactic(auto)]
 
-ghost use Rattle.std.specs.Prelude.{◌+◌, ◌<◌, ◌≡◌, ◌≢◌, [], map};
+ghost use Rattle.std.specs.Prelude.{◌+◌, ◌<◌, ◌≡◌, map};
 ghost use Rattle.std.proofs.Props.{props};
 ghost use Rattle.encoding.specs.Literal.{literal_number};
 ghost use Rattle.clause_tables.specs.Tables.{totals_in};
-ghost use Rattle.clause_layout.specs.Clauses.{slots_in, slot_in, literals_of};
+ghost use Rattle.clause_layout.specs.Clauses.{slots_in, literals_of};
+ghost use Rattle.clause_iter.specs.Held.{Held};
 
 use clause_heads::past_empty;
 use clause_layout::TableClause;
 
-// The literals of a clause that are left once some of its slots are done. The program has `rules` rules, and the clause `slots` slots.
+// The literals of a clause that are left. Slot `done` holds the last one that was given; before the first it is 0. The program has `rules` rules, and the
+// clause `slots` slots.
 #[derive(Drop)]
 pub struct Literals<'a> {
     clause: TableClause<'a>,
@@ -19,11 +21,11 @@ pub struct Literals<'a> {
     done: u16,
     ghost rules_are: { rules ≡ (totals_in clause.block.table.cells.now).sizes.m } by { Prim.hlevel props },
     ghost slots_are: { slots ≡ slots_in clause } by { Prim.hlevel props },
-    ghost next_full: { done < slots → slot_in clause (done + 1) ≢ [] } by { Prim.hlevel props },
+    ghost done_held: { 0 < done → Held clause done } by { Prim.hlevel props },
 }
 
 impl<'a> Literals<'a> {
-    ghost use Rattle.clause_iter.specs.Left.{numbers_left};
+    ghost use Rattle.clause_iter.specs.Left.{numbers_left, passed_slots};
 
     // All literals of a clause.
     pub fn of(clause: TableClause<'a>) -> Self
@@ -37,6 +39,17 @@ impl<'a> Literals<'a> {
             done: 0,
         }
     }
+
+    // The slot of the next literal, or the one behind the last slot. The first slot of a clause is never empty.
+    fn next_slot(&self) -> u16
+        ensures { result ≡ passed_slots self.now + 1 }
+    {
+        if self.done == 0 {
+            return 1;
+        }
+        let b = self.clause.block;
+        past_empty(b.table, self.rules, b.group, b.item, b.number, self.done) + 1
+    }
 }
 
 impl Iterator for Literals<'_> {
@@ -49,15 +62,13 @@ impl Iterator for Literals<'_> {
 
     ghost remaining = { item_count numbers_left };
 
-    // The next literal. The empty slots behind it are done with it.
+    // The next literal. The empty slots before it are passed only now, so that a caller that stops never asks for them.
     fn next(&mut self) -> Option<i32> {
-        if self.slots <= self.done {
+        let l = self.next_slot();
+        if self.slots < l {
             return None;
         }
-        let l = self.done + 1;
-        let x = self.clause.slot(l);
-        let b = self.clause.block;
-        self.done = past_empty(b.table, self.rules, b.group, b.item, b.number, l);
-        x
+        self.done = l;
+        self.clause.slot(l)
     }
 }
