@@ -1,6 +1,6 @@
 -- The verdict of a state, from what the reader keeps.
 --   not_overlong              the reading of a text is refused with no number 1
---   verdict_is                the verdict, from the refusal kept
+--   accepted, told, verdict_is  the verdict, from the refusal kept
 --   program_left              the program that the counts and arrays make
 --   read_accepted, read_refused  the reader's answer, from its verdict and the program that is left
 --   verdict_read, program_read, verdict_long, program_long  verdict and program of a text, by its length
@@ -89,10 +89,10 @@ module _ (o : Option TextRefusal) {c : Tally} {h st b : List ℕ} {s : State} (e
   number_is : refusal_number o ≡ s.counts.number
   number_is = p ∙ ap (λ (c : Tally). c.number) e.ends_counts
 
-  accepted : o ≡ None → ◌≡◌ {A = ReadVerdict} (Ok tt) (verdict_of s)
+  pub accepted : o ≡ None → ◌≡◌ {A = ReadVerdict} (Ok tt) (verdict_of s)
   accepted n = rw (sym number_is ∙ ap refusal_number n)
 
-  told : (r : TextRefusal) → o ≡ Some r → refusal_spot o ≡ c.spot → (s.counts.number ≡ 1 → ⊥) → ◌≡◌ {A = ReadVerdict} (Err r) (verdict_of s)
+  pub told : (r : TextRefusal) → o ≡ Some r → refusal_spot o ≡ c.spot → (s.counts.number ≡ 1 → ⊥) → ◌≡◌ {A = ReadVerdict} (Err r) (verdict_of s)
   told r n q h =
       let a : s.counts.number ≡ text_number r = sym number_is ∙ ap refusal_number n in
       let g : s.counts.spot ≡ text_spot r = sym (q ∙ ap (λ (c : Tally). c.spot) e.ends_counts) ∙ ap refusal_spot n in
